@@ -1,0 +1,4 @@
+pub mod PathLaws
+pub mod Order
+pub mod Least
+pub mod Phases

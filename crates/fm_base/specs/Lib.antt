@@ -1,0 +1,6 @@
+pub mod Texts
+pub mod PathOrder
+pub mod Rules
+pub mod Values
+pub mod Output
+pub mod Verdict
