@@ -4,3 +4,5 @@ pub mod Rules
 pub mod Values
 pub mod Output
 pub mod Verdict
+pub mod Tokens
+pub mod Channels

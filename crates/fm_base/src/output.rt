@@ -7,6 +7,9 @@ use crate::memory::NoMemory;
 use crate::seq::Seq;
 use std::alloc::Global;
 
+/// What stands before each item.
+const BLANK: u8 = b' ';
+
 /// An item of a printed line.
 #[derive(Debug, PartialEq, Eq, Drop)]
 pub enum Printed {
@@ -33,7 +36,7 @@ fn push_item(alloc: Global, out: &mut Vec<u8>, item: &Printed) -> Result<(), NoM
 fn push_spaced(alloc: Global, out: &mut Vec<u8>, item: &Printed) -> Result<(), NoMemory>
     ensures { OnOk result (out.new.items ≡ out.old.items ++ spaced_text item.now) }
 {
-    out.push(b' ')?;
+    out.push(BLANK)?;
     push_item(alloc, out, item)
 }
 
@@ -44,7 +47,7 @@ pub fn output_line(alloc: Global, items: &[Printed]) -> Result<Vec<u8>, NoMemory
 {
     let mut out = Vec::new(alloc);
     if items.is_empty() {
-        out.push(b' ')?;
+        out.push(BLANK)?;
         return Ok(out);
     }
     for item in items {

@@ -122,10 +122,10 @@ pub fn order_of_paths(a: &Path, b: &Path) -> Ordering
 }
 
 /// How two channels stand in their order, by maker and then by number, which is that of `ChanName`.
-pub fn order_of_channels(a: &ChanName, b: &ChanName) -> Ordering
-    ensures { result ≡ channel_cmp a.now b.now }
+pub fn order_of_channels(left: &ChanName, right: &ChanName) -> Ordering
+    ensures { result ≡ channel_cmp left.now right.now }
 {
-    a.cmp(b)
+    left.cmp(right)
 }
 
 /// Path order and the order of channels are total, and what compares equal is one.
