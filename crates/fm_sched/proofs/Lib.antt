@@ -1,0 +1,5 @@
+pub mod Runs
+pub mod Along
+pub mod Fronts
+pub mod Moves
+pub mod Simulations
