@@ -1,0 +1,6 @@
+pub mod Keys
+pub mod Inserts
+pub mod Adjusts
+pub mod Alters
+pub mod Sums
+pub mod Entries
