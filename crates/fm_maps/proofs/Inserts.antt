@@ -1,11 +1,11 @@
 -- What a map answers after an insertion or a removal, and in which order they may be made.
-use Rattle.std.proofs.Common.{◌≡◌, ◌≢◌, Option, Some, None, Bool, true, false, cond, refl, sym, ap, ◌∙◌}
+use Rattle.std.proofs.Common.{◌≡◌, ◌≢◌, ◌⊎◌, inl, inr, Option, Some, None, Bool, true, false, cond, refl, sym, ap, ◌∙◌}
 use Rattle.std.specs.FinMap.{FinMap, get, insert, remove, get-insert, get-remove}
 use Rattle.std.specs.Ordering.{eq_by_cmp}
 use Rattle.std.specs.declared.cmp.Ordering.{Ordering}
 use Rattle.fm_maps.specs.Keys.{IsKeyOrder}
 use Rattle.fm_maps.specs.Changes.{put}
-use Rattle.fm_maps.proofs.Keys.{tie, tie_self, tie_not, same, crossed, once_more}
+use Rattle.fm_maps.proofs.Keys.{decide, tie, tie_self, tie_not, same, crossed, once_more}
 
 module _ {K X : Type 0} {R : K → K → Ordering} (o : IsKeyOrder R) where
   pub get-put : (m : FinMap R X) (k : K) (v : Option X) (q : K) → get (put m k v) q ≡ cond (eq_by_cmp R q k) v (get m q)
@@ -52,6 +52,13 @@ module _ {K X : Type 0} {R : K → K → Ordering} (o : IsKeyOrder R) where
 
   pub remove_there : (m : FinMap R X) (k q : K) → (q ≢ k) → get (remove m k) q ≡ get m q
   remove_there m k q n = put_there m k None q n
+
+  -- what is found after an insertion was inserted there or was there at another key
+  pub insert_cases : (m : FinMap R X) (k : K) (v : X) (q : K) (x : X) → get (insert m k v) q ≡ Some x → ((q ≡ k) × (v ≡ x)) ⊎ ((q ≢ k) × (get m q ≡ Some x))
+  insert_cases m k v q x is = elim (decide o q k) [
+    | yes e ↦ inl (e, cc (sym (ap (get (insert m k v)) e ∙ insert_here m k v) ∙ is))
+    | no n ↦ inr (n, sym (insert_there m k v q n) ∙ is)
+  ]
 
   pub insert_again : (m : FinMap R X) (k : K) (v w : X) → insert (insert m k v) k w ≡ insert m k w
   insert_again m k v w = put_again m k (Some v) (Some w)

@@ -2,5 +2,6 @@ pub mod Keys
 pub mod Inserts
 pub mod Adjusts
 pub mod Alters
-pub mod Sums
 pub mod Entries
+pub mod Sums
+pub mod Facts

@@ -1,13 +1,13 @@
 -- What stays along a legal list.
-use Rattle.std.proofs.Common.{◌≡◌, ℕ, Option, List, [], ◌∷◌, ◌++◌, refl, sym, ap, ◌∙◌, subst}
-use Rattle.fm_sched.specs.Schedule.{Can, next, cost, play, IsLegal, NotIn, Stays, Meets, Diamond, IsReached, Throughout}
+use Rattle.std.proofs.Common.{◌≡◌, List, [], ◌∷◌, ◌++◌, refl, sym, ap, ◌∙◌, subst}
+use Rattle.fm_sched.specs.Schedule.{Step, Can, next, cost, play, IsLegal, NotIn, Stays, Meets, Diamond, IsReached, Throughout}
 use Rattle.fm_sched.proofs.Runs.{play-push, IsLegal-push}
 
 pub NotIn-append : {A : Type 0} (p : A) (cs ds : List A) → NotIn p cs → NotIn p ds → NotIn p (cs ++ ds)
 NotIn-append p [] ds off more = more
 NotIn-append p (c ∷ cs) ds off more = (off.0, NotIn-append p cs ds off.1 more)
 
-module _ {S A : Type 0} (step : S → A → Option (S × ℕ)) where
+module _ {S A : Type 0} (step : Step S A) where
   pub diamond_of : (s : S) → Stays step s → Meets step s → Diamond step s
   diamond_of s stays meets = record { stays = stays; meets = meets }
 
@@ -53,3 +53,8 @@ module _ {S A : Type 0} (step : S → A → Option (S × ℕ)) where
   pub can_throughout : (start : S) (cs : List A) (p : A) → Throughout step (Stays step) start → IsLegal step start cs → NotIn p cs → Can step start p → Can step (play step start cs) p
   can_throughout start cs p stay legal off can =
       can_after (IsReached step start) (reached_next start) (λ s. at_reached (Stays step) start s stay) cs start p (reached_first start) legal off can
+
+  -- and where the steps commute, at the same cost
+  pub cost_throughout : (start : S) (cs : List A) (p : A) → Throughout step (Diamond step) start → IsLegal step start cs → NotIn p cs → Can step start p → cost step (play step start cs) p ≡ cost step start p
+  cost_throughout start cs p diamond legal off can =
+      (stays_after (IsReached step start) (reached_next start) (λ s. at_reached (Diamond step) start s diamond) cs start p (reached_first start) legal off can).1

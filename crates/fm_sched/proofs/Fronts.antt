@@ -1,10 +1,10 @@
 -- A choice that can be made may be made first, and so each legal list goes on to the end of any other.
-use Rattle.std.proofs.Common.{◌≡◌, ◌≢◌, ℕ, suc, ◌+◌, ◌<◌, Option, None, List, [], ◌∷◌, ◌++◌, length, refl, sym, ap, ◌∙◌, subst, arith, append-nil, length-append}
-use Rattle.fm_sched.specs.Schedule.{Can, next, cost, play, IsLegal, used, IsEnding, Diamond, IsReached, Throughout, Settles}
+use Rattle.std.proofs.Common.{◌≡◌, ◌≢◌, ℕ, suc, ◌+◌, ◌<◌, None, List, [], ◌∷◌, ◌++◌, length, refl, sym, ap, ◌∙◌, subst, arith, append-nil, length-append}
+use Rattle.fm_sched.specs.Schedule.{Step, Can, next, cost, play, IsLegal, used, IsEnding, Diamond, IsReached, Throughout, Settles}
 use Rattle.fm_sched.proofs.Runs.{no_step, none_after, used-append-le}
 use Rattle.fm_sched.proofs.Along.{reached_first, reached_next, at_reached}
 
-module _ {S A : Type 0} (step : S → A → Option (S × ℕ)) where
+module _ {S A : Type 0} (step : Step S A) where
   -- from s, p and then `rest` do what cs does
   record Front (p : A) (s : S) (cs : List A) : Type 0 where
     rest : List A

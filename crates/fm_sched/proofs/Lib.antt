@@ -3,3 +3,4 @@ pub mod Along
 pub mod Fronts
 pub mod Moves
 pub mod Simulations
+pub mod Counters

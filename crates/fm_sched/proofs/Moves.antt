@@ -1,7 +1,7 @@
 -- The diamond from moves. A move is a step taken apart: what a machine finds on the way to it. Where each
 -- step is a move and each move a step, the diamond is shown on moves, with no Option in sight.
-use Rattle.std.proofs.Common.{◌≡◌, ◌≢◌, ℕ, Option, Some, sym, ap, ◌∙◌, subst}
-use Rattle.fm_sched.specs.Schedule.{Can, next, cost, Stays, Diamond}
+use Rattle.std.proofs.Common.{◌≡◌, ◌≢◌, ℕ, Some, sym, ap, ◌∙◌, subst}
+use Rattle.fm_sched.specs.Schedule.{Step, Can, next, cost, Stays, Diamond}
 use Rattle.fm_sched.proofs.Runs.{next-Some, cost-Some}
 
 -- after each of two moves the other is there, and they end in one state at their own costs
@@ -12,7 +12,7 @@ pub record MovesMeet {S A : Type 0} (Move : S → A → Type 0) (end : (s : S) (
   pub first_cost : (end (end s q n).0 p first).1 ≡ (end s p m).1
   pub second_cost : (end (end s p m).0 q second).1 ≡ (end s q n).1
 
-module _ {S A : Type 0} (step : S → A → Option (S × ℕ)) (Move : S → A → Type 0) (end : (s : S) (p : A) → Move s p → S × ℕ)
+module _ {S A : Type 0} (step : Step S A) (Move : S → A → Type 0) (end : (s : S) (p : A) → Move s p → S × ℕ)
     (took : (s : S) (p : A) (r : S × ℕ) → step s p ≡ Some r → Move s p)
     (takes : (s : S) (p : A) (m : Move s p) → step s p ≡ Some (end s p m)) where
   pub next_is : (s : S) (p : A) (m : Move s p) → next step s p ≡ (end s p m).0

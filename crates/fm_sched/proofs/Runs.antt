@@ -1,9 +1,9 @@
 -- Lists of choices in parts: one choice, one list after another, one choice more, one actor many times.
-use Rattle.std.proofs.Common.{◌≡◌, ℕ, ◌+◌, ◌≤◌, Option, Some, None, List, [], ◌∷◌, ◌++◌, length, replicate, refl, sym, ap, ◌∙◌, subst, arith}
+use Rattle.std.proofs.Common.{◌≡◌, ℕ, ◌+◌, ◌≤◌, Option, Some, None, List, [], ◌∷◌, ◌++◌, length, replicate, refl, sym, ap, ap₂, ◌∙◌, subst, arith}
 use Rattle.std.proofs.lemmas.Grind.{replicate_next}
-use Rattle.fm_sched.specs.Schedule.{state_after, price, Can, next, cost, play, IsLegal, used, IsFinal, IsEnding}
+use Rattle.fm_sched.specs.Schedule.{Step, state_after, price, Can, next, cost, play, IsLegal, used, IsFinal, IsEnding, Leads}
 
-module _ {S A : Type 0} (step : S → A → Option (S × ℕ)) where
+module _ {S A : Type 0} (step : Step S A) where
   -- ---- one choice
 
   pub next-Some : (s : S) (p : A) (r : S × ℕ) → step s p ≡ Some r → next step s p ≡ r.0
@@ -111,3 +111,35 @@ module _ {S A : Type 0} (step : S → A → Option (S × ℕ)) where
   pub append-replicate : (cs : List A) (n : ℕ) (p : A) → cs ++ replicate (n + 1) p ≡ (cs ++ replicate n p) ++ p ∷ []
   append-replicate [] n p = replicate_next n p
   append-replicate (c ∷ cs) n p = ap (λ ds. c ∷ ds) (append-replicate cs n p)
+
+  -- ---- where choices lead
+
+  pub leads_nowhere : (s : S) → Leads step s [] s 0
+  leads_nowhere s = record { legal = tt; there = refl; price_is = refl }
+
+  -- a step before them
+  pub leads_first : (s : S) (p : A) (r : S × ℕ) (cs : List A) (t : S) (paid : ℕ) → step s p ≡ Some r → Leads step r.0 cs t paid → Leads step s (p ∷ cs) t (r.1 + paid)
+  leads_first s p r cs t paid is l =
+      let to : next step s p ≡ r.0 = next-Some s p r is in
+      record {
+        legal = ((r, is), subst (λ x. IsLegal step x cs) (sym to) l.legal);
+        there = ap (λ x. play step x cs) to ∙ l.there;
+        price_is = ap₂ (λ n x. n + used step x cs) (cost-Some s p r is) to ∙ ap (λ n. r.1 + n) l.price_is;
+      }
+
+  -- choices behind them
+  pub leads_on : (s t u : S) (cs ds : List A) (paid more : ℕ) → Leads step s cs t paid → Leads step t ds u more → Leads step s (cs ++ ds) u (paid + more)
+  leads_on s t u cs ds paid more l m = record {
+    legal = IsLegal-append s cs ds l.legal (subst (λ x. IsLegal step x ds) (sym l.there) m.legal);
+    there = play-append s cs ds ∙ ap (λ x. play step x ds) l.there ∙ m.there;
+    price_is = used-append s cs ds ∙ ap₂ (λ n x. n + used step x ds) l.price_is l.there ∙ ap (λ n. paid + n) m.price_is;
+  }
+
+  -- a step behind them
+  pub leads_further : (s t : S) (cs : List A) (paid : ℕ) (p : A) (r : S × ℕ) → Leads step s cs t paid → step t p ≡ Some r → Leads step s (cs ++ p ∷ []) r.0 (paid + r.1)
+  leads_further s t cs paid p r l is =
+      subst (Leads step s (cs ++ p ∷ []) r.0) (omega arith) (leads_on s t r.0 cs (p ∷ []) paid (r.1 + 0) l (leads_first t p r [] r.0 0 is (leads_nowhere r.0)))
+
+  -- they lead to one state at one cost
+  pub leads_once : (s t u : S) (cs : List A) (paid more : ℕ) → Leads step s cs t paid → Leads step s cs u more → (t ≡ u) × (paid ≡ more)
+  leads_once s t u cs paid more l m = (sym l.there ∙ m.there, sym l.price_is ∙ m.price_is)

@@ -1,10 +1,10 @@
 -- A machine that simulates another plays its schedules.
 use Rattle.std.proofs.Common.{◌≡◌, ℕ, Option, Some, None, List, [], ◌∷◌, ◌+◌, refl, ap₂}
-use Rattle.fm_sched.specs.Schedule.{next, play, IsLegal, used, IsFinal, IsEnding}
+use Rattle.fm_sched.specs.Schedule.{Step, next, play, IsLegal, used, IsFinal, IsEnding}
 use Rattle.fm_sched.specs.Simulation.{Simulates, IsBisimulation}
 use Rattle.fm_sched.proofs.Runs.{no_step}
 
-module _ {S T A : Type 0} (step : S → A → Option (S × ℕ)) (other : T → A → Option (T × ℕ)) (StandsFor : T → S → Type 0) where
+module _ {S T A : Type 0} (step : Step S A) (other : Step T A) (StandsFor : T → S → Type 0) where
   module _ (sim : Simulates step other StandsFor) where
     pub stands_after : (cs : List A) (s : S) (t : T) → StandsFor t s → IsLegal step s cs → StandsFor (play other t cs) (play step s cs)
     stands_after [] s t stands legal = stands

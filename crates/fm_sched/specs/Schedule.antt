@@ -1,8 +1,12 @@
 -- Schedules of a machine with several actors: which lists of choices are runs of it, where they lead
--- and what they cost. A machine is a set of states, a set of actors and one function `step`, which
--- gives the next state and the cost of an actor's step, or none where that actor can't step.
+-- and what they cost. A machine is given by its states, its actors and the step of each actor. A choice
+-- is the actor that steps next.
 -- Source: this profile.
 use Rattle.std.specs.Prelude.{◌≡◌, ◌≢◌, ℕ, ◌+◌, ◌≤◌, Option, Some, None, List, [], ◌∷◌, ◌++◌, length}
+
+-- what one actor's step makes of a state: the next state and the cost, or none
+abbrev pub Step : Type 0 → Type 0 → Type 0
+Step S A = S → A → Option (S × ℕ)
 
 -- the state after a step, and the state itself where there is no step
 unfoldable pub state_after : {S : Type 0} → S → Option (S × ℕ) → S
@@ -19,8 +23,8 @@ abbrev pub NotIn : {A : Type 0} → A → List A → Type 0
 NotIn p [] = Unit {0}
 NotIn p (c ∷ cs) = (p ≢ c) × NotIn p cs
 
-module _ {S A : Type 0} (step : S → A → Option (S × ℕ)) where
-  -- p has a step in s
+module _ {S A : Type 0} (step : Step S A) where
+  -- p can step in s
   abbrev pub Can : S → A → Type 0
   Can s p = (r : S × ℕ) × (step s p ≡ Some r)
 
@@ -37,21 +41,21 @@ module _ {S A : Type 0} (step : S → A → Option (S × ℕ)) where
   play s [] = s
   play s (c ∷ cs) = play (next s c) cs
 
-  -- each choice has its step
+  -- every choice can be made when its turn comes
   abbrev pub IsLegal : S → List A → Type 0
   IsLegal s [] = Unit {0}
   IsLegal s (c ∷ cs) = Can s c × IsLegal (next s c) cs
 
-  -- the sum of the costs
+  -- what the choices cost together
   abbrev pub used : S → List A → ℕ
   used s [] = 0
   used s (c ∷ cs) = cost s c + used (next s c) cs
 
-  -- nobody has a step
+  -- no actor can step
   abbrev pub IsFinal : S → Type 0
   IsFinal s = (p : A) → step s p ≡ None
 
-  -- the choices are legal, and nobody has a step after them
+  -- a legal list that leads to where no actor can step
   abbrev pub IsEnding : S → List A → Type 0
   IsEnding s cs = IsLegal s cs × IsFinal (play s cs)
 
@@ -73,11 +77,18 @@ module _ {S A : Type 0} (step : S → A → Option (S × ℕ)) where
   abbrev pub IsReached : S → S → Type 0
   IsReached start s = (cs : List A) × IsLegal start cs × (play start cs ≡ s)
 
+  -- the choices are legal, and lead from s to t at this cost
+  pub record Leads (s : S) (cs : List A) (t : S) (paid : ℕ) : Type 0 where
+    pub legal : IsLegal s cs
+    pub there : play s cs ≡ t
+    pub price_is : used s cs ≡ paid
+
   -- the fact holds wherever a legal list leads from the start
   abbrev pub Throughout : (S → Type 0) → S → Type 0
   Throughout Fact start = (cs : List A) → IsLegal start cs → Fact (play start cs)
 
-  -- what one list of choices that ends says of every other
+  -- what one ending list says of every other: none is longer or dearer, each legal one goes on to an end,
+  -- and each ending one has the same state and cost
   pub record Settles (s : S) (cs : List A) : Type 0 where
     pub longest : (ds : List A) → IsLegal s ds → length ds ≤ length cs
     pub dearest : (ds : List A) → IsLegal s ds → used s ds ≤ used s cs
