@@ -78,3 +78,8 @@ report_alone x =
     ap (λ es. flat_map (λ (e : Place × List ℕ). ended_line e.1) (flat_map lines_at es) ++ flat_map fault_line (flat_map fault_at es)) one
     ∙ ap (λ t. t ++ flat_map fault_line (fault_in [] x.phase ++ [])) (feed_lines x.lines)
     ∙ ap (λ t. flat_map ended_line x.lines ++ flat_map fault_line t) (append-nil (fault_in [] x.phase))
+
+pub faults_alone : (x : Proc) → (outcome_of (alone x)).faults ≡ fault_in [] x.phase
+faults_alone x =
+    let one : finite.entries (finite.insert finite.empty [] x) ≡ ([], x) ∷ [] = finite.entries-insert path_total finite.empty [] x ∙ ap (finite.put path_cmp [] x) no_entries in
+    ap (λ es. flat_map fault_at es) one ∙ append-nil (fault_in [] x.phase)

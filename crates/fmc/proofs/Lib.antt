@@ -1,0 +1,4 @@
+pub mod Scans
+pub mod Frames
+pub mod PrintLaws
+pub mod RunLaws
