@@ -6,3 +6,8 @@ pub mod PortFields
 pub mod PortFieldsCode
 pub mod PortReading
 pub mod PortFalls
+pub mod Spelling
+pub mod Shape
+pub mod Forms
+pub mod Parts
+pub mod Statements
