@@ -1,0 +1,13 @@
+pub mod Tree
+pub mod TreeCode
+pub mod Reading
+pub mod Falls
+pub mod PortFields
+pub mod PortFieldsCode
+pub mod PortReading
+pub mod PortFalls
+pub mod Spelling
+pub mod Shape
+pub mod Forms
+pub mod Parts
+pub mod Statements

@@ -1,0 +1,18 @@
+//! Trees of expressions, statements and units, and how they are spelled.
+#![tactic(auto)]
+
+mod expression;
+mod level;
+mod port_type;
+mod program_unit;
+mod statement;
+
+pub use expression::{Expr, ExprNode};
+pub use fm_base::Op;
+pub use level::{left_level, own_level, right_level};
+pub use port_type::{Bound, Field, Kind, PortType};
+pub use program_unit::{Entry, Placed, Unit, Units};
+pub use statement::{
+    CallPart, Decl, Defined, Extra, Item, LoopHead, LoopLabel, Simple, Stmt, Var, Way, Where,
+    WriteUnit,
+};

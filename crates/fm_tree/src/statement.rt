@@ -1,0 +1,181 @@
+//! Statements: one variant for each form, its parts in the order of the form.
+
+use crate::expression::Expr;
+use crate::port_type::{Bound, PortType};
+use fm_base::{Label, Name, Seq};
+
+/// A name with the bounds of its dimensions, none where none are written.
+#[derive(Drop)]
+pub struct Decl {
+    pub name: Name,
+    pub bounds: Seq<Bound>,
+}
+
+/// A variable or an element: no subscripts where no parentheses are written.
+#[derive(Drop)]
+pub struct Var {
+    pub name: Name,
+    pub subscripts: Seq<Expr>,
+}
+
+/// `name = value` of a PARAMETER statement.
+#[derive(Drop)]
+pub struct Defined {
+    pub name: Name,
+    pub value: Expr,
+}
+
+/// What INTENT says of a formal argument.
+#[derive(Clone, Copy, Debug, PartialEq, Eq)]
+pub enum Way {
+    In,
+    Out,
+    InOut,
+}
+
+/// The label behind DO, and whether a comma stands behind it.
+#[derive(Clone, Copy, Debug, PartialEq, Eq)]
+pub struct LoopLabel {
+    pub label: Label,
+    pub comma: bool,
+}
+
+/// `[label [,]] variable = from , to [, step]`.
+#[derive(Drop)]
+pub struct LoopHead {
+    pub label: Option<LoopLabel>,
+    pub variable: Name,
+    pub from: Expr,
+    pub to: Expr,
+    pub step: Option<Expr>,
+}
+
+/// What PRINT and WRITE print: an expression or a character constant.
+#[derive(Drop)]
+pub enum Item {
+    Expr(Expr),
+    Constant(Seq<u8>),
+}
+
+/// How the unit of a WRITE is written.
+#[derive(Clone, Copy, Debug, PartialEq, Eq)]
+pub enum WriteUnit {
+    Star,
+    Six,
+}
+
+/// What may stand behind the port of a RECEIVE.
+#[derive(Drop)]
+pub enum Extra {
+    /// `END = label`.
+    End(Label),
+    /// `IOSTAT = variable`.
+    Iostat(Var),
+}
+
+/// Where a process is put.
+#[derive(Drop)]
+pub enum Where {
+    /// `LOCATION ( subscripts )`.
+    Location(Seq<Expr>),
+    /// `SUBMACHINE ( first : last )`.
+    Submachine(Expr, Expr),
+}
+
+/// The parentheses of a PROCESSCALL, and where the process is put.
+#[derive(Drop)]
+pub struct CallPart {
+    pub arguments: Seq<Expr>,
+    pub place: Option<Where>,
+}
+
+/// A statement that may stand behind a logical IF.
+#[derive(Drop)]
+pub enum Simple {
+    Assignment(Var, Expr),
+    Goto(Label),
+    Continue,
+    Return,
+    Stop,
+    /// A subroutine and its arguments. `None` where no parentheses are written.
+    Call(Name, Option<Seq<Expr>>),
+    /// No items where no comma is written.
+    Print(Seq<Item>),
+    Write(WriteUnit, Seq<Item>),
+    /// Whether IN is written first, and the two ports.
+    Channel {
+        in_first: bool,
+        inport: Var,
+        outport: Var,
+    },
+    /// The inport and the outports.
+    Merger(Var, Seq<Var>),
+    /// Whether `PORT =` is written, the port and the items.
+    Send {
+        named: bool,
+        port: Var,
+        items: Seq<Expr>,
+    },
+    /// Whether `PORT =` is written, the port, what stands behind it, and the variables.
+    Receive {
+        named: bool,
+        port: Var,
+        extras: Seq<Extra>,
+        items: Seq<Var>,
+    },
+    /// Whether `PORT =` is written, and the port.
+    EndChannel {
+        named: bool,
+        port: Var,
+    },
+    MovePort {
+        from: Var,
+        to: Var,
+    },
+    /// Whether `PORT =` is written, the port, and the variable that is set.
+    Probe {
+        named: bool,
+        port: Var,
+        empty: Var,
+    },
+}
+
+/// A statement.
+#[derive(Drop)]
+pub enum Stmt {
+    Program(Name),
+    /// `None` where no parentheses are written.
+    Process(Name, Option<Seq<Name>>),
+    /// `None` where no parentheses are written.
+    Subroutine(Name, Option<Seq<Name>>),
+    Function(Name, Seq<Name>),
+    IntegerFunction(Name, Seq<Name>),
+    LogicalFunction(Name, Seq<Name>),
+    ImplicitNone,
+    Integer(Seq<Decl>),
+    Logical(Seq<Decl>),
+    Dimension(Seq<Decl>),
+    Parameter(Seq<Defined>),
+    Inport(PortType, Seq<Decl>),
+    Outport(PortType, Seq<Decl>),
+    Intent(Way, Seq<Name>),
+    Processors(Seq<Expr>),
+    Simple(Simple),
+    LogicalIf(Expr, Simple),
+    BlockIf(Expr),
+    ElseIf(Expr),
+    Else,
+    EndIf,
+    Do(LoopHead),
+    DoWhile(Expr),
+    EndDo,
+    End,
+    Processes,
+    EndProcesses,
+    /// `None` where no parentheses are written.
+    ProcessCall(Name, Option<CallPart>),
+    ProcessDo(LoopHead),
+    EndProcessDo,
+    /// The end of a labelled loop, put behind the statement that bears the label. No text spells it.
+    LoopEnd,
+}
