@@ -3,3 +3,7 @@ pub mod Cards
 pub mod Words
 pub mod Exits
 pub mod Run
+pub mod Pieces
+pub mod Forms
+pub mod Front
+pub mod Plain
