@@ -4,7 +4,6 @@
 use Rattle.std.specs.Prelude.{ℕ, ◌+◌, ◌-◌, ◌*◌, suc, zero, Bool, false, not, ◌||◌, ◌&&◌, Option, Some, None, List, [], ◌∷◌, ◌++◌, map, take, drop, ◌==◌, if◌then◌else◌}
 use Rattle.std.specs.List.{list_any}
 use Rattle.std.specs.Char.{to_ascii_uppercase, is_ascii_digit}
-use Rattle.fm_base.specs.declared.name.Line.{Line}
 use Rattle.fm_base.specs.declared.name.Label.{Label}
 use Rattle.fm_cards.specs.declared.card.Card.{Card}
 use Rattle.fm_cards.specs.Lines.{lines, rows, Row, is_blank, is_continuation}

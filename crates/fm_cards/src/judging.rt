@@ -14,7 +14,12 @@ use fm_base::{Line, Refusal, Rule, keep_earlier};
 const MOST_CONTINUATIONS: usize = 19;
 
 // The least place once more, with this one where it is broken.
-pub fn keep_if(best: Option<Refusal>, broken: bool, line: Line, rule: Rule) -> Option<Refusal>
+pub(crate) fn keep_if(
+    best: Option<Refusal>,
+    broken: bool,
+    line: Line,
+    rule: Rule,
+) -> Option<Refusal>
     ensures { result ≡ least_from best (when broken (place line.0 rule)) }
 {
     if broken {
@@ -31,7 +36,7 @@ fn has_bad_character(row: &[u8]) -> bool
 }
 
 #[tactic(auto, using(fm_base::proofs::Least::least_from_append))]
-pub fn check_initial(best: Option<Refusal>, line: Line, row: &[u8]) -> Option<Refusal>
+pub(crate) fn check_initial(best: Option<Refusal>, line: Line, row: &[u8]) -> Option<Refusal>
     requires { length row.now ≡ 72 }
     ensures { result ≡ least_from best (in_initial (row_at line.0 row.now)) }
 {
@@ -41,7 +46,7 @@ pub fn check_initial(best: Option<Refusal>, line: Line, row: &[u8]) -> Option<Re
 }
 
 #[tactic(auto, using(fm_base::proofs::Least::least_from_append))]
-pub fn check_continuation(
+pub(crate) fn check_continuation(
     best: Option<Refusal>,
     line: Line,
     row: &[u8],
@@ -58,7 +63,7 @@ pub fn check_continuation(
 
 // A continuation row with no initial row before it.
 #[tactic(auto, using(fm_base::proofs::Least::least_from_append))]
-pub fn check_front(best: Option<Refusal>, line: Line, row: &[u8]) -> Option<Refusal>
+pub(crate) fn check_front(best: Option<Refusal>, line: Line, row: &[u8]) -> Option<Refusal>
     requires { length row.now ≡ 72 }
     ensures { result ≡ least_from best (in_front (row_at line.0 row.now)) }
 {

@@ -33,7 +33,7 @@ fn number(field: &[u8]) -> u32
 }
 
 // Whether it holds more than digits and blanks, or a label 0.
-pub fn is_bad_field(field: &[u8]) -> bool
+pub(crate) fn is_bad_field(field: &[u8]) -> bool
     requires { length field.now ≤ 5 }
     ensures { result ≡ is_bad_field field.now }
 {
@@ -41,7 +41,7 @@ pub fn is_bad_field(field: &[u8]) -> bool
 }
 
 // The label, where the field isn't bad.
-pub fn label(field: &[u8]) -> Option<Label>
+pub(crate) fn label(field: &[u8]) -> Option<Label>
     requires { length field.now ≤ 5 }
     ensures { result ≡ label_of field.now }
 {

@@ -11,7 +11,7 @@ use std::alloc::Global;
 const WIDTH: usize = 72;
 
 // The first line without its line feed, and what stands behind it.
-pub fn first_line(source: &[u8]) -> Option<(&[u8], &[u8])>
+pub(crate) fn first_line(source: &[u8]) -> Option<(&[u8], &[u8])>
     ensures { MatchOption result (source.now ≡ []) (λ r. (lines source.now ≡ r.0.now ∷ lines r.1.now) × (length r.1.now < length source.now)) }
 {
     let n = source.len();
@@ -41,7 +41,7 @@ fn strip_return(line: &[u8]) -> &[u8]
 }
 
 // Columns 1 to 72.
-pub fn columns(alloc: Global, line: &[u8]) -> Result<Vec<u8>, NoMemory>
+pub(crate) fn columns(alloc: Global, line: &[u8]) -> Result<Vec<u8>, NoMemory>
     ensures columns { IfOk result (λ r. r.items ≡ columns_of line.now) }
     ensures length { IfOk result (λ r. length r.items ≡ 72) }
 {
@@ -56,20 +56,20 @@ fn is_comment_mark(byte: u8) -> bool
     byte == b'C' || byte == b'c' || byte == b'*' || byte == b'!'
 }
 
-pub fn is_all_blank(columns: &[u8]) -> bool
+pub(crate) fn is_all_blank(columns: &[u8]) -> bool
     ensures { result ≡ list_all is_blank columns.now }
 {
     columns.iter().all(|b| *b == b' ')
 }
 
-pub fn is_comment(row: &[u8]) -> bool
+pub(crate) fn is_comment(row: &[u8]) -> bool
     requires { length row.now ≡ 72 }
     ensures { result ≡ is_comment row.now }
 {
     is_comment_mark(row[0]) || is_all_blank(row)
 }
 
-pub fn is_continuation(row: &[u8]) -> bool
+pub(crate) fn is_continuation(row: &[u8]) -> bool
     requires { length row.now ≡ 72 }
     ensures { result ≡ is_continuation row.now }
 {
