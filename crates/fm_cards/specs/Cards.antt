@@ -46,8 +46,8 @@ abbrev pub is_odd : ℕ → Bool
 is_odd zero = false
 is_odd (suc n) = not (is_odd n)
 
--- what is kept of a byte with so many apostrophes before it: inside a constant, behind an odd number,
--- the byte as it is; outside no blank, and letters raised
+-- what is kept of a byte with so many apostrophes before it: inside a constant, which is behind an odd
+-- number of them, the byte as it is; outside no blank, and letters raised
 abbrev pub kept : ℕ → ℕ → List ℕ
 kept before b = if is_odd before then b ∷ [] else if is_blank b then [] else to_ascii_uppercase b ∷ []
 

@@ -1,5 +1,6 @@
 -- The lines of a text, their 72 columns, and their kinds.
--- Source: ANSI X3.9-1978, section 3.2; lower case `c`, `!`, line ends and the padding are this profile's.
+-- Source: ANSI X3.9-1978, section 3.2; that `c` and `!` mark comments, the line ends, and that short
+-- lines are filled up are this profile's.
 use Rattle.std.specs.Prelude.{ℕ, ◌+◌, ◌-◌, not, ◌||◌, Bool, List, [], ◌∷◌, ◌++◌, take, length, replicate, slice_index, ◌==◌, if◌then◌else◌}
 use Rattle.std.specs.List.{list_all}
 

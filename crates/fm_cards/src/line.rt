@@ -12,7 +12,8 @@ const WIDTH: usize = 72;
 
 // The first line without its line feed, and what stands behind it.
 pub(crate) fn first_line(source: &[u8]) -> Option<(&[u8], &[u8])>
-    ensures { MatchOption result (source.now ≡ []) (λ r. (lines source.now ≡ r.0.now ∷ lines r.1.now) × (length r.1.now < length source.now)) }
+    ensures { MatchOption result (source.now ≡ [])
+        (λ r. (lines source.now ≡ r.0.now ∷ lines r.1.now) × (length r.1.now < length source.now)) }
 {
     let n = source.len();
     if n == 0 {
