@@ -1,0 +1,120 @@
+//! Sources and sinks over readers and writers of std. They tell no content.
+
+ghost use Rattle.std.specs.Prelude.{◌≡◌, ◌<◌, None, length, is_err};
+ghost use Rattle.std.specs.Io.{ReadsAtMost, WritesAtMost};
+ghost use Rattle.fm_io.specs.Causes.{HasCause, Rose, counted, is_refused};
+
+use crate::sink::Sink;
+use crate::source::{Failed, Source};
+use std::io::{Read, Write};
+use std::marker::Model;
+
+/// A reader, with the count of its errors, as which contracts see it.
+#[derive(Drop)]
+pub struct StdSource<R> {
+    reader: R,
+    faults: u64,
+}
+
+impl<R> Model for StdSource<R> {
+    ghost use Rattle.std.specs.Prelude.{ℕ};
+
+    ghost Value = { ℕ };
+
+    ghost view = { λ s. s.faults };
+}
+
+impl<R: Read> StdSource<R> {
+    /// A reader that hasn't failed yet. Takes no memory.
+    pub fn new(reader: R) -> StdSource<R>
+        ensures { result ≡ 0 }
+    {
+        StdSource { reader, faults: 0 }
+    }
+}
+
+impl<R: Read> Source for StdSource<R> {
+    ghost left = { λ s. None };
+
+    ghost faults = { λ s. s };
+
+    /// Counts one more at each error.
+    fn read(&mut self, buf: &mut [u8]) -> Result<usize, Failed>
+        ensures bound { ReadsAtMost result buf.new }
+        ensures cause { HasCause self.old self.new result }
+        ensures after { self.new ≡ counted (is_err result) self.old }
+    {
+        match self.reader.read(buf) {
+            Ok(count) => Ok(count),
+            Err(_) => {
+                self.faults = self.faults.saturating_add(1);
+                Err(Failed)
+            }
+        }
+    }
+}
+
+/// A writer, with the count of its errors and of pieces that it refused, as which contracts see it.
+#[derive(Drop)]
+pub struct StdSink<W> {
+    writer: W,
+    faults: u64,
+}
+
+impl<W> Model for StdSink<W> {
+    ghost use Rattle.std.specs.Prelude.{ℕ};
+
+    ghost Value = { ℕ };
+
+    ghost view = { λ s. s.faults };
+}
+
+impl<W: Write> StdSink<W> {
+    /// A writer that hasn't failed yet. Takes no memory.
+    pub fn new(writer: W) -> StdSink<W>
+        ensures { result ≡ 0 }
+    {
+        StdSink { writer, faults: 0 }
+    }
+}
+
+impl<W: Write> Sink for StdSink<W> {
+    ghost written = { λ s. None };
+
+    ghost faults = { λ s. s };
+
+    /// Counts one more at each error, and at each 0 for a piece that isn't empty.
+    fn write(&mut self, buf: &[u8]) -> Result<usize, Failed>
+        ensures bound { WritesAtMost result buf.now }
+        ensures cause { HasCause self.old self.new result }
+        ensures stuck { result ≡ Ok 0 → 0 < length buf.now → Rose self.old self.new }
+        ensures after { self.new ≡ counted (is_refused result (length buf.now)) self.old }
+    {
+        match self.writer.write(buf) {
+            Ok(count) => {
+                if count == 0 && !buf.is_empty() {
+                    self.faults = self.faults.saturating_add(1);
+                }
+                Ok(count)
+            }
+            Err(_) => {
+                self.faults = self.faults.saturating_add(1);
+                Err(Failed)
+            }
+        }
+    }
+
+    /// Counts one more at each error.
+    fn flush(&mut self) -> Result<(), Failed>
+        ensures cause { HasCause self.old self.new result }
+        ensures after { self.new ≡ counted (is_err result) self.old }
+    {
+        match self.writer.flush() {
+            Ok(()) => Ok(()),
+            Err(_) => {
+                self.faults = self.faults.saturating_add(1);
+                Err(Failed)
+            }
+        }
+    }
+}
