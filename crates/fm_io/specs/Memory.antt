@@ -28,10 +28,10 @@ feed_gives s room = min (min (length s.left) room) s.piece
 -- the source after a read
 abbrev pub after_feed : Feed → ℕ → Feed
 after_feed s room = record s {
-    left = if feed_fails s then s.left else drop (feed_gives s room) s.left;
-    calls = raised s.calls;
-    faults = counted (feed_fails s) s.faults;
-  }
+  left = if feed_fails s then s.left else drop (feed_gives s room) s.left;
+  calls = raised s.calls;
+  faults = counted (feed_fails s) s.faults;
+}
 
 -- a source without faults: the bytes left, the most bytes of a call
 pub record SureFeed : Type 0 where
@@ -70,10 +70,10 @@ is_full_for s size = nat_le s.room (length s.bytes) && nat_lt 0 size
 -- the sink after a write
 abbrev pub after_tray : Tray → List ℕ → Tray
 after_tray s buf = record s {
-    bytes = if tray_fails s then s.bytes else s.bytes ++ take (tray_takes s (length buf)) buf;
-    calls = raised s.calls;
-    faults = counted (if tray_fails s then true else is_full_for s (length buf)) s.faults;
-  }
+  bytes = if tray_fails s then s.bytes else s.bytes ++ take (tray_takes s (length buf)) buf;
+  calls = raised s.calls;
+  faults = counted (if tray_fails s then true else is_full_for s (length buf)) s.faults;
+}
 
 -- the call fails where it is listed, and else answers this count
 abbrev pub AnswersUnless : {E : Type 0} → Bool → ℕ → Result ℕ E → Type 0

@@ -12,6 +12,8 @@ mod piece;
 mod sink;
 mod source;
 mod std_streams;
+#[cfg(test)]
+mod trials;
 mod whole;
 
 pub use count_sink::CountSink;

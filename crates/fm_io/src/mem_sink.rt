@@ -33,12 +33,12 @@ impl Model for MemSink {
     ghost Value = { Tray };
 
     ghost view = { λ s. record {
-        bytes = s.bytes.items;
-        piece = s.piece;
-        room = s.room;
-        calls = s.calls;
-        fail_at = s.fail_at.items;
-        faults = s.faults;
+      bytes = s.bytes.items;
+      piece = s.piece;
+      room = s.room;
+      calls = s.calls;
+      fail_at = s.fail_at.items;
+      faults = s.faults;
     } };
 
     ghost invariant = { λ s. (0 < s.piece) × (s.room ≤ vec_capacity s.bytes) };

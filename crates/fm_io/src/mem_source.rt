@@ -30,11 +30,11 @@ impl Model for MemSource {
     ghost Value = { Feed };
 
     ghost view = { λ s. record {
-        left = drop s.at s.bytes.items;
-        piece = s.piece;
-        calls = s.calls;
-        fail_at = s.fail_at.items;
-        faults = s.faults;
+      left = drop s.at s.bytes.items;
+      piece = s.piece;
+      calls = s.calls;
+      fail_at = s.fail_at.items;
+      faults = s.faults;
     } };
 
     ghost invariant = { λ s. (0 < s.piece) × (s.at ≤ length s.bytes.items) };

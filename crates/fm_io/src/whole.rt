@@ -8,20 +8,25 @@ ghost use Rattle.fm_io.specs.Streams.{TakesAtMost, WritesFront};
 use crate::sink::Sink;
 use crate::source::Source;
 use std::alloc::Global;
+use thiserror::Error;
 
 /// Why a source wasn't read to its end.
-#[derive(Clone, Copy, Debug, PartialEq, Eq)]
+#[derive(Clone, Copy, Debug, Drop, PartialEq, Eq, Error)]
 pub enum ReadFail {
     /// The source failed.
+    #[error("the source failed")]
     Fault,
     /// More bytes came than the limit allows.
+    #[error("the source is too long")]
     TooLong,
     /// Memory was asked for and not found.
+    #[error("no memory was found")]
     NoMemory,
 }
 
 /// The sink failed.
-#[derive(Clone, Copy, Debug, PartialEq, Eq)]
+#[derive(Clone, Copy, Debug, Drop, PartialEq, Eq, Error)]
+#[error("the sink failed")]
 pub struct WriteFail;
 
 /// The most bytes that one read asks for.

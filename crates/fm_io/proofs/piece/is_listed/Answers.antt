@@ -12,4 +12,4 @@ pub returns-in-None : goal.returns-in-None
 returns-in-None c =
     let none = c.in-None.ensures in
     sym (list_any_none (λ number. number == c.args.calls + 1) c.args.fail_at.now
-        (All-from_get_or (λ number. (number == c.args.calls + 1) ≡ false) _ 0 (λ i _. differs _ _ (c.type_inv.fail_at i).fits none)))
+    (All-from_get_or (λ number. (number == c.args.calls + 1) ≡ false) _ 0 (λ i _. differs _ _ (c.type_inv.fail_at i).fits none)))
