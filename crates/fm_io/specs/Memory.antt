@@ -1,5 +1,5 @@
 -- What contracts see of the sources and sinks over memory. Source: this profile.
-use Rattle.std.specs.Prelude.{◌≡◌, ℕ, ◌+◌, ◌-◌, ◌≤◌, Bool, true, false, nat_le, nat_eq, nat_lt, ◌==◌, ◌&&◌, if◌then◌else◌, min, List, [], ◌++◌, length, take, drop, MatchResult, Result}
+use Rattle.std.specs.Prelude.{◌≡◌, ℕ, ◌+◌, ◌-◌, Bool, true, false, nat_le, nat_lt, ◌==◌, ◌&&◌, if◌then◌else◌, min, List, [], ◌++◌, length, take, drop, MatchResult, Result}
 use Rattle.std.specs.List.{list_any}
 use Rattle.fm_io.specs.Causes.{raised, counted}
 

@@ -1,6 +1,6 @@
 //! A sink that keeps nothing but a count.
 
-ghost use Rattle.std.specs.Prelude.{◌≡◌, ◌+◌, ◌-◌, ◌^◌, None, min, length};
+ghost use Rattle.std.specs.Prelude.{◌≡◌, ◌+◌, ◌-◌, ◌^◌, None, min, length, ⊤};
 
 use crate::sink::Sink;
 use crate::source::Failed;
@@ -40,6 +40,8 @@ impl Sink for CountSink {
     ghost written = { λ s. None };
 
     ghost faults = { λ s. 0 };
+
+    ghost flushed = { λ s. ⊤ };
 
     fn write(&mut self, buf: &[u8]) -> Result<usize, Failed>
         ensures answer { result ≡ Ok (length buf.now) }

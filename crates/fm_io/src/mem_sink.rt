@@ -1,6 +1,6 @@
 //! A sink over memory.
 
-ghost use Rattle.std.specs.Prelude.{◌≡◌, ◌<◌, Some, length, IfOk};
+ghost use Rattle.std.specs.Prelude.{◌≡◌, ◌<◌, Some, length, IfOk, ⊤};
 ghost use Rattle.std.specs.Io.{WritesAtMost};
 ghost use Rattle.std.specs.Io.KnownBytes.{WriteAppends};
 ghost use Rattle.fm_io.specs.Causes.{HasCause, Rose};
@@ -79,6 +79,8 @@ impl Sink for MemSink {
 
     ghost faults = { λ s. s.faults };
 
+    ghost flushed = { λ s. ⊤ };
+
     /// A full room takes none of a piece that isn't empty, which is a fault.
     fn write(&mut self, buf: &[u8]) -> Result<usize, Failed>
         ensures bound { WritesAtMost result buf.now }
@@ -106,7 +108,8 @@ impl Sink for MemSink {
     }
 
     fn flush(&mut self) -> Result<(), Failed>
-        ensures { (result ≡ Ok tt) × (self.new ≡ self.old) }
+        ensures answer { result ≡ Ok tt }
+        ensures after { self.new ≡ self.old }
     {
         Ok(())
     }

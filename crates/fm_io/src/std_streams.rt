@@ -1,6 +1,6 @@
 //! Sources and sinks over readers and writers of std. They tell no content.
 
-ghost use Rattle.std.specs.Prelude.{◌≡◌, ◌<◌, None, length, is_err};
+ghost use Rattle.std.specs.Prelude.{◌≡◌, ◌<◌, None, length, is_err, ⊤};
 ghost use Rattle.std.specs.Io.{ReadsAtMost, WritesAtMost};
 ghost use Rattle.fm_io.specs.Causes.{HasCause, Rose, counted, is_refused};
 
@@ -82,6 +82,8 @@ impl<W: Write> Sink for StdSink<W> {
     ghost written = { λ s. None };
 
     ghost faults = { λ s. s };
+
+    ghost flushed = { λ s. ⊤ };
 
     /// Counts one more at each error, and at each 0 for a piece that isn't empty.
     fn write(&mut self, buf: &[u8]) -> Result<usize, Failed>

@@ -66,6 +66,7 @@ pub fn read_all<S: Source>(alloc: Global, source: &mut S, limit: usize) -> Resul
 /// of the bytes. Takes no memory.
 pub fn write_all<K: Sink>(sink: &mut K, bytes: &[u8]) -> Result<(), WriteFail>
     ensures whole { OnOk result (Appends (K.written sink.old) (K.written sink.new) bytes.now) }
+    ensures flushed { OnOk result (K.flushed sink.new) }
     ensures front { WritesFront (K.written sink.old) (K.written sink.new) bytes.now }
     ensures cause { HasCause (K.faults sink.old) (K.faults sink.new) result }
 {

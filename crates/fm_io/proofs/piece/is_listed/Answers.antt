@@ -1,8 +1,7 @@
-use Rattle.std.proofs.Common.{◌≡◌, ◌<◌, ◌+◌, ◌^◌, ◌==◌, ℕ, false, List, arith, sym, slice_index_or, get_or, length}
+use Rattle.std.proofs.Common.{◌≡◌, ◌<◌, ◌+◌, ◌^◌, ◌==◌, ℕ, false, arith, sym}
 use Rattle.std.proofs.lemmas.Bool.Decides.{nat_tests}
 use Rattle.std.proofs.lemmas.List.Folds.{list_any_none}
 use Rattle.std.proofs.lemmas.List.Elements.{All-from_get_or}
-use Rattle.fm_io.specs.Memory.{fails_next}
 use Rattle.fm_io.proofs.piece.is_listed.Goals as goal
 
 differs : (x y : ℕ) → x < 2 ^ 64 → (y < 2 ^ 64 → ⊥) → (x == y) ≡ false
