@@ -1,6 +1,7 @@
 -- An expression at the front of tokens, and lists of items.
 use Rattle.std.proofs.Common.{◌≡◌, ◌≢◌, ℕ, zero, suc, ◌<◌, ◌≤◌, ◌+◌, Bool, true, false, List, [], ◌∷◌, ◌++◌, length, take, drop, refl, sym, ap, subst, ◌∙◌, arith, append_assoc}
-use Rattle.std.specs.Prelude.{Option, Some, None, IfOk, MatchOption}
+use Rattle.std.specs.Prelude.{Option, Some, None, IfOk, MatchOption, ◌==◌}
+use Rattle.std.proofs.lemmas.Bool.{eqb-true}
 use Rattle.std.proofs.Math.Seq.{drop-append_seam}
 use Rattle.std.proofs.lemmas.List.{append-nil, take-append-drop, nil_from_length}
 use Rattle.fm_base.specs.declared.token.Token.{Token}
@@ -69,7 +70,7 @@ items_more [] js h k = k
 items_more (Value e ∷ is) js h k = (h.0, items_more is js h.1 k)
 items_more (Text bytes ∷ is) js h k = absurd h
 
-stops_items : (is : List Item) → AreItems is → Stops (items_spelled is)
+pub stops_items : (is : List Item) → AreItems is → Stops (items_spelled is)
 stops_items [] h = tt
 stops_items (Value e ∷ is) h = tt
 stops_items (Text bytes ∷ is) h = absurd h
@@ -127,3 +128,10 @@ item_of ts us more e eq f = (us, eq, f)
 
 pub no_item_of : (ts us : List Token) → ts ≡ token.Comma ∷ us → NoneInFront us → NoItem ts
 no_item_of ts us eq none vs w = let k : us ≡ vs = cc in subst NoneInFront k none
+
+pub some_left : (ts : List Token) (b : Bool) → b ≡ (length ts == 0) → b ≡ false → 0 < length ts
+some_left [] b e f = absurd (cc)
+some_left (t ∷ ts) b e f = omega arith
+
+pub none_left : (ts : List Token) (b : Bool) → b ≡ (length ts == 0) → b ≡ true → length ts ≡ 0
+none_left ts b e f = eqb-true (length ts) 0 (sym e ∙ f)

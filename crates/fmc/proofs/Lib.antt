@@ -6,4 +6,6 @@ pub mod Digits
 pub mod PieceLaws
 pub mod TermLaws
 pub mod FrontLaws
-pub mod FormLaws
+pub mod CheckLaws
+pub mod OneVerdict
+pub mod AnswerLaws

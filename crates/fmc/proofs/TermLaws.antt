@@ -51,7 +51,7 @@ operator_back op.Sub r h = let k : r ≡ Subtract = cc in ap operator_op k
 operator_back op.Mul r h = let k : r ≡ Multiply = cc in ap operator_op k
 operator_back o r h = absurd (cc)
 
-same_term : (x e : Term) → Some x ≡ Some e → x ≡ e
+pub same_term : (x e : Term) → Some x ≡ Some e → x ≡ e
 same_term x e h = cc
 
 in_paren : (a : Tree) (o : Option Term) → ((x : Term) → o ≡ Some x → IsTermOf a x) → (e : Term) → option_map paren o ≡ Some e → IsTermOf (tree.Paren a) e

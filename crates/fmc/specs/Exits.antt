@@ -65,3 +65,19 @@ is_end TooLong = false
 is_end Malformed = false
 is_end Illegal = false
 is_end Unfinished = false
+
+-- an exit that the bytes decide, or want of memory
+abbrev pub is_decided : Exit → Bool
+is_decided Done = true
+is_decided Faulted = true
+is_decided Deadlocked = true
+is_decided Refused = true
+is_decided Spent = true
+is_decided NoMemory = true
+is_decided Usage = false
+is_decided ReadFault = false
+is_decided WriteFault = false
+is_decided TooLong = false
+is_decided Malformed = false
+is_decided Illegal = false
+is_decided Unfinished = false

@@ -7,3 +7,6 @@ pub mod Pieces
 pub mod Forms
 pub mod Front
 pub mod Plain
+pub mod Verdict
+pub mod Answer
+pub mod Reply
