@@ -1,18 +1,17 @@
 -- States that have main alone.
-use Rattle.std.proofs.Common.{◌≡◌, ℕ, suc, zero, ◌+◌, Bool, true, false, cond, List, [], ◌∷◌, ◌++◌, length, map, refl, sym, ap, ◌∙◌, arith, Option, Some, None}
+use Rattle.std.proofs.Common.{◌≡◌, ℕ, suc, zero, Bool, true, false, cond, List, [], ◌∷◌, ◌++◌, map, refl, sym, ap, ◌∙◌, Option, Some, None}
 use Rattle.std.specs.Prelude.{option_map}
 use Rattle.std.specs.List.{flat_map}
 use Rattle.std.specs.FinMap as finite
 use Rattle.std.specs.Ordering.{eq_by_cmp}
 use Rattle.std.proofs.lemmas.List.{append-nil, nil_from_length}
 use Rattle.fm_base.specs.PathOrder.{path_cmp}
-use Rattle.fm_base.specs.declared.port.PortValue.{PortValue}
-use Rattle.fm_base.specs.Channels.{Chans, shed, all_shed, weight}
+use Rattle.fm_base.specs.Channels.{Chans, shed, weight}
 use Rattle.fm_base.proofs.PathLaws.{path_total, path_exact}
-use Rattle.fm_maps.specs.Changes.{alter, alters, put}
+use Rattle.fm_maps.specs.Changes.{alter}
 use Rattle.fm_mean.specs.declared.tree.Placed.{Placed}
-use Rattle.fm_mean.specs.Machine.{Place, Ask, Stop, Go, State, machine_step, act_of, act, finished, begun, Begun}
-use Rattle.fm_mean.specs.Meaning.{Proc, ask, step, alone, alone_to, has_ended, emptied, Phase}
+use Rattle.fm_mean.specs.Machine.{Place, Stop, act_of, act, finished}
+use Rattle.fm_mean.specs.Meaning.{Proc, ask, step, alone, alone_to, has_ended, emptied}
 use Rattle.fm_mean.specs.Outcome.{outcome_of, report_text, ended_line, fault_line, fault_in, fault_at, lines_at}
 
 same_main : (q : Place) → eq_by_cmp path_cmp q [] ≡ true → q ≡ []
@@ -50,15 +49,15 @@ main_changed x y = main_again x y
 pub main_steps : (program : List Placed) (x y : Proc) (cost : ℕ) → ask program x ≡ alone_to y cost → step program (alone x) [] ≡ Some (alone y, cost)
 main_steps program x y cost e =
     let found : step program (alone x) [] ≡ option_map finished (act_of (ask program) has_ended emptied (alone x).procs (alone x).chans [] (Some x)) =
-        ap (λ o. option_map finished (act_of (ask program) has_ended emptied (alone x).procs (alone x).chans [] o)) (main_found x) in
+    ap (λ o. option_map finished (act_of (ask program) has_ended emptied (alone x).procs (alone x).chans [] o)) (main_found x) in
     let asked : option_map finished (act (ask program) has_ended emptied (alone x).procs (alone x).chans [] (ask program x)) ≡ option_map finished (act (ask program) has_ended emptied (alone x).procs (alone x).chans [] (alone_to y cost)) =
-        ap (λ a. option_map finished (act (ask program) has_ended emptied (alone x).procs (alone x).chans [] a)) e in
+    ap (λ a. option_map finished (act (ask program) has_ended emptied (alone x).procs (alone x).chans [] a)) e in
     found ∙ asked ∙ ap (λ (p : finite.FinMap path_cmp Proc × Chans). Some (record { procs = p.0; chans = p.1 }, cost)) (λ i. (main_changed x y i, shed_nothing (weight [] finite.empty) finite.empty i))
 
 pub main_stops : (program : List Placed) (x : Proc) → ask program x ≡ Stop → (p : Place) → step program (alone x) p ≡ None
 main_stops program x e p =
     let none : option_map finished (act (ask program) has_ended emptied (alone x).procs (alone x).chans p (ask program x)) ≡ None =
-        ap (λ a. option_map finished (act (ask program) has_ended emptied (alone x).procs (alone x).chans p a)) e in
+    ap (λ a. option_map finished (act (ask program) has_ended emptied (alone x).procs (alone x).chans p a)) e in
     ap (λ o. option_map finished (act_of (ask program) has_ended emptied (alone x).procs (alone x).chans p o)) (found_alone x p)
     ∙ elim (eq_by_cmp path_cmp p []) as (λ b. option_map finished (act_of (ask program) has_ended emptied (alone x).procs (alone x).chans p (cond b (Some x) None)) ≡ None) [
       | true ↦ none

@@ -1,9 +1,9 @@
 -- What a state is like in which main is alone.
 -- Source: this profile.
-use Rattle.std.specs.Prelude.{◌≡◌, ℕ, Option, Some, None, List, [], ◌∷◌, ◌++◌}
+use Rattle.std.specs.Prelude.{◌≡◌, ℕ, Some, None, List, [], ◌++◌}
 use Rattle.std.specs.List.{flat_map}
 use Rattle.fm_mean.specs.declared.tree.Placed.{Placed}
-use Rattle.fm_mean.specs.Machine.{Place, Ask, Stop, State}
+use Rattle.fm_mean.specs.Machine.{Place, Stop}
 use Rattle.fm_mean.specs.Meaning.{Proc, ask, step, alone, alone_to}
 use Rattle.fm_mean.specs.Outcome.{outcome_of, report_text, ended_line, fault_line, fault_in}
 

@@ -1,6 +1,6 @@
 -- Processes over channels, each of which asks for what it needs and goes on with the reply.
 -- Source: the Fortran M report (processes, channels, process blocks), with this profile's atomic step.
-use Rattle.std.specs.Prelude.{ℕ, zero, suc, ◌+◌, Option, Some, None, List, [], ◌∷◌, ◌++◌, Bool, cond, option_map}
+use Rattle.std.specs.Prelude.{ℕ, zero, suc, Option, Some, None, List, [], ◌∷◌, ◌++◌, Bool, cond, option_map}
 use Rattle.std.specs.FinMap.{FinMap, get, insert}
 use Rattle.fm_base.specs.declared.path.ChanName.{ChanName}
 use Rattle.fm_base.specs.declared.port.PortValue.{PortValue}

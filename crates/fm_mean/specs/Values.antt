@@ -1,6 +1,6 @@
 -- Variables of a frame, and the value of an expression or its first fault.
 -- Source: ANSI X3.9-1978, sections 6.1 and 6.6, over 64 bits with Overflow (this profile).
-use Rattle.std.specs.Prelude.{ℕ, ℤ, pos, Option, Some, None, List, [], ◌∷◌, Result, Ok, Err, unwrap_or}
+use Rattle.std.specs.Prelude.{ℕ, ℤ, pos, List, [], ◌∷◌, Result, Ok, Err, unwrap_or}
 use Rattle.std.specs.FinMap.{FinMap, get}
 use Rattle.std.specs.Ordering.{nat_cmp}
 use Rattle.std.specs.Cmp.Lexicographic.{slice_cmp}

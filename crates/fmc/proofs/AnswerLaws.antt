@@ -1,5 +1,5 @@
 -- What is answered, by the exit.
-use Rattle.std.proofs.Common.{◌≡◌, ◌≢◌, ◌⊎◌, inl, inr, ℕ, ◌<◌, ◌≤◌, ◌+◌, Bool, true, false, cond, List, [], ◌∷◌, ◌++◌, length, refl, sym, ap, subst, ◌∙◌, arith}
+use Rattle.std.proofs.Common.{◌≡◌, inl, inr, ℕ, ◌<◌, ◌≤◌, ◌+◌, Bool, true, false, cond, List, [], ◌∷◌, ◌++◌, length, refl, sym, ap, subst, ◌∙◌, arith}
 use Rattle.std.specs.Prelude.{Option, Some, None, is_none, replicate, IfOk, IfSome, Result, Ok, Err}
 use Rattle.std.specs.List.{filter_map, enumerate_from, cons_option}
 use Rattle.std.proofs.Math.Dec.{eqb}
@@ -8,8 +8,7 @@ use Rattle.std.proofs.lemmas.List.{append-nil}
 use Rattle.fm_base.specs.declared.schedule.Turn.{Turn}
 use Rattle.fm_base.specs.declared.rule.Refusal.{Refusal}
 use Rattle.fm_base.specs.Rules.{refusal_text}
-use Rattle.fm_base.specs.Verdict.{IsVerdict, IsLeast, IsClean}
-use Rattle.fm_sched.specs.Schedule.{play, IsLegal, IsEnding}
+use Rattle.fm_sched.specs.Schedule.{play, IsEnding}
 use Rattle.fm_mean.specs.declared.tree.Placed.{Placed}
 use Rattle.fm_mean.specs.Machine.{Place}
 use Rattle.fm_mean.specs.Meaning.{step, first}
@@ -22,14 +21,14 @@ use Rattle.fmc.specs.declared.words.Command.TheVariants.{Run}
 use Rattle.fmc.specs.declared.check.Statement.{Statement}
 use Rattle.fmc.specs.Lines.{lines_of, onto}
 use Rattle.fmc.specs.Cards.{cards_of, card_at}
-use Rattle.fmc.specs.Run.{IsLawful, Reports, exit_of, exit_by}
+use Rattle.fmc.specs.Run.{IsLawful, exit_of, exit_by}
 use Rattle.fmc.specs.Exits.{is_end, is_decided}
 use Rattle.fmc.specs.declared.scan.Card.{Card}
-use Rattle.fmc.specs.Verdict.{AreStatementsOf, IsBroken, IsVerdictOn, IsProgramOf, program_of, placed_of}
-use Rattle.fmc.specs.Answer.{Says, SaysOf, IsKept, IsEnded, IsUnplayed, HasHistory, IsCompleted, IsRefusedExit, IsTooLongExit, source_limit}
+use Rattle.fmc.specs.Verdict.{AreStatementsOf, IsVerdictOn, IsProgramOf, program_of, placed_of}
+use Rattle.fmc.specs.Answer.{Says, SaysOf, IsEnded, IsUnplayed, HasHistory, IsCompleted, IsRefusedExit, IsTooLongExit, source_limit}
 use Rattle.fmc.specs.Reply.{bytes_of, places_in, IsReply, IsRunOf}
 use Rattle.fmc.proofs.CheckLaws.{lawful}
-use Rattle.fmc.proofs.OneVerdict.{one_list, broken_alone}
+use Rattle.fmc.proofs.OneVerdict.{broken_alone}
 
 -- A program is no longer than its source.
 

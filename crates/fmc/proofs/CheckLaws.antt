@@ -1,17 +1,15 @@
 -- The verdict on statements, and the program of those that break no rule.
-use Rattle.std.proofs.Common.{◌≡◌, ℕ, zero, suc, ◌+◌, ◌<◌, ◌≤◌, ◌⊎◌, inl, inr, Bool, true, false, List, [], ◌∷◌, ◌++◌, length, take, get_or, refl, sym, ap, subst, ◌∙◌, arith, add-one, lit<}
+use Rattle.std.proofs.Common.{◌≡◌, ℕ, zero, suc, ◌+◌, ◌<◌, ◌≤◌, inl, inr, Bool, true, false, List, [], ◌∷◌, ◌++◌, length, take, get_or, refl, sym, ap, subst, ◌∙◌, arith, add-one, lit<}
 use Rattle.std.specs.Prelude.{Option, Some, None, slice_get, option_to_list, slice_index_or}
-use Rattle.std.specs.List.{filter_map, cons_option}
+use Rattle.std.specs.List.{cons_option}
 use Rattle.std.specs.Option.{option_map}
-use Rattle.std.proofs.Math.Seq.{take-suc}
 use Rattle.std.proofs.lemmas.Bool.{false≢true}
 use Rattle.std.proofs.lemmas.Bool.Decides.{nat_tests}
-use Rattle.std.proofs.lemmas.Option.{slice_get-get_or}
 use Rattle.fm_base.specs.declared.rule.Rule.{Rule}
 use Rattle.fm_base.specs.declared.rule.Rule.TheVariants.{E10, E26}
 use Rattle.fm_base.specs.declared.rule.Refusal.{Refusal}
 use Rattle.fm_base.specs.Rules.{phase_of}
-use Rattle.fm_base.specs.Verdict.{SomePlace, Either, IsClean, IsVerdict, place, or_next, IsOfPhase, IsBeforePhase}
+use Rattle.fm_base.specs.Verdict.{IsClean, IsVerdict, place, or_next}
 use Rattle.fm_base.proofs.Phases.{phase_join}
 use Rattle.fm_mean.specs.declared.tree.Stmt.{Stmt}
 use Rattle.fm_mean.specs.declared.tree.Stmt.TheVariants.{Program, Assign, Print, End}
@@ -19,7 +17,7 @@ use Rattle.fm_mean.specs.declared.tree.Placed.{Placed}
 use Rattle.fmc.specs.declared.scan.Card.{Card}
 use Rattle.fmc.specs.declared.check.Statement.{Statement}
 use Rattle.fmc.specs.Run.{IsLawful, IsAction, IsActionAt, IsEndAt}
-use Rattle.fmc.specs.Verdict.{IsStatementOf, AreStatementsOf, is_misplaced, form_at, form_in, line_at, breaks_form, is_headless, is_heading, breaks_heading, IsBrokenForm, IsBrokenHeading, IsBroken, placed_of, program_of}
+use Rattle.fmc.specs.Verdict.{IsStatementOf, AreStatementsOf, is_misplaced, form_at, line_at, is_headless, IsBrokenForm, IsBrokenHeading, IsBroken, program_of}
 
 -- one card more
 pub statements_more : (cs : List Card) (i : ℕ) (ss : List Statement) (c : Card) (s : Statement) → i < length cs → c ≡ get_or cs i c → AreStatementsOf (take i cs) ss → IsStatementOf c s → AreStatementsOf (take (i + 1) cs) (ss ++ s ∷ [])

@@ -1,6 +1,6 @@
 -- An expression at the front of tokens, and lists of items.
-use Rattle.std.proofs.Common.{◌≡◌, ◌≢◌, ℕ, zero, suc, ◌<◌, ◌≤◌, ◌+◌, Bool, true, false, List, [], ◌∷◌, ◌++◌, length, take, drop, refl, sym, ap, subst, ◌∙◌, arith, append_assoc}
-use Rattle.std.specs.Prelude.{Option, Some, None, IfOk, MatchOption, ◌==◌}
+use Rattle.std.proofs.Common.{◌≡◌, ℕ, ◌<◌, Bool, true, false, List, [], ◌∷◌, ◌++◌, length, drop, refl, sym, ap, subst, ◌∙◌, arith, append_assoc}
+use Rattle.std.specs.Prelude.{Some, None, ◌==◌}
 use Rattle.std.proofs.lemmas.Bool.{eqb-true}
 use Rattle.std.proofs.Math.Seq.{drop-append_seam}
 use Rattle.std.proofs.lemmas.List.{append-nil, take-append-drop, nil_from_length}
@@ -13,7 +13,7 @@ use Rattle.fm_expr.specs.Longest.{Stops, IsLongest}
 use Rattle.fm_mean.specs.Terms.{Term}
 use Rattle.fm_mean.specs.declared.tree.Item.{Item}
 use Rattle.fm_mean.specs.declared.tree.Item.TheVariants.{Value, Text}
-use Rattle.fmc.specs.Forms.{tree_of, IsExpression, expression_spelled, items_spelled, AreItems, AreRead, IsWhole}
+use Rattle.fmc.specs.Forms.{tree_of, expression_spelled, items_spelled, AreItems, AreRead, IsWhole}
 use Rattle.fmc.specs.Plain.{term_of}
 use Rattle.fmc.specs.Front.{IsInFront, NoneInFront, IsItem, NoItem}
 use Rattle.fmc.proofs.TermLaws.{term_tree, tree_term, same_term}
@@ -29,9 +29,10 @@ front_read ts rest t n e found whole is r =
       shaped = (subst IsWellShaped (sym w.tree_is) found.shaped, w.variables);
       spelled = sym (take-append-drop n ts) ∙ ap (λ l. l ++ drop n ts) (sym found.spelled ∙ ap spelling (sym w.tree_is)) ∙ ap (λ l. spelling (tree_of e) ++ l) (sym r);
       only = λ d more shaped stops eq.
-        let v = whole (tree_of d) more shaped.0 stops eq in
-        (same_term d e (sym (term_tree d shaped.1) ∙ ap term_of (sym v.0) ∙ is),
-        sym (drop-append_seam (spelling (tree_of d)) more) ∙ ap (drop (length (spelling (tree_of d)))) (sym eq) ∙ ap (λ k. drop k ts) (sym v.1) ∙ sym r);
+          let v = whole (tree_of d) more shaped.0 stops eq in (
+            same_term d e (sym (term_tree d shaped.1) ∙ ap term_of (sym v.0) ∙ is),
+            sym (drop-append_seam (spelling (tree_of d)) more) ∙ ap (drop (length (spelling (tree_of d)))) (sym eq) ∙ ap (λ k. drop k ts) (sym v.1) ∙ sym r,
+          );
     }
 
 pub front_missing : (ts : List Token) (t : Tree) (n : ℕ) → Whole ts t n → term_of t ≡ None → NoneInFront ts
@@ -99,14 +100,14 @@ item_more ts rest behind done e so item =
     record {
       shaped = items_more done (Value e ∷ []) so.shaped (f.shaped, tt);
       spelled =
-        so.spelled ∙ ap (λ l. items_spelled done ++ l) (item.1 ∙ ap (λ l. token.Comma ∷ l) f.spelled)
-        ∙ ap (λ l. items_spelled done ++ (token.Comma ∷ (l ++ behind))) (sym (append-nil (expression_spelled e)))
-        ∙ sym (append_assoc (items_spelled done) (items_spelled (Value e ∷ [])) behind)
-        ∙ ap (λ l. l ++ behind) (sym (items-append done (Value e ∷ [])));
+          so.spelled ∙ ap (λ l. items_spelled done ++ l) (item.1 ∙ ap (λ l. token.Comma ∷ l) f.spelled)
+          ∙ ap (λ l. items_spelled done ++ (token.Comma ∷ (l ++ behind))) (sym (append-nil (expression_spelled e)))
+          ∙ sym (append_assoc (items_spelled done) (items_spelled (Value e ∷ [])) behind)
+          ∙ ap (λ l. l ++ behind) (sym (items-append done (Value e ∷ [])));
       only = λ is shaped eq.
-        let m = so.only is shaped eq in
-        let k = first_is rest behind us e m.0 m.1 item.1 f m.3 in
-        (k.0, k.1, m.2 ∙ ap (λ l. done ++ l) k.2 ∙ sym (append_assoc done (Value e ∷ []) k.0), k.3);
+          let m = so.only is shaped eq in
+          let k = first_is rest behind us e m.0 m.1 item.1 f m.3 in
+          (k.0, k.1, m.2 ∙ ap (λ l. done ++ l) k.2 ∙ sym (append_assoc done (Value e ∷ []) k.0), k.3);
     }
 
 no_first : (rest : List Token) (more : List Item) → 0 < length rest → NoItem rest → AreItems more → rest ≡ items_spelled more → ⊥

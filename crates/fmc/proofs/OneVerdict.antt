@@ -1,9 +1,7 @@
 -- A source has one list of statements and one verdict.
 use Rattle.std.proofs.Common.{◌≡◌, ◌⊎◌, inl, inr, ℕ, List, [], ◌∷◌, ◌++◌, length, drop, get_or, refl, sym, ap, subst, ◌∙◌, arith}
-use Rattle.std.specs.Prelude.{Option, Some, None, codes}
+use Rattle.std.specs.Prelude.{Option, Some, None}
 use Rattle.std.proofs.Math.Seq.{drop-append_seam}
-use Rattle.std.proofs.lemmas.Bool.{false≢true}
-use Rattle.std.proofs.lemmas.List.{append-nil}
 use Rattle.fm_base.specs.declared.token.Token.{Token}
 use Rattle.fm_base.specs.declared.token.Token.TheVariants as token
 use Rattle.fm_base.specs.declared.rule.Refusal.{Refusal}
@@ -13,7 +11,6 @@ use Rattle.fm_base.specs.Rules.{number_of, phase_of}
 use Rattle.fm_base.specs.Verdict.{IsVerdict, IsClean, IsUpTo}
 use Rattle.fm_tree.specs.Tree.{Tree}
 use Rattle.fm_tree.specs.Spelling.{spelling}
-use Rattle.fm_tree.specs.Shape.{IsWellShaped}
 use Rattle.fm_expr.specs.Longest.{Stops}
 use Rattle.fm_expr.specs.Reading.{expr_at}
 use Rattle.fm_expr.proofs.Laws.{expr_at_whole, one_tree_law}
@@ -24,11 +21,10 @@ use Rattle.fm_mean.specs.declared.tree.Stmt.{Stmt}
 use Rattle.fm_mean.specs.declared.tree.Stmt.TheVariants.{Program, Assign, Print, End}
 use Rattle.fmc.specs.declared.scan.Card.{Card}
 use Rattle.fmc.specs.declared.check.Statement.{Statement}
-use Rattle.fmc.specs.Pieces.{tokens_of}
 use Rattle.fmc.specs.Plain.{term_of}
-use Rattle.fmc.specs.Forms.{tree_of, IsExpression, expression_spelled, AreItems, items_spelled, IsShaped, spelled, IsForm, IsFormOf}
+use Rattle.fmc.specs.Forms.{tree_of, IsExpression, expression_spelled, AreItems, items_spelled, IsShaped, spelled, IsFormOf}
 use Rattle.fmc.specs.Cards.{cards_of}
-use Rattle.fmc.specs.Verdict.{IsStatementOf, AreStatementsOf, IsBroken, IsVerdictOn}
+use Rattle.fmc.specs.Verdict.{AreStatementsOf, IsBroken, IsVerdictOn}
 use Rattle.fmc.specs.Answer.{OneVerdict}
 use Rattle.fmc.proofs.TermLaws.{term_tree, same_term}
 use Rattle.fmc.proofs.CheckLaws.{in_one}
@@ -44,6 +40,7 @@ same_found t u n m e = (ap tree e, ap number e)
     tree : Option (Tree × ℕ) → Tree
     tree None = t
     tree (Some x) = x.0
+
     number : Option (Tree × ℕ) → ℕ
     number None = n
     number (Some x) = x.1
@@ -51,9 +48,10 @@ same_found t u n m e = (ap tree e, ap number e)
 -- expressions before what ends them
 one_front : (e d : Term) (more rest : List Token) → IsExpression e → IsExpression d → Stops more → Stops rest → expression_spelled e ++ more ≡ expression_spelled d ++ rest → (e ≡ d) × (more ≡ rest)
 one_front e d more rest h k s t eq =
-    let f = same_found (tree_of e) (tree_of d) (length (spelling (tree_of e))) (length (spelling (tree_of d))) (sym (expr_at_whole (tree_of e) more h.0 s) ∙ ap expr_at eq ∙ expr_at_whole (tree_of d) rest k.0 t) in
-    (same_term e d (sym (term_tree e h.1) ∙ ap term_of f.0 ∙ term_tree d k.1),
-    sym (drop-append_seam (expression_spelled e) more) ∙ ap (drop (length (expression_spelled e))) eq ∙ ap (λ n. drop n (expression_spelled d ++ rest)) f.1 ∙ drop-append_seam (expression_spelled d) rest)
+    let f = same_found (tree_of e) (tree_of d) (length (spelling (tree_of e))) (length (spelling (tree_of d))) (sym (expr_at_whole (tree_of e) more h.0 s) ∙ ap expr_at eq ∙ expr_at_whole (tree_of d) rest k.0 t) in (
+      same_term e d (sym (term_tree e h.1) ∙ ap term_of f.0 ∙ term_tree d k.1),
+      sym (drop-append_seam (expression_spelled e) more) ∙ ap (drop (length (expression_spelled e))) eq ∙ ap (λ n. drop n (expression_spelled d ++ rest)) f.1 ∙ drop-append_seam (expression_spelled d) rest,
+    )
 
 one_items : (is js : List Item) → AreItems is → AreItems js → items_spelled is ≡ items_spelled js → is ≡ js
 one_items [] [] h k eq = refl

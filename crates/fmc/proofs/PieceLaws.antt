@@ -1,10 +1,9 @@
 -- Pieces of a text, one after the other.
-use Rattle.std.proofs.Common.{◌≡◌, ℕ, zero, suc, ◌+◌, ◌<◌, ◌≤◌, max, Bool, true, false, cond, List, [], ◌∷◌, ◌++◌, length, take, drop, get_or, refl, sym, ap, ◌∙◌, arith, append_assoc}
+use Rattle.std.proofs.Common.{◌≡◌, ℕ, zero, suc, ◌<◌, max, Bool, true, false, cond, List, [], ◌∷◌, ◌++◌, length, take, drop, get_or, refl, sym, ap, ◌∙◌, arith, append_assoc}
 use Rattle.std.specs.Prelude.{Option, Some, None, option_and_then}
 use Rattle.std.specs.Option.{option_map}
-use Rattle.std.proofs.lemmas.Bool.{false≢true}
 use Rattle.fm_base.specs.declared.token.Token.{Token}
-use Rattle.fmc.specs.Pieces.{is_word_byte, begins_word, joined, pieces, EndsWord, token_of, tokens_in, tokens_of}
+use Rattle.fmc.specs.Pieces.{is_word_byte, joined, pieces, EndsWord, token_of, tokens_in, tokens_of}
 
 -- the pieces of what doesn't begin with a word have a first one that doesn't
 joined_other : (x : ℕ) (text : List ℕ) → (0 < length text → is_word_byte (get_or text 0 0) ≡ false) → joined x (pieces text) ≡ (x ∷ []) ∷ pieces text

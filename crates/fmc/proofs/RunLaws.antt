@@ -1,5 +1,5 @@
 -- A run of main, statement by statement.
-use Rattle.std.proofs.Common.{◌≡◌, ℕ, zero, suc, ◌+◌, ◌-◌, ◌<◌, ◌≤◌, Bool, true, false, cond, List, [], ◌∷◌, ◌++◌, length, refl, sym, ap, subst, ◌∙◌, arith, append_assoc, Result, Ok, Err}
+use Rattle.std.proofs.Common.{◌≡◌, ℕ, ◌+◌, List, [], ◌∷◌, ◌++◌, length, refl, sym, ap, subst, ◌∙◌}
 use Rattle.std.specs.Prelude.{Option, Some, None, slice_get, replicate}
 use Rattle.std.specs.List.{flat_map}
 use Rattle.std.specs.FinMap as finite
@@ -7,19 +7,19 @@ use Rattle.std.proofs.lemmas.List.{flat_map_more, append-nil}
 use Rattle.std.proofs.lemmas.Grind.{replicate_next}
 use Rattle.fm_base.specs.declared.fault.Fault.{Fault}
 use Rattle.fm_base.specs.Output.{line_text}
-use Rattle.fm_sched.specs.Schedule.{play, IsEnding, IsLegal, used, Leads}
+use Rattle.fm_sched.specs.Schedule.{IsEnding, Leads}
 use Rattle.fm_sched.proofs.Runs.{leads_nowhere, leads_further}
 use Rattle.fm_mean.specs.declared.tree.Placed.{Placed}
 use Rattle.fm_mean.specs.declared.tree.Stmt.{Stmt}
 use Rattle.fm_mean.specs.declared.tree.Stmt.TheVariants.{Program, Assign, Print, End}
-use Rattle.fm_mean.specs.Values.{Variables, value_of, printed_all}
-use Rattle.fm_mean.specs.Machine.{Place, State, Ask, Stop}
-use Rattle.fm_mean.specs.Meaning.{Proc, Phase, Running, Ended, Faulted, ask, ask_at, ask_entry, assigns, prints, faults, alone_to, step, first, alone}
-use Rattle.fm_mean.specs.Outcome.{outcome_of, report_text, ended_line, fault_line, fault_in, FaultAt, ended_at}
+use Rattle.fm_mean.specs.Values.{Variables}
+use Rattle.fm_mean.specs.Machine.{Place, State, Stop}
+use Rattle.fm_mean.specs.Meaning.{Proc, Running, Ended, Faulted, ask, ask_at, ask_entry, assigns, prints, faults, alone_to, step, first, alone}
+use Rattle.fm_mean.specs.Outcome.{ended_line, fault_line, fault_in, FaultAt, ended_at}
 use Rattle.fm_mean.proofs.Main.{main_steps, main_stops, main_found, report_alone, faults_alone}
 use Rattle.fmc.specs.declared.answer.Exit.{Exit}
 use Rattle.fmc.specs.declared.answer.Exit.TheVariants as exits
-use Rattle.fmc.specs.Run.{IsLawful, IsAction, IsActionAt, IsEndAt, IsDone, IsFaulted, Reports, exit_of, exit_by}
+use Rattle.fmc.specs.Run.{IsAction, IsActionAt, IsEndAt, IsDone, IsFaulted, Reports, exit_by}
 
 -- main runs at this entry
 abbrev pub running : ℕ → Variables → List (List ℕ) → Proc
@@ -109,7 +109,7 @@ pub reports_fault : (program : List Placed) (i : ℕ) (vs : Variables) (text mor
 reports_fault program i vs text more placed f so e d m =
     let y : Proc = record (running i vs so.lines) { phase = Faulted placed.line.0 f } in
     let l : Leads (step program) first (replicate (so.steps + 1) []) (alone y) (so.paid + 1) =
-        step_more program so.steps (running i vs so.lines) y so.paid 1 so.leads (asks_at program i vs so.lines placed e ∙ fault_asks program i placed.line.0 vs text so placed.stmt f d) in
+    step_more program so.steps (running i vs so.lines) y so.paid 1 so.leads (asks_at program i vs so.lines placed e ∙ fault_asks program i placed.line.0 vs text so placed.stmt f d) in
     subst (λ (k : ℕ). Reports program k exits.Faulted more) so.place
     (ended program (so.steps + 1) y (so.paid + 1) exits.Faulted more l refl refl
     (m ∙ ap (λ t. t ++ fault_line (record { place = []; line = placed.line.0; fault = f })) so.text_is ∙ ap (λ t. flat_map ended_line so.lines ++ t) (sym (append-nil (fault_line (record { place = []; line = placed.line.0; fault = f }))))))
@@ -122,7 +122,7 @@ pub reports_end : (program : List Placed) (i : ℕ) (vs : Variables) (text : Lis
 reports_end program i vs text so e =
     let y : Proc = record (running i vs so.lines) { phase = Ended } in
     let l : Leads (step program) first (replicate (so.steps + 1) []) (alone y) (so.paid + 1) =
-        step_more program so.steps (running i vs so.lines) y so.paid 1 so.leads (end_asks (running i vs so.lines) (slice_get program i) e) in
+    step_more program so.steps (running i vs so.lines) y so.paid 1 so.leads (end_asks (running i vs so.lines) (slice_get program i) e) in
     subst (λ (k : ℕ). Reports program k exits.Done text) so.place
     (ended program (so.steps + 1) y (so.paid + 1) exits.Done text l refl refl (so.text_is ∙ sym (append-nil (flat_map ended_line so.lines))))
 

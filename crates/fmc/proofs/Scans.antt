@@ -1,5 +1,5 @@
 -- The first line of a source, and what is kept of it.
-use Rattle.std.proofs.Common.{◌≡◌, ℕ, suc, zero, ◌<◌, true, false, cond, List, [], ◌∷◌, ◌++◌, length, take, drop, get_or, refl, ap, arith}
+use Rattle.std.proofs.Common.{◌≡◌, ℕ, suc, zero, ◌<◌, true, false, List, [], ◌∷◌, ◌++◌, length, take, drop, get_or, refl, ap, arith}
 use Rattle.std.specs.Prelude.{Option, Some, None, option_to_list}
 use Rattle.std.specs.List.{cons_option}
 use Rattle.std.proofs.Math.Dec.{eqb}

@@ -1,6 +1,6 @@
 -- What a call answers: exit, kept schedule and text, for the bytes of a source.
 -- Source: this profile.
-use Rattle.std.specs.Prelude.{◌≡◌, ◌≢◌, ◌⊎◌, ℕ, ◌<◌, ◌≤◌, Bool, true, false, not, List, [], ◌∷◌, ◌++◌, length, map, replicate, slice_get, Option, Some, None, is_none, option_and_then, codes}
+use Rattle.std.specs.Prelude.{◌≡◌, ◌≢◌, ◌⊎◌, ℕ, ◌<◌, ◌≤◌, false, List, [], ◌∷◌, ◌++◌, length, replicate, slice_get, Option, Some, None, is_none, option_and_then, codes}
 use Rattle.std.specs.Option.{option_map}
 use Rattle.std.specs.Arc.{arc_value}
 use Rattle.std.specs.declared.alloc.Global.{Global}
@@ -13,15 +13,14 @@ use Rattle.fm_base.specs.Rules.{refusal_text}
 use Rattle.fm_io.specs.Streams.{WritesFront}
 use Rattle.fm_sched.specs.Schedule.{play, IsLegal, IsEnding}
 use Rattle.fm_mean.specs.declared.tree.Placed.{Placed}
-use Rattle.fm_mean.specs.Machine.{Place, State}
-use Rattle.fm_mean.specs.Meaning.{Proc, step, first}
+use Rattle.fm_mean.specs.Machine.{Place}
+use Rattle.fm_mean.specs.Meaning.{step, first}
 use Rattle.fm_mean.specs.Outcome.{outcome_of, report_text}
 use Rattle.fmc.specs.declared.answer.Exit.{Exit}
 use Rattle.fmc.specs.declared.answer.Exit.TheVariants.{Done, Faulted, Deadlocked, Refused, Spent, Usage, ReadFault, WriteFault, NoMemory, TooLong, Malformed, Illegal, Unfinished}
 use Rattle.fmc.specs.declared.words.Command.{Command}
 use Rattle.fmc.specs.declared.words.Command.TheVariants.{Run}
 use Rattle.fmc.specs.Words.{command_of}
-use Rattle.fmc.specs.Exits.{is_usage}
 use Rattle.fmc.specs.Run.{exit_of}
 use Rattle.fmc.specs.Verdict.{IsVerdictOn, IsProgramOf}
 

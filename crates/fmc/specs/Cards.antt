@@ -1,6 +1,6 @@
 -- The statements of a source, each on a line of its own.
 -- Source: ANSI X3.9-1978, section 3.2 and 3.3; comment lines with `!` and lower-case letters by this profile.
-use Rattle.std.specs.Prelude.{ℕ, ◌==◌, ◌||◌, Bool, true, false, not, cond, List, [], ◌∷◌, take, drop, map, filter, Option, None, Some}
+use Rattle.std.specs.Prelude.{ℕ, ◌==◌, ◌||◌, Bool, false, not, cond, List, [], ◌∷◌, take, drop, map, filter, Option, None, Some}
 use Rattle.std.specs.List.{list_all, filter_map, enumerate_from}
 use Rattle.std.specs.Char.{to_ascii_uppercase}
 use Rattle.fmc.specs.declared.scan.Card.{Card}

@@ -1,6 +1,6 @@
 -- The lines of a source.
 -- Source: ANSI X3.9-1978, section 3.2 (lines of 72 columns), with this profile's ends of lines.
-use Rattle.std.specs.Prelude.{ℕ, zero, suc, ◌==◌, ◌-◌, ◌&&◌, cond, nat_lt, List, [], ◌∷◌, length, take, slice_index}
+use Rattle.std.specs.Prelude.{ℕ, ◌==◌, ◌-◌, ◌&&◌, cond, nat_lt, List, [], ◌∷◌, length, take, slice_index}
 
 -- a byte at the front of the first line
 abbrev pub onto : ℕ → List (List ℕ) → List (List ℕ)

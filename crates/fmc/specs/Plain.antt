@@ -1,6 +1,6 @@
 -- The term of a tree, where the tree is of this language.
 -- Source: this profile.
-use Rattle.std.specs.Prelude.{ℕ, Bool, cond, Option, None, Some, option_and_then}
+use Rattle.std.specs.Prelude.{cond, Option, None, Some, option_and_then}
 use Rattle.std.specs.Option.{option_map}
 use Rattle.fm_base.specs.declared.token.Op.{Op}
 use Rattle.fm_base.specs.declared.token.Op.TheVariants as op

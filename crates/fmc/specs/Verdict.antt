@@ -1,6 +1,6 @@
 -- Where the rules are broken, and the program of a source that breaks none.
 -- Source: ANSI X3.9-1978, sections 3.5 and 14.1; the numbers of rules by this profile.
-use Rattle.std.specs.Prelude.{◌≡◌, ℕ, ◌+◌, ◌<◌, ◌==◌, Bool, true, false, not, nat_lt, List, [], ◌∷◌, length, slice_get, Option, None, Some}
+use Rattle.std.specs.Prelude.{◌≡◌, ℕ, ◌+◌, ◌==◌, Bool, true, false, not, nat_lt, List, [], ◌∷◌, length, slice_get, Option, None, Some}
 use Rattle.std.specs.List.{filter_map}
 use Rattle.std.specs.Option.{option_map}
 use Rattle.fm_base.specs.declared.rule.Rule.{Rule}

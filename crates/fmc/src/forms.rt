@@ -132,7 +132,11 @@ fn whole(alloc: Global, tokens: &[Token]) -> Result<Option<Expr>, NoMemory>
     ensures { IfOk result (λ o. IsWhole tokens.now o) }
 {
     match in_front(alloc, tokens)? {
-        Some((expr, rest)) => if rest.is_empty() { Ok(Some(expr)) } else { Ok(None) },
+        Some((expr, rest)) => if rest.is_empty() {
+            Ok(Some(expr))
+        } else {
+            Ok(None)
+        },
         None => Ok(None),
     }
 }

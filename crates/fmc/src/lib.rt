@@ -12,13 +12,6 @@ mod scan;
 mod top;
 mod words;
 
-pub use answer::{Exit, Ran, Reply, Text};
-pub use check::{Statement, front};
-pub use forms::form;
-pub use frame::Frame;
-pub use pieces::{is_word, tokens};
-pub use play::{Played, run};
-pub use response::reply;
-pub use scan::{Card, cards};
+pub use answer::{Exit, Ran};
 pub use top::{fmc, one_verdict};
 pub use words::{Command, command_of};

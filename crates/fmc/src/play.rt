@@ -9,7 +9,9 @@ ghost use Rattle.fmc.specs.Run.{IsLawful, IsAction, Assigns, Prints, IsDone, IsF
 
 use crate::answer::Exit;
 use crate::frame::Frame;
-use fm_base::{Fault, Line, Name, NoMemory, Printed, Seq, add, multiply, negate, output_line, subtract};
+use fm_base::{
+    Fault, Line, Name, NoMemory, Printed, Seq, add, multiply, negate, output_line, subtract,
+};
 use fm_mean::{Expr, Item, Node, Operator, Placed, Sign, Stmt};
 use std::alloc::Global;
 

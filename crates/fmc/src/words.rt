@@ -21,7 +21,11 @@ pub fn command_of(words: &[&str]) -> Option<Command>
     ensures { result ≡ command_of (map (λ w. w.now) words.now) }
 {
     match words {
-        [word] => if is_run(word) { Some(Command::Run) } else { None },
+        [word] => if is_run(word) {
+            Some(Command::Run)
+        } else {
+            None
+        },
         _ => None,
     }
 }

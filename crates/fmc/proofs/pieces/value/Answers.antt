@@ -1,4 +1,4 @@
-use Rattle.std.proofs.Common.{arith, sym, ◌∙◌, ap, ◌<◌, ◌≡◌, ◌^◌, length, take}
+use Rattle.std.proofs.Common.{arith, ◌∙◌, ap, ◌≡◌, take}
 use Rattle.std.specs.Str.Parse.{digits_value}
 use Rattle.fmc.proofs.Digits.{value_more, numeral_small, take_all}
 use Rattle.fmc.proofs.pieces.value.Goals as goal

@@ -1,10 +1,6 @@
-use Rattle.std.proofs.Common.{◌≡◌, sym, ap, ◌∙◌, arith, List, drop, length}
-use Rattle.std.specs.Prelude.{Ok}
-use Rattle.std.proofs.Math.Seq.{drop-length}
-use Rattle.fm_base.specs.declared.output.Printed.{Printed}
-use Rattle.fm_mean.specs.declared.tree.Item.{Item}
+use Rattle.std.proofs.Common.{sym, ◌∙◌, arith}
 use Rattle.fm_mean.specs.Values.{printed_all}
-use Rattle.fmc.proofs.PrintLaws.{behind, behind_nothing, behind_all, printed_more, printed_stops, at_end}
+use Rattle.fmc.proofs.PrintLaws.{behind_nothing, printed_more, printed_stops, at_end}
 use Rattle.fmc.proofs.play.printed_list.Goals as goal
 
 pub loop-item-init : goal.loop-item-init

@@ -1,4 +1,4 @@
-use Rattle.std.proofs.Common.{sym, subst, ◌∙◌, ap, arith, length, List, ℕ, ◌<◌, ◌≡◌}
+use Rattle.std.proofs.Common.{sym, subst, arith, List, ℕ, ◌≡◌}
 use Rattle.std.proofs.lemmas.Result.{IfOk-weaker}
 use Rattle.fm_mean.specs.declared.tree.Placed.{Placed}
 use Rattle.fmc.specs.Verdict.{IsProgramOf}

@@ -1,4 +1,4 @@
-use Rattle.std.proofs.Common.{rules, ℤ, pos, List, ℕ, ◌∙◌, ap, sym, w64}
+use Rattle.std.proofs.Common.{rules, ℤ, pos, ◌∙◌, ap, sym, w64}
 use Rattle.std.specs.Prelude.{unwrap_or, option_copied, Option}
 use Rattle.std.specs.FinMap.{get, FinMap}
 use Rattle.std.specs.Ordering.{nat_cmp}

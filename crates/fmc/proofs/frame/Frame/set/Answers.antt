@@ -1,4 +1,4 @@
-use Rattle.std.proofs.Common.{List, ℕ, ℤ, ◌∙◌, ap, sym, w64, to_z, of_z}
+use Rattle.std.proofs.Common.{List, ℕ, ℤ, ◌∙◌, ap, w64, to_z, of_z}
 use Rattle.std.specs.FinMap as map
 use Rattle.std.proofs.lemmas.Int.{to_z-of_z}
 use Rattle.fmc.proofs.Frames.{put_view, view_of}
