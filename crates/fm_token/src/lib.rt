@@ -1,0 +1,10 @@
+//! The class of a statement's text, and its cut into tokens. A text is what `fm_cards` gives:
+//! without blanks and in upper case outside of character constants.
+#![tactic(auto)]
+
+mod classes;
+mod pieces;
+mod places;
+mod statements;
+
+pub use classes::class;
