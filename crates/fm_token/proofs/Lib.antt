@@ -1,0 +1,4 @@
+mod Cuts
+mod Fixed
+mod Longest
+mod Numbers

@@ -1,10 +1,9 @@
 -- Tokens: which pieces of a text are one, and the cut of a text into the longest tokens from the left.
 -- Source: ANSI X3.9-1978, sections 3.2 (names and numbers), 4.8 (character constants) and 6 (operators).
-use Rattle.std.specs.Prelude.{◌≡◌, ℕ, suc, zero, ◌-◌, ◌^◌, ◌<◌, ◌≤◌, pos, Bool, true, false, ◌||◌, Option, Some, None, List, [], ◌∷◌, ◌++◌, ◌==◌, if◌then◌else◌, nat_eq, nat_lt, take, drop, length, map, find}
+use Rattle.std.specs.Prelude.{◌≡◌, ℕ, suc, zero, ◌+◌, ◌-◌, ◌*◌, ◌^◌, ◌<◌, ◌≤◌, pos, Bool, true, false, not, ◌&&◌, ◌||◌, Option, Some, None, List, [], ◌∷◌, ◌++◌, ◌==◌, if◌then◌else◌, nat_eq, nat_lt, take, drop, length, map, find}
 use Rattle.std.specs.List.{list_all}
 use Rattle.std.specs.Option.{option_map}
 use Rattle.std.specs.Char.{is_ascii_uppercase, is_ascii_digit}
-use Rattle.std.specs.Str.Parse.{digits_value}
 use Rattle.fm_base.specs.declared.token.Op.{Op}
 use Rattle.fm_base.specs.declared.token.Op.TheVariants as op
 use Rattle.fm_base.specs.declared.token.Token.{Token}
@@ -16,37 +15,54 @@ use Rattle.fm_token.specs.Classes.{is_word}
 abbrev pub is_name_byte : ℕ → Bool
 is_name_byte b = is_ascii_uppercase b || (is_ascii_digit b || (b == 95))
 
+-- the number that the digits make behind those of n
+abbrev pub digits_number : ℕ → List ℕ → ℕ
+digits_number n [] = n
+digits_number n (b ∷ bs) = digits_number (10 * n + (b - 48)) bs
+
 abbrev pub number_token : ℕ → Token
 number_token n = if nat_lt n (2 ^ 63) then Number (pos n) else Big
 
-abbrev pub put : ℕ → Option (List ℕ) → Option (List ℕ)
-put b None = None
-put b (Some bytes) = Some (b ∷ bytes)
+abbrev pub with_front : {X : Type 0} → List X → Option (List X) → Option (List X)
+with_front front None = None
+with_front front (Some items) = Some (front ++ items)
 
--- The bytes of a constant, from what stands behind its first apostrophe.
--- `waiting`: an apostrophe was read that closes the constant, or is the first of two that stand for one.
+-- Inside a constant, `waiting`: an apostrophe was read that closes it or is the first of two that stand for one.
+-- The byte that stands next is kept unless it is the first of two.
+abbrev pub kept : Bool → ℕ → List ℕ
+kept waiting b = if waiting || not (b == 39) then b ∷ [] else []
+
+abbrev pub is_waiting : Bool → ℕ → Bool
+is_waiting waiting b = (b == 39) && not waiting
+
+-- the bytes of a constant, from what stands behind its first apostrophe to its end
 abbrev pub constant_bytes : Bool → List ℕ → Option (List ℕ)
-constant_bytes true [] = Some []
-constant_bytes false [] = None
-constant_bytes true (b ∷ bs) = if b == 39 then put 39 (constant_bytes false bs) else None
-constant_bytes false (b ∷ bs) = if b == 39 then constant_bytes true bs else put b (constant_bytes false bs)
+constant_bytes waiting [] = if waiting then Some [] else None
+constant_bytes waiting (b ∷ bs) =
+    if waiting && not (b == 39) then None else with_front (kept waiting b) (constant_bytes (is_waiting waiting b) bs)
 
 unfoldable pub operators : List Op
 operators = op.Eqv ∷ op.Neqv ∷ op.Or ∷ op.And ∷ op.Not ∷ op.Eq ∷ op.Ne ∷ op.Lt ∷ op.Le ∷ op.Gt ∷ op.Ge ∷ op.Add ∷ op.Sub ∷ op.Mul ∷ op.Div ∷ op.Pow ∷ []
 
--- the tokens that are always written alike
+-- the tokens without operators that are always written alike
+unfoldable pub bare_tokens : List Token
+bare_tokens = Open ∷ Close ∷ Comma ∷ Equals ∷ Colon ∷ True ∷ False ∷ []
+
 unfoldable pub fixed_tokens : List Token
-fixed_tokens = Open ∷ Close ∷ Comma ∷ Equals ∷ Colon ∷ True ∷ False ∷ map Sign operators
+fixed_tokens = bare_tokens ++ map Sign operators
+
+abbrev pub is_spelled : List ℕ → Token → Bool
+is_spelled piece token = is_word piece (token_text token)
 
 unfoldable pub fixed_token : List ℕ → Option Token
-fixed_token piece = find (λ (t : Token). is_word piece (token_text t)) fixed_tokens
+fixed_token piece = find (is_spelled piece) fixed_tokens
 
 -- the token that the whole piece is, if it is one
 unfoldable pub token_at : List ℕ → Option Token
 token_at [] = None
 token_at (b ∷ bs) =
     if is_ascii_uppercase b then if list_all is_name_byte bs then Some (Named (b ∷ bs)) else None
-    else if is_ascii_digit b then if list_all is_ascii_digit bs then Some (number_token (digits_value 10 (b ∷ bs))) else None
+    else if is_ascii_digit b then if list_all is_ascii_digit bs then Some (number_token (digits_number 0 (b ∷ bs))) else None
     else if b == 39 then option_map Constant (constant_bytes false bs) else fixed_token (b ∷ bs)
 
 -- the first n bytes are the token, and no longer beginning is one
@@ -75,10 +91,6 @@ longest_within (suc n) text = or_shorter (sized (suc n) (token_at (take (suc n) 
 
 unfoldable pub longest : List ℕ → Option (ℕ × Token)
 longest text = longest_within (length text) text
-
-abbrev pub with_front : List Token → Option (List Token) → Option (List Token)
-with_front front None = None
-with_front front (Some tokens) = Some (front ++ tokens)
 
 -- a first token, and the cut behind it
 abbrev pub cut_from : Option (ℕ × Token) → (ℕ → Option (List Token)) → Option (List Token)

@@ -36,15 +36,15 @@ abbrev pub keyed : Class → Option (List Token) → Option (List Token)
 keyed Nothing cut = None
 keyed class cut = with_front (key_of class) cut
 
-unfoldable pub plain_tokens : List ℕ → Option (List Token)
-plain_tokens text = keyed (class_of text) (cut_of (behind_key text))
+unfoldable pub keyed_tokens : List ℕ → Option (List Token)
+keyed_tokens text = keyed (class_of text) (cut_of (behind_key text))
 
 abbrev pub joined : Option (List Token) → Option (List Token) → Option (List Token)
 joined None behind = None
 joined (Some test) behind = with_front (Key LogicalIf ∷ test) behind
 
 abbrev pub tokens_from : List ℕ → Option ℕ → (ℕ → Option (List Token)) → Option (List Token)
-tokens_from text None behind = plain_tokens text
+tokens_from text None behind = keyed_tokens text
 tokens_from text (Some n) behind = joined (cut_of (test_of n text)) (behind (n - 1))
 
 -- the tokens of what stands behind the first n bytes

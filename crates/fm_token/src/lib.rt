@@ -3,8 +3,9 @@
 #![tactic(auto)]
 
 mod classes;
+mod front;
 mod pieces;
 mod places;
-mod statements;
+mod scan;
 
 pub use classes::class;
