@@ -11,6 +11,7 @@ use Rattle.fm_base.specs.declared.token.Token.{Token}
 use Rattle.fm_base.specs.declared.token.Token.TheVariants.{Named, Constant, Sign}
 use Rattle.fm_base.specs.declared.token.Op.TheVariants.{Pow}
 use Rattle.fm_token.specs.Pieces.{is_name_byte, constant_bytes, is_waiting, kept, with_front, digits_number, number_token, operators, bare_tokens, fixed_tokens, fixed_token, token_at, sized, or_shorter, longest_within, longest}
+use Rattle.fm_token.proofs.Cuts.{behind_none}
 use Rattle.fm_token.proofs.Fixed.{and_left, and_right, may_follow_star, is_nil, ends_at_dot, may_be_fixed, not_fixed}
 use Rattle.fm_token.specs.Scan.{candidate, constant_end, dot_end, sign_length}
 
@@ -95,10 +96,6 @@ unfolding longest
 nowhere b bs h = within_none (suc (length bs)) (b ∷ bs) (λ m l. h m (omega arith))
 
 -- constants: what stands behind the first apostrophe
-front_some : (front : List ℕ) (o : Option (List ℕ)) → with_front front o ≡ None → o ≡ None
-front_some front None e = refl
-front_some front (Some x) e = cc
-
 record EndsAt (waiting : Bool) (bs : List ℕ) (n : ℕ) : Type 0 where
   some : 0 < n
   within : n ≤ length bs
@@ -122,7 +119,7 @@ ended_on bs front waiting k end now b found h (inr (n, is, at)) =
       some = omega arith;
       within = omega (arith, at.within);
       longer = longer;
-      here = λ e. at.here (front_some front _ (sym (h (take n bs)) ∙ e));
+      here = λ e. at.here (behind_none front _ (sym (h (take n bs)) ∙ e));
     })
   where
     longer : (m : ℕ) → suc n < m → m ≤ suc (length bs) → constant_bytes waiting (take m (b ∷ bs)) ≡ None
@@ -134,7 +131,7 @@ ended_on bs front waiting k end true b found h (inl (is, none)) =
       some = omega arith;
       within = omega arith;
       longer = longer;
-      here = λ e. let clash : Some [] ≡ None = front_some front (Some []) (sym (h []) ∙ e) in cc;
+      here = λ e. let clash : Some [] ≡ None = behind_none front (Some []) (sym (h []) ∙ e) in cc;
     })
   where
     longer : (m : ℕ) → suc zero < m → m ≤ suc (length bs) → constant_bytes waiting (take m (b ∷ bs)) ≡ None
@@ -216,22 +213,15 @@ abbrev pub at_candidate : List ℕ → Option ℕ → Option (ℕ × Token)
 at_candidate text None = None
 at_candidate text (Some n) = sized n (token_at (take n text))
 
-pub record IsTried (text : List ℕ) (found : Option ℕ) : Type 0 where
-  pub same : longest text ≡ at_candidate text found
-  pub within : (n : ℕ) → found ≡ Some n → (0 < n) × (n ≤ length text)
+abbrev pub IsTried : List ℕ → Option ℕ → Type 0
+IsTried text found = longest text ≡ at_candidate text found
 
-tried : (b : ℕ) (bs : List ℕ) (n k : ℕ) → k ≡ suc n → n ≤ length bs → longest (b ∷ bs) ≡ sized (suc n) (token_at (b ∷ take n bs)) → IsTried (b ∷ bs) (Some k)
-tried b bs n k e l h = record {
-  same = h ∙ ap (λ (m : ℕ). at_candidate (b ∷ bs) (Some m)) (sym e);
-  within = λ m f. let is : k ≡ m = cc in (omega arith, omega arith);
-}
-
-untried : (text : List ℕ) → longest text ≡ None → IsTried text None
-untried text h = record { same = h; within = λ m f. absurd (cc) }
+tried : (b : ℕ) (bs : List ℕ) (n k : ℕ) → k ≡ suc n → longest (b ∷ bs) ≡ sized (suc n) (token_at (b ∷ take n bs)) → IsTried (b ∷ bs) (Some k)
+tried b bs n k e h = h ∙ ap (λ (m : ℕ). at_candidate (b ∷ bs) (Some m)) (sym e)
 
 tried_span : (p : ℕ → Bool) (t : List ℕ → Token) (b : ℕ) (bs : List ℕ) → ((xs : List ℕ) → token_at (b ∷ xs) ≡ found_if (list_all p xs) (t xs))
     → IsTried (b ∷ bs) (Some (prefix_len p bs + 1))
-tried_span p t b bs h = tried b bs (prefix_len p bs) _ (omega arith) (prefix_len-le-length p bs) (at_span p t b bs h)
+tried_span p t b bs h = tried b bs (prefix_len p bs) _ (omega arith) (at_span p t b bs h)
 
 constant_none : (o : Option (List ℕ)) → option_map Constant o ≡ None → o ≡ None
 constant_none None e = refl
@@ -240,13 +230,13 @@ constant_none (Some x) e = cc
 tried_constant : (b : ℕ) (bs : List ℕ) (found : Option ℕ) → ((xs : List ℕ) → token_at (b ∷ xs) ≡ option_map Constant (constant_bytes false xs))
     → Ended false 1 None bs found → IsTried (b ∷ bs) found
 unfolding Ended EndsNowhere
-tried_constant b bs found h (inl (is, none)) = subst (IsTried (b ∷ bs)) (sym is) (untried (b ∷ bs) (nowhere b bs at))
+tried_constant b bs found h (inl (is, none)) = subst (IsTried (b ∷ bs)) (sym is) (nowhere b bs at)
   where
     at : (m : ℕ) → m ≤ length bs → token_at (b ∷ take m bs) ≡ None
     at zero l = h []
     at (suc m) l = h (take (suc m) bs) ∙ ap (option_map Constant) (none (suc m) (omega arith) l)
 tried_constant b bs found h (inr (n, is, ends)) =
-    subst (IsTried (b ∷ bs)) (sym is) (tried b bs n (1 + n) (omega arith) ends.within (longest_at b bs n ends.within
+    subst (IsTried (b ∷ bs)) (sym is) (tried b bs n (1 + n) (omega arith) (longest_at b bs n ends.within
     (λ m l k. h (take m bs) ∙ ap (option_map Constant) (ends.longer m l k))
     (λ e. absurd (ends.here (constant_none _ (sym (h (take n bs)) ∙ e))))))
 
@@ -257,9 +247,9 @@ tried_dot : (b : ℕ) (bs : List ℕ) (found : Option ℕ) → eqb b 46 ≡ true
     → Dotted 1 bs found → IsTried (b ∷ bs) found
 unfolding Dotted
 tried_dot b bs found e h (inl (is, none)) =
-    subst (IsTried (b ∷ bs)) (sym is) (untried (b ∷ bs) (nowhere b bs (λ m l. h (take m bs) ∙ none_but_dot b (take m bs) e (none m l))))
+    subst (IsTried (b ∷ bs)) (sym is) (nowhere b bs (λ m l. h (take m bs) ∙ none_but_dot b (take m bs) e (none m l)))
 tried_dot b bs found e h (inr (n, is, at)) =
-    subst (IsTried (b ∷ bs)) (sym is) (tried b bs n (1 + n) (omega arith) at.within (longest_at b bs n at.within
+    subst (IsTried (b ∷ bs)) (sym is) (tried b bs n (1 + n) (omega arith) (longest_at b bs n at.within
     (λ m l k. h (take m bs) ∙ none_but_dot b (take m bs) e (at.only m (λ r. omega arith) k))
     (λ z m l. h (take m bs) ∙ none_but_dot b (take m bs) e (at.only m (λ r. omega arith) (omega (arith, at.within))))))
 
@@ -294,12 +284,12 @@ one_sign b c cs e (suc m) l k = go (eqb b 42) (eqb c 42) (is_nil (take m cs)) e
 
 tried_sign : (b : ℕ) (bs : List ℕ) → eqb b 46 ≡ false → ((xs : List ℕ) → token_at (b ∷ xs) ≡ fixed_token (b ∷ xs)) → IsTried (b ∷ bs) (Some (sign_length b bs))
 tried_sign b [] e h =
-    tried b [] zero 1 refl (omega arith) (tried_short b [] zero e (omega arith) h (λ m p q. absurd (omega arith)) (λ z m p. absurd (omega arith)))
+    tried b [] zero 1 refl (tried_short b [] zero e (omega arith) h (λ m p q. absurd (omega arith)) (λ z m p. absurd (omega arith)))
 tried_sign b (c ∷ cs) e h =
     elim (eqb b 42 && eqb c 42) as (λ t. (eqb b 42 && eqb c 42) ≡ t → IsTried (b ∷ c ∷ cs) (Some (cond t 2 1))) [
-      | true ↦ λ s. tried b (c ∷ cs) (suc zero) 2 refl (omega arith) (tried_short b (c ∷ cs) (suc zero) e (omega arith) h
+      | true ↦ λ s. tried b (c ∷ cs) (suc zero) 2 refl (tried_short b (c ∷ cs) (suc zero) e (omega arith) h
           (two_stars b c cs (and_left _ _ s)) (λ z. absurd (power_is b c (and_left _ _ s) (and_right _ _ s) z)))
-      | false ↦ λ s. tried b (c ∷ cs) zero 1 refl (omega arith) (tried_short b (c ∷ cs) zero e (omega arith) h (one_sign b c cs s) (λ z m p. absurd (omega arith)))
+      | false ↦ λ s. tried b (c ∷ cs) zero 1 refl (tried_short b (c ∷ cs) zero e (omega arith) h (one_sign b c cs s) (λ z m p. absurd (omega arith)))
     ] refl
 
 abbrev other : ℕ → List ℕ → Option ℕ
@@ -322,7 +312,7 @@ is_tried_other b bs u d =
 -- what the scan tries is the longest token, if there is one
 pub is_tried : (text : List ℕ) → IsTried text (candidate text)
 unfolding candidate
-is_tried [] = untried [] longest_nil
+is_tried [] = longest_nil
 is_tried (b ∷ bs) =
     elim (is_ascii_uppercase b) as (λ t. is_ascii_uppercase b ≡ t → IsTried (b ∷ bs) (cond t (Some (prefix_len is_name_byte bs + 1)) (cond (is_ascii_digit b) (Some (prefix_len is_ascii_digit bs + 1)) (other b bs)))) [
       | true ↦ λ u. tried_span is_name_byte (λ xs. Named (b ∷ xs)) b bs (λ xs. at_letter b xs u)
@@ -331,3 +321,7 @@ is_tried (b ∷ bs) =
         | false ↦ λ d. is_tried_other b bs u d
       ] refl
     ] refl
+
+-- the same of the scan's answer
+pub tried_as : (text : List ℕ) (found : Option ℕ) → found ≡ candidate text → longest text ≡ at_candidate text found
+tried_as text found e = is_tried text ∙ ap (at_candidate text) (sym e)

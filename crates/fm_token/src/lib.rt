@@ -7,5 +7,7 @@ mod front;
 mod pieces;
 mod places;
 mod scan;
+mod statements;
 
 pub use classes::class;
+pub use statements::{TokenFail};
