@@ -29,10 +29,10 @@ fixed_bare piece t e = sym (find-append (is_spelled piece) bare_tokens (map Sign
 pub fixed_operator : (piece : List ℕ) → find (is_spelled piece) bare_tokens ≡ None → sign_found piece ≡ fixed_token piece
 unfolding fixed_token fixed_tokens
 fixed_operator piece e = sym (
-  find-append (is_spelled piece) bare_tokens (map Sign operators)
-      ∙ ap (λ (o : Option Token). option_or o (find (is_spelled piece) (map Sign operators))) e
-      ∙ find-map Sign (is_spelled piece) operators
-)
+    find-append (is_spelled piece) bare_tokens (map Sign operators)
+    ∙ ap (λ (o : Option Token). option_or o (find (is_spelled piece) (map Sign operators))) e
+    ∙ find-map Sign (is_spelled piece) operators
+    )
 
 -- what the code finds among its own list of operators
 pub fixed_sign : (piece : List ℕ) (o : Option Op) → o ≡ find (λ (x : Op). is_word piece (op_text x)) operators → find (is_spelled piece) bare_tokens ≡ None

@@ -1,4 +1,7 @@
+mod CutLaws
 mod Cuts
 mod Fixed
 mod Longest
 mod Numbers
+mod TokenLaws
+mod TokenSteps

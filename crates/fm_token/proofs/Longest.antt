@@ -20,7 +20,7 @@ within_none zero text h = refl
 within_none (suc n) text h =
     ap (λ (o : Option Token). or_shorter (sized (suc n) o) (longest_within n text)) (h n (omega arith)) ∙ within_none n text (λ m l. h m (omega arith))
 
-within_less : (n k : ℕ) (text : List ℕ) → n ≤ k → ((m : ℕ) → n ≤ m → m < k → token_at (take (suc m) text) ≡ None) → longest_within k text ≡ longest_within n text
+pub within_less : (n k : ℕ) (text : List ℕ) → n ≤ k → ((m : ℕ) → n ≤ m → m < k → token_at (take (suc m) text) ≡ None) → longest_within k text ≡ longest_within n text
 within_less n zero text l h = let e : 0 ≡ n = omega arith in ap (λ (k : ℕ). longest_within k text) e
 within_less n (suc k) text l h =
     elim (eqb n (suc k)) as (λ b. eqb n (suc k) ≡ b → longest_within (suc k) text ≡ longest_within n text) [
@@ -115,24 +115,32 @@ ended_on : (bs front : List ℕ) (waiting : Bool) (k : ℕ) (end : Option ℕ) (
 unfolding Ended EndsNowhere
 ended_on bs front waiting k end now b found h (inr (n, is, at)) =
     let place : k + 1 + n ≡ k + suc n = omega arith in
-    inr (suc n, is ∙ ap Some place, record {
-      some = omega arith;
-      within = omega (arith, at.within);
-      longer = longer;
-      here = λ e. at.here (behind_none front _ (sym (h (take n bs)) ∙ e));
-    })
+    inr (
+      suc n,
+      is ∙ ap Some place,
+      record {
+        some = omega arith;
+        within = omega (arith, at.within);
+        longer = longer;
+        here = λ e. at.here (behind_none front _ (sym (h (take n bs)) ∙ e));
+      },
+    )
   where
     longer : (m : ℕ) → suc n < m → m ≤ suc (length bs) → constant_bytes waiting (take m (b ∷ bs)) ≡ None
     longer zero p q = absurd (omega arith)
     longer (suc m) p q = h (take m bs) ∙ ap (with_front front) (at.longer m (omega arith) (omega arith))
 ended_on bs front waiting k end true b found h (inl (is, none)) =
     let place : k + 1 ≡ k + suc zero = omega arith in
-    inr (suc zero, is ∙ ap Some place, record {
-      some = omega arith;
-      within = omega arith;
-      longer = longer;
-      here = λ e. let clash : Some [] ≡ None = behind_none front (Some []) (sym (h []) ∙ e) in cc;
-    })
+    inr (
+      suc zero,
+      is ∙ ap Some place,
+      record {
+        some = omega arith;
+        within = omega arith;
+        longer = longer;
+        here = λ e. let clash : Some [] ≡ None = behind_none front (Some []) (sym (h []) ∙ e) in cc;
+      },
+    )
   where
     longer : (m : ℕ) → suc zero < m → m ≤ suc (length bs) → constant_bytes waiting (take m (b ∷ bs)) ≡ None
     longer zero p q = absurd (omega arith)
@@ -149,7 +157,7 @@ unfolding Ended EndsNowhere
 ended [] waiting k end = inl (refl, λ m p q. absurd (omega arith))
 ended (b ∷ bs) waiting k end =
     elim (waiting && not (eqb b 39)) as (λ t. (waiting && not (eqb b 39)) ≡ t
-        → Ended waiting k end (b ∷ bs) (cond t end (constant_end (is_waiting waiting b) (k + 1) (cond (is_waiting waiting b) (Some (k + 1)) end) bs))) [
+    → Ended waiting k end (b ∷ bs) (cond t end (constant_end (is_waiting waiting b) (k + 1) (cond (is_waiting waiting b) (Some (k + 1)) end) bs))) [
       | true ↦ λ e. inl (refl, stopped e)
       | false ↦ λ e. ended_on bs (kept waiting b) waiting k end (is_waiting waiting b) b _
           (λ xs. ap (λ t. cond t None (with_front (kept waiting b) (constant_bytes (is_waiting waiting b) xs))) e)

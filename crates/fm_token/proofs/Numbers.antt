@@ -15,7 +15,7 @@ pub stays_big : (n b i m : ℕ) (digits : List ℕ) → i < length digits → b 
     → Big ≡ number_token m
 stays_big n b i m digits l d h e =
     let s : digits_number n (b ∷ drop (i + 1) digits) ≡ m =
-        ap (λ (x : ℕ). digits_number n (x ∷ drop (i + 1) digits)) d ∙ sym (at_drop_more (digits_number n) digits i 0 l) ∙ e in
+    ap (λ (x : ℕ). digits_number n (x ∷ drop (i + 1) digits)) d ∙ sym (at_drop_more (digits_number n) digits i 0 l) ∙ e in
     let g : 10 * n + (b - 48) ≤ digits_number (10 * n + (b - 48)) (drop (i + 1) digits) = grows (10 * n + (b - 48)) (drop (i + 1) digits) in
     let k : 2 ^ 63 ≤ m = omega arith in
     sym (ap (λ t. cond t (Number (pos m)) Big) (le-ltb m (2 ^ 63) k))

@@ -1,18 +1,17 @@
 -- The tokens of a statement: its keyword, and the cut of what stands behind.
 -- Source: ANSI X3.9-1978, section 3.3 (statements), and this profile for the words of Fortran M.
-use Rattle.std.specs.Prelude.{◌≡◌, ◌≢◌, ◌↔◌, ℕ, suc, zero, ◌-◌, Bool, true, false, Option, Some, None, List, [], ◌∷◌, ◌++◌, if◌then◌else◌, take, drop, length}
+use Rattle.std.specs.Prelude.{◌≡◌, ◌≢◌, ◌↔◌, ℕ, suc, zero, ◌-◌, Bool, true, false, Option, Some, None, List, [], ◌∷◌, ◌++◌, ◌==◌, if◌then◌else◌, take, drop, length}
 use Rattle.fm_base.specs.declared.token.Class.{Class}
-use Rattle.fm_base.specs.declared.token.Class.TheVariants.{Assignment, LogicalIf, Nothing}
+use Rattle.fm_base.specs.declared.token.Class.TheVariants.{LogicalIf, Nothing}
 use Rattle.fm_base.specs.declared.token.Token.{Token}
 use Rattle.fm_base.specs.declared.token.Token.TheVariants.{Key}
 use Rattle.fm_base.specs.Tokens.{keyword_text}
 use Rattle.fm_token.specs.Classes.{class_of, logical_end}
 use Rattle.fm_token.specs.Pieces.{IsCut, cut_of, with_front}
 
--- an assignment has no keyword
+-- its keyword, where the class has one: an assignment has none
 abbrev pub key_of : Class → List Token
-key_of Assignment = []
-key_of class = Key class ∷ []
+key_of class = if length (keyword_text class) == 0 then [] else Key class ∷ []
 
 -- what stands behind the keyword
 abbrev pub behind_key : List ℕ → List ℕ
@@ -25,16 +24,19 @@ test_of n text = drop 2 (take n text)
 -- the tokens of a text that has a class: those of the statement in a logical IF follow those of its test
 pub data IsTokens : List ℕ → List Token → Type 0 where
   plain : {text : List ℕ} {tokens : List Token} (cut : List Token)
-    → logical_end text ≡ None → class_of text ≢ Nothing → IsCut (behind_key text) cut → tokens ≡ key_of (class_of text) ++ cut
-    → IsTokens text tokens
+      → logical_end text ≡ None → class_of text ≢ Nothing → IsCut (behind_key text) cut → tokens ≡ key_of (class_of text) ++ cut
+      → IsTokens text tokens
   logical : {text : List ℕ} {tokens : List Token} (n : ℕ) (test behind : List Token)
-    → logical_end text ≡ Some n → IsCut (test_of n text) test → IsTokens (drop n text) behind → tokens ≡ Key LogicalIf ∷ (test ++ behind)
-    → IsTokens text tokens
+      → logical_end text ≡ Some n → IsCut (test_of n text) test → IsTokens (drop n text) behind → tokens ≡ Key LogicalIf ∷ (test ++ behind)
+      → IsTokens text tokens
 
 -- the same as a function
+abbrev pub is_nothing : Class → Bool
+is_nothing Nothing = true
+is_nothing class = false
+
 abbrev pub keyed : Class → Option (List Token) → Option (List Token)
-keyed Nothing cut = None
-keyed class cut = with_front (key_of class) cut
+keyed class cut = if is_nothing class then None else with_front (key_of class) cut
 
 unfoldable pub keyed_tokens : List ℕ → Option (List Token)
 keyed_tokens text = keyed (class_of text) (cut_of (behind_key text))

@@ -80,7 +80,7 @@ fn is_then(behind: &[u8]) -> bool
 #[tactic(auto, unfolding(crate::specs::Classes::condition_end))]
 pub fn condition_end(text: &[u8]) -> Option<usize>
     ensures at { result ≡ condition_end text.now }
-    ensures within { IfSome result (λ n. n ≤ length text.now) }
+    ensures within { IfSome result (λ n. (0 < n) × (n ≤ length text.now)) }
 {
     if !begins(text, b"IF(") {
         return None;
@@ -98,7 +98,7 @@ pub fn condition_end(text: &[u8]) -> Option<usize>
 #[tactic(auto, unfolding(crate::specs::Classes::logical_end))]
 pub fn logical_end(text: &[u8]) -> Option<usize>
     ensures at { result ≡ logical_end text.now }
-    ensures within { IfSome result (λ n. n ≤ length text.now) }
+    ensures within { IfSome result (λ n. (0 < n) × (n ≤ length text.now)) }
 {
     match condition_end(text) {
         None => None,

@@ -10,4 +10,7 @@ mod scan;
 mod statements;
 
 pub use classes::class;
-pub use statements::{TokenFail};
+pub use statements::{TokenFail, tokens, tokens_are_one};
+
+#[cfg(test)]
+mod tests;

@@ -1,6 +1,6 @@
 //! Places of a text, and what stands before them.
 
-ghost use Rattle.std.specs.Prelude.{◌≡◌, ◌+◌, ◌<◌, ◌≤◌, length, MatchOption, None, Some};
+ghost use Rattle.std.specs.Prelude.{◌≡◌, ◌+◌, ◌<◌, ◌≤◌, length, IfSome};
 ghost use Rattle.fm_token.specs.Places.{after, close_of, has_top, is_inside, is_last_close, is_top, start};
 
 /// What stands before a place of a text.
@@ -73,7 +73,7 @@ pub fn has_top(text: &[u8], sign: u8) -> bool
 /// How many bytes there are up to and with the parenthesis that closes the first one.
 pub fn close_of(text: &[u8]) -> Option<usize>
     ensures at { result ≡ close_of text.now }
-    ensures within { MatchOption result (None ≡ close_of text.now) (λ n. n ≤ length text.now) }
+    ensures within { IfSome result (λ n. (0 < n) × (n ≤ length text.now)) }
 {
     let mut before = START;
     for (i, byte) in text.iter().enumerate() {

@@ -22,7 +22,10 @@ fn digits_length(bytes: &[u8]) -> usize
     ensures at { result ≡ prefix_len is_ascii_digit bytes.now }
     ensures within { result ≤ length bytes.now }
 {
-    bytes.iter().take_while(|byte| byte.is_ascii_digit()).count()
+    bytes
+        .iter()
+        .take_while(|byte| byte.is_ascii_digit())
+        .count()
 }
 
 // From what stands behind the first apostrophe.
@@ -67,13 +70,7 @@ fn sign_length(first: u8, behind: &[u8]) -> usize
 {
     match behind.first() {
         None => 1,
-        Some(next) => {
-            if first == b'*' && *next == b'*' {
-                2
-            } else {
-                1
-            }
-        }
+        Some(next) => { if first == b'*' && *next == b'*' { 2 } else { 1 } }
     }
 }
 

@@ -9,12 +9,12 @@ returns-in_default-clause-longest c = sym (tried_as c.args.text.now None (sym c.
 
 pub returns-in-Some-2-clause-longest : goal.returns-in-Some-2-clause-longest
 returns-in-Some-2-clause-longest c = sym (
-  tried_as c.args.text.now (Some c.in-Some.n) (sym c.in-Some.is ∙ c.candidate.ensures.at)
-      ∙ ap (λ (o : Option Token). sized c.in-Some.n o) (ap token_at (sym c.split_at.ensures.front) ∙ sym c.in_ok-token.ensures ∙ c.in-Some-2.is)
-)
+    tried_as c.args.text.now (Some c.in-Some.n) (sym c.in-Some.is ∙ c.candidate.ensures.at)
+    ∙ ap (λ (o : Option Token). sized c.in-Some.n o) (ap token_at (sym c.split_at.ensures.front) ∙ sym c.in_ok-token.ensures ∙ c.in-Some-2.is)
+    )
 
 pub returns-in-None-clause-longest : goal.returns-in-None-clause-longest
 returns-in-None-clause-longest c = sym (
-  tried_as c.args.text.now (Some c.in-Some.n) (sym c.in-Some.is ∙ c.candidate.ensures.at)
-      ∙ ap (λ (o : Option Token). sized c.in-Some.n o) (ap token_at (sym c.split_at.ensures.front) ∙ sym c.in_ok-token.ensures ∙ c.in-None.is)
-)
+    tried_as c.args.text.now (Some c.in-Some.n) (sym c.in-Some.is ∙ c.candidate.ensures.at)
+    ∙ ap (λ (o : Option Token). sized c.in-Some.n o) (ap token_at (sym c.split_at.ensures.front) ∙ sym c.in_ok-token.ensures ∙ c.in-None.is)
+    )
