@@ -1,11 +1,11 @@
 -- The cut of a text as a relation and as a function.
-use Rattle.std.proofs.Common.{◌≡◌, ℕ, suc, zero, ◌+◌, ◌-◌, ◌≤◌, ◌<◌, Bool, true, false, Option, Some, None, List, [], ◌∷◌, ◌++◌, take, drop, length, arith, refl, sym, ap, subst, ◌∙◌}
+use Rattle.std.proofs.Common.{◌≡◌, ℕ, suc, zero, ◌≤◌, ◌<◌, true, false, Option, Some, None, List, [], ◌∷◌, take, drop, length, arith, refl, sym, ap, subst, ◌∙◌}
 use Rattle.std.proofs.Math.Dec.{eqb}
 use Rattle.std.proofs.lemmas.Bool.{eqb-true, eqb-false}
 use Rattle.fm_base.specs.declared.token.Token.{Token}
 use Rattle.fm_token.specs.Pieces.{with_front, token_at, sized, or_shorter, longest_within, longest, IsLongest, IsCut, cut_of}
 use Rattle.fm_token.proofs.Longest.{within_less}
-use Rattle.fm_token.proofs.Cuts.{cut_nil, cut_more, cut_none}
+use Rattle.fm_token.proofs.Cuts.{cut_nil, cut_more, cut_none, front_split}
 
 -- the longest token of at most k bytes
 record IsFound (k : ℕ) (text : List ℕ) (n : ℕ) (t : Token) : Type 0 where
@@ -83,11 +83,6 @@ cut_complete [] text c = subst (λ (x : List ℕ). cut_of x ≡ Some []) (sym c)
 cut_complete (t ∷ ts) text (n, l, c) =
     let f = longest_is text n t l in
     cut_more text n t f.1 f.0 l.within ∙ ap (with_front (t ∷ [])) (cut_complete ts (drop n text) c)
-
--- the first of the tokens, and the cut behind it
-front_split : (u : Token) (o : Option (List Token)) (ts : List Token) → with_front (u ∷ []) o ≡ Some ts → (us : List Token) × (o ≡ Some us) × (ts ≡ u ∷ us)
-front_split u None ts e = cc
-front_split u (Some us) ts e = (us, refl, cc)
 
 record IsSplit (text : List ℕ) (ts : List Token) : Type 0 where
   n : ℕ

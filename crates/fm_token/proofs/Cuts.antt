@@ -1,5 +1,5 @@
 -- Fronts of lists, and the cut of a text step by step.
-use Rattle.std.proofs.Common.{◌≡◌, ℕ, suc, zero, ◌+◌, ◌-◌, ◌≤◌, ◌<◌, Option, Some, None, List, [], ◌∷◌, ◌++◌, drop, length, arith, refl, sym, ap, ◌∙◌, append_assoc}
+use Rattle.std.proofs.Common.{◌≡◌, ℕ, suc, zero, ◌-◌, ◌≤◌, ◌<◌, Option, Some, None, List, [], ◌∷◌, ◌++◌, drop, length, arith, refl, sym, ap, ◌∙◌, append_assoc}
 use Rattle.std.proofs.lemmas.List.{append-nil}
 use Rattle.fm_base.specs.declared.token.Token.{Token}
 use Rattle.fm_token.specs.Pieces.{with_front, longest, cut_from, cut_behind, cut_of}
@@ -49,3 +49,15 @@ cut_push out more rest behind n t m b e p l =
 pub cut_end : (out : List Token) (rest : List ℕ) (whole : Option (List Token)) → length rest ≡ 0 → with_front out (cut_of rest) ≡ whole → whole ≡ Some out
 cut_end out [] whole l e = sym e ∙ ap (with_front out) cut_nil ∙ ap Some (append-nil out)
 cut_end out (b ∷ bs) whole l e = absurd (omega arith)
+
+pub from_empty : {X : Type 0} (front items : List X) (o : Option (List X)) → front ≡ [] → with_front front o ≡ Some items → o ≡ Some items
+from_empty {X} front items o f e = same o ∙ ap (λ (x : List X). with_front x o) (sym f) ∙ e
+  where
+    same : (p : Option (List X)) → p ≡ with_front [] p
+    same None = refl
+    same (Some x) = refl
+
+-- a first item, and what is behind it
+pub front_split : {X : Type 0} (x : X) (o : Option (List X)) (items : List X) → with_front (x ∷ []) o ≡ Some items → (more : List X) × (o ≡ Some more) × (items ≡ x ∷ more)
+front_split x None items e = cc
+front_split x (Some more) items e = (more, refl, cc)

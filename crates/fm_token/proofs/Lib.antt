@@ -1,3 +1,4 @@
+mod Constants
 mod CutLaws
 mod Cuts
 mod Fixed

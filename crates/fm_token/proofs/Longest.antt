@@ -12,7 +12,7 @@ use Rattle.fm_base.specs.declared.token.Token.TheVariants.{Named, Constant, Sign
 use Rattle.fm_base.specs.declared.token.Op.TheVariants.{Pow}
 use Rattle.fm_token.specs.Pieces.{is_name_byte, constant_bytes, is_waiting, kept, with_front, digits_number, number_token, operators, bare_tokens, fixed_tokens, fixed_token, token_at, sized, or_shorter, longest_within, longest}
 use Rattle.fm_token.proofs.Cuts.{behind_none}
-use Rattle.fm_token.proofs.Fixed.{and_left, and_right, may_follow_star, is_nil, ends_at_dot, may_be_fixed, not_fixed}
+use Rattle.fm_token.proofs.Fixed.{and_left, and_right, may_follow_star, is_nil, ends_at_dot, not_fixed}
 use Rattle.fm_token.specs.Scan.{candidate, constant_end, dot_end, sign_length}
 
 within_none : (n : ℕ) (text : List ℕ) → ((m : ℕ) → m < n → token_at (take (suc m) text) ≡ None) → longest_within n text ≡ None

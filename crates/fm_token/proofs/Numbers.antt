@@ -1,6 +1,5 @@
 -- A number with more digits is no less.
-use Rattle.std.proofs.Common.{◌≡◌, ℕ, ◌+◌, ◌-◌, ◌*◌, ◌^◌, ◌≤◌, ◌<◌, length, drop, get_or, true, false, List, [], ◌∷◌, cond, arith, refl, sym, ap, subst, ◌∙◌, pos}
-use Rattle.std.proofs.Math.Dec.{ltb}
+use Rattle.std.proofs.Common.{◌≡◌, ℕ, ◌+◌, ◌-◌, ◌*◌, ◌^◌, ◌≤◌, ◌<◌, length, drop, get_or, List, [], ◌∷◌, cond, arith, sym, ap, ◌∙◌, pos}
 use Rattle.std.proofs.lemmas.Bool.{le-ltb}
 use Rattle.std.proofs.lemmas.List.{at_drop_more}
 use Rattle.fm_base.specs.declared.token.Token.TheVariants.{Big, Number}

@@ -1,5 +1,5 @@
 -- The tokens of a text as a relation and as a function.
-use Rattle.std.proofs.Common.{◌≡◌, ◌≢◌, ◌↔◌, ℕ, suc, zero, ◌+◌, ◌-◌, ◌≤◌, ◌<◌, Bool, true, false, cond, Option, Some, None, List, [], ◌∷◌, ◌++◌, take, drop, length, arith, refl, sym, ap, subst, ◌∙◌}
+use Rattle.std.proofs.Common.{◌≡◌, ◌≢◌, ◌↔◌, ℕ, suc, zero, ◌+◌, ◌-◌, ◌≤◌, ◌<◌, true, false, cond, Option, Some, None, List, [], ◌∷◌, ◌++◌, drop, length, arith, refl, sym, ap, subst, ◌∙◌}
 use Rattle.fm_base.specs.declared.token.Class.{Class}
 use Rattle.fm_base.specs.declared.token.Class.TheVariants.{LogicalIf, Nothing}
 use Rattle.fm_base.specs.declared.token.Token.{Token}
@@ -7,10 +7,10 @@ use Rattle.fm_base.specs.declared.token.Token.TheVariants.{Key}
 use Rattle.fm_token.specs.declared.places.Before.{Before}
 use Rattle.fm_token.specs.Places.{after, is_last_close, close_from, close_of, start}
 use Rattle.fm_token.specs.Classes.{begins, goes_on, is_word, class_of, condition_end, end_if_goes_on, end_unless_then, logical_end}
-use Rattle.fm_token.specs.Pieces.{with_front, IsCut, cut_of}
-use Rattle.fm_token.specs.Statements.{IsTokens, plain, logical, test_of, behind_key, key_of, keyed, keyed_tokens, joined, is_nothing, tokens_from, tokens_behind, tokens_of}
+use Rattle.fm_token.specs.Pieces.{with_front, cut_of}
+use Rattle.fm_token.specs.Statements.{IsTokens, plain, logical, test_of, behind_key, key_of, keyed_tokens, joined, is_nothing, tokens_from, tokens_behind, tokens_of}
 use Rattle.fm_token.proofs.CutLaws.{cut_complete, cut_sound}
-use Rattle.fm_token.proofs.TokenSteps.{tokens_plain, tokens_logical, tokens_drop, tokens_nil, tokens_first}
+use Rattle.fm_token.proofs.TokenSteps.{tokens_plain, tokens_logical}
 
 close_within : (bs : List ℕ) (k : ℕ) (before : Before) (n : ℕ) → close_from k before bs ≡ Some n → (k < n) × (n ≤ k + length bs)
 close_within [] k before n e = cc
@@ -127,11 +127,3 @@ one text a b s t = let both : Some a ≡ Some b = sym (complete s) ∙ complete 
 
 pub none : (text : List ℕ) → tokens_of text ≡ None → (ts : List Token) → ¬ (IsTokens text ts)
 none text e ts t = let clash : None ≡ Some ts = sym e ∙ complete t in cc
-
--- what is pushed to an empty list
-pub from_empty : (front ts : List Token) (o : Option (List Token)) → front ≡ [] → with_front front o ≡ Some ts → o ≡ Some ts
-from_empty front ts o f e = same o ∙ ap (λ (x : List Token). with_front x o) (sym f) ∙ e
-  where
-    same : (p : Option (List Token)) → p ≡ with_front [] p
-    same None = refl
-    same (Some x) = refl

@@ -1,12 +1,12 @@
 -- The tokens of a text step by step.
-use Rattle.std.proofs.Common.{◌≡◌, ℕ, suc, zero, ◌+◌, ◌-◌, ◌≤◌, ◌<◌, Bool, true, false, cond, Result, Ok, Err, MatchResult, Option, Some, None, List, [], ◌∷◌, ◌++◌, take, drop, length, arith, refl, sym, ap, ◌∙◌, append_assoc}
+use Rattle.std.proofs.Common.{◌≡◌, ℕ, suc, zero, ◌-◌, ◌≤◌, ◌<◌, true, false, cond, Result, Ok, Err, MatchResult, Option, Some, None, List, [], ◌∷◌, ◌++◌, take, drop, length, arith, refl, sym, ap, ◌∙◌, append_assoc}
 use Rattle.fm_base.specs.declared.token.Class.{Class}
-use Rattle.fm_base.specs.declared.token.Class.TheVariants.{LogicalIf, Nothing}
+use Rattle.fm_base.specs.declared.token.Class.TheVariants.{LogicalIf}
 use Rattle.fm_base.specs.declared.token.Token.{Token}
 use Rattle.fm_base.specs.declared.token.Token.TheVariants.{Key}
 use Rattle.fm_token.specs.Classes.{class_of, condition_end, logical_end, plain_class, word_class, first_word_class, whole_words, first_words}
 use Rattle.fm_token.specs.Pieces.{with_front, cut_of}
-use Rattle.fm_token.specs.Statements.{test_of, behind_key, key_of, keyed, keyed_tokens, joined, is_nothing, tokens_from, tokens_behind, tokens_of}
+use Rattle.fm_token.specs.Statements.{test_of, behind_key, key_of, keyed_tokens, joined, is_nothing, tokens_from, tokens_behind, tokens_of}
 use Rattle.fm_token.specs.declared.statements.TokenFail.{TokenFail}
 use Rattle.fm_token.specs.declared.statements.TokenFail.TheVariants.{Bad}
 use Rattle.fm_token.proofs.Cuts.{with_front_append}

@@ -1,6 +1,6 @@
 -- The tokens of a statement: its keyword, and the cut of what stands behind.
 -- Source: ANSI X3.9-1978, section 3.3 (statements), and this profile for the words of Fortran M.
-use Rattle.std.specs.Prelude.{◌≡◌, ◌≢◌, ◌↔◌, ℕ, suc, zero, ◌-◌, Bool, true, false, Option, Some, None, List, [], ◌∷◌, ◌++◌, ◌==◌, if◌then◌else◌, take, drop, length}
+use Rattle.std.specs.Prelude.{◌≡◌, ◌≢◌, ℕ, suc, zero, ◌-◌, Bool, true, false, Option, Some, None, List, [], ◌∷◌, ◌++◌, ◌==◌, if◌then◌else◌, take, drop, length}
 use Rattle.fm_base.specs.declared.token.Class.{Class}
 use Rattle.fm_base.specs.declared.token.Class.TheVariants.{LogicalIf, Nothing}
 use Rattle.fm_base.specs.declared.token.Token.{Token}

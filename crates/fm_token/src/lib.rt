@@ -10,6 +10,7 @@ mod scan;
 mod statements;
 
 pub use classes::class;
+pub use pieces::constants_are_written;
 pub use statements::{TokenFail, tokens, tokens_are_one};
 
 #[cfg(test)]

@@ -1,9 +1,9 @@
 //! The test whether a piece of a text is a token.
 
-ghost use Rattle.std.specs.Prelude.{◌≡◌, ◌++◌, IfOk, false, find};
+ghost use Rattle.std.specs.Prelude.{◌≡◌, ◌↔◌, ℕ, List, Some, ◌∷◌, ◌++◌, IfOk, false, find};
 ghost use Rattle.std.specs.List.{list_all};
 ghost use Rattle.std.specs.Char.{is_ascii_digit};
-ghost use Rattle.fm_base.specs.Tokens.{op_text};
+ghost use Rattle.fm_base.specs.Tokens.{constant_text, op_text};
 ghost use Rattle.fm_token.specs.Classes.{is_word};
 ghost use Rattle.fm_token.specs.Pieces.{bare_tokens, constant_bytes, digits_number, fixed_token, is_name_byte, is_spelled, is_waiting, kept, number_token, token_at};
 
@@ -175,3 +175,8 @@ pub fn token_at(alloc: Global, piece: &[u8]) -> Result<Option<Token>, NoMemory>
         Ok(fixed_token(piece))
     }
 }
+
+/// A constant is read as it is written: each apostrophe in it twice, and one at either end.
+pub fn constants_are_written()
+    ensures { (behind bytes : List ℕ) → (constant_bytes false behind ≡ Some bytes) ↔ (39 ∷ behind ≡ constant_text bytes) }
+{}

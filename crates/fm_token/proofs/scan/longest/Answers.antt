@@ -1,4 +1,4 @@
-use Rattle.std.proofs.Common.{Option, Some, None, take, ap, sym, ◌∙◌}
+use Rattle.std.proofs.Common.{Option, Some, None, ap, sym, ◌∙◌}
 use Rattle.fm_base.specs.declared.token.Token.{Token}
 use Rattle.fm_token.specs.Pieces.{sized, token_at}
 use Rattle.fm_token.proofs.Longest.{tried_as}

@@ -1,4 +1,4 @@
-use Rattle.std.proofs.Common.{◌≡◌, ℕ, ◌<◌, ◌≤◌, length, arith, sym, ◌∙◌, ap}
+use Rattle.std.proofs.Common.{◌<◌, ◌≤◌, length, arith, sym, ◌∙◌, ap}
 use Rattle.std.proofs.lemmas.Bool.{eqb-true, eqb-false}
 use Rattle.fm_token.specs.Pieces.{with_front}
 use Rattle.fm_token.proofs.Cuts.{behind_none, cut_none, cut_push, cut_end}

@@ -1,6 +1,5 @@
-use Rattle.std.proofs.Common.{◌≡◌, ◌<◌, ◌≤◌, length, List, ℕ, drop, ap, sym, ◌∙◌}
-use Rattle.fm_token.specs.Pieces.{with_front, cut_of}
-use Rattle.fm_token.specs.Statements.{joined, tokens_of}
+use Rattle.std.proofs.Common.{◌<◌, ◌≤◌, length, ap, sym, ◌∙◌}
+use Rattle.fm_token.specs.Pieces.{with_front}
 use Rattle.fm_token.proofs.Cuts.{behind_none}
 use Rattle.fm_token.proofs.TokenSteps.{tokens_plain, logical_more, logical_bad, pushed}
 use Rattle.fm_token.proofs.statements.push_tokens.Goals as goal

@@ -1,4 +1,5 @@
-use Rattle.fm_token.proofs.TokenLaws.{sound, none, from_empty}
+use Rattle.fm_token.proofs.Cuts.{from_empty}
+use Rattle.fm_token.proofs.TokenLaws.{sound, none}
 use Rattle.fm_token.proofs.statements.tokens.Goals as goal
 
 pub returns-in-Ok-clause-tokens : goal.returns-in-Ok-clause-tokens
