@@ -23,7 +23,8 @@ abbrev pub end_if_goes_on : List ℕ → Option ℕ → Option ℕ
 end_if_goes_on text None = None
 end_if_goes_on text (Some n) = if goes_on (drop n text) then Some n else None
 
--- of an IF: how many bytes there are up to and with the parenthesis that closes
+-- Of an IF: how many bytes there are up to and with the parenthesis that closes.
+-- Where nothing stands behind, the text is no IF; where an equals sign does, it is an assignment to an element of IF.
 unfoldable pub condition_end : List ℕ → Option ℕ
 condition_end text = if begins text (codes "IF(") then end_if_goes_on text (close_of text) else None
 
@@ -104,6 +105,7 @@ abbrev pub class_from : List ℕ → Option ℕ → Class
 class_from text None = plain_class text
 class_from text (Some n) = if is_word (drop n text) (codes "THEN") then BlockIf else LogicalIf
 
--- the class: an IF comes before all else, then an equals sign at top level, then the words
+-- The class: an IF comes before all else, then an equals sign at top level, then the words. No word is reserved:
+-- `CALLX(2)=5` is an assignment to CALLX, `DOUBLE=1,2` a loop over UBLE, `PROCESSDO` alone a process named DO.
 unfoldable pub class_of : List ℕ → Class
 class_of text = class_from text (condition_end text)

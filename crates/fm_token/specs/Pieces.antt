@@ -20,9 +20,11 @@ abbrev pub digits_number : ℕ → List ℕ → ℕ
 digits_number n [] = n
 digits_number n (b ∷ bs) = digits_number (10 * n + (b - 48)) bs
 
+-- from 2^63 on a number is too large
 abbrev pub number_token : ℕ → Token
 number_token n = if nat_lt n (2 ^ 63) then Number (pos n) else Big
 
+-- the items with more before them, if there are any
 abbrev pub with_front : {X : Type 0} → List X → Option (List X) → Option (List X)
 with_front front None = None
 with_front front (Some items) = Some (front ++ items)
@@ -48,6 +50,7 @@ operators = op.Eqv ∷ op.Neqv ∷ op.Or ∷ op.And ∷ op.Not ∷ op.Eq ∷ op.
 unfoldable pub bare_tokens : List Token
 bare_tokens = Open ∷ Close ∷ Comma ∷ Equals ∷ Colon ∷ True ∷ False ∷ []
 
+-- all tokens that are always written alike
 unfoldable pub fixed_tokens : List Token
 fixed_tokens = bare_tokens ++ map Sign operators
 
@@ -57,7 +60,8 @@ is_spelled piece token = is_word piece (token_text token)
 unfoldable pub fixed_token : List ℕ → Option Token
 fixed_token piece = find (is_spelled piece) fixed_tokens
 
--- the token that the whole piece is, if it is one
+-- The token that the whole piece is, if it is one. A name is kept whole, however long; a number is its value and has
+-- no dot, so `1.EQ.2` is three tokens.
 unfoldable pub token_at : List ℕ → Option Token
 token_at [] = None
 token_at (b ∷ bs) =
@@ -76,7 +80,7 @@ abbrev pub IsCut : List ℕ → List Token → Type 0
 IsCut text [] = text ≡ []
 IsCut text (token ∷ tokens) = (n : ℕ) × IsLongest text n token × IsCut (drop n text) tokens
 
--- the same as functions: the longest token of at most n bytes that a text begins with, and its length
+-- The cut as a function. The longest token of at most n bytes that a text begins with, and its length:
 abbrev pub sized : ℕ → Option Token → Option (ℕ × Token)
 sized n None = None
 sized n (Some token) = Some (n, token)

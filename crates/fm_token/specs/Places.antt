@@ -21,7 +21,7 @@ after before b = record {
   closing = before.closing + one_if (not (is_inside before) && (b == 41));
 }
 
--- outside of constants, and as many parentheses were closed as opened
+-- outside of constants, and as many parentheses were closed as opened; on the way more may have been closed
 abbrev pub is_top : Before → Bool
 is_top before = not (is_inside before) && (before.opening == before.closing)
 

@@ -21,7 +21,8 @@ behind_key text = drop (length (keyword_text (class_of text))) text
 abbrev pub test_of : ℕ → List ℕ → List ℕ
 test_of n text = drop 2 (take n text)
 
--- the tokens of a text that has a class: those of the statement in a logical IF follow those of its test
+-- The tokens of a text that has a class. Those of the statement in a logical IF follow those of its test, with a keyword
+-- of its own; that statement may be a logical IF again.
 pub data IsTokens : List ℕ → List Token → Type 0 where
   plain : {text : List ℕ} {tokens : List Token} (cut : List Token)
       → logical_end text ≡ None → class_of text ≢ Nothing → IsCut (behind_key text) cut → tokens ≡ key_of (class_of text) ++ cut
