@@ -1,0 +1,3 @@
+pub mod Shedding
+pub mod Maps
+pub mod Packing
