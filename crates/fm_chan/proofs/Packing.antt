@@ -21,3 +21,7 @@ next_level [] [] (x ∷ p') i' q m q' done left is = absurd (cc left)
 pub next_message : (o : Option PortValue) (p i p' i' q m q' : List PortValue) → is_some o ≡ false → Yields (p ++ i) o (p' ++ i') → q ≡ m ++ q' → p ++ i ++ q ≡ p' ++ m ++ q'
 next_message (Some x) p i p' i' q m q' none yields is = absurd (cc none)
 next_message None p i p' i' q m q' none yields is = next_level p i p' i' q m q' yields.0 yields.1 is
+
+pub nothing_left : (o : Option PortValue) (old new : List PortValue) → ((x : PortValue) → o ≡ Some x → ⊥) → Yields old o new → old ≡ []
+nothing_left None old new none yields = yields.0
+nothing_left (Some x) old new none yields = absurd (none x refl)

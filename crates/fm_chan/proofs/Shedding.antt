@@ -1,5 +1,5 @@
 -- Ports discarded one after the other.
-use Rattle.std.proofs.Common.{◌≡◌, ℕ, zero, suc, ◌+◌, Option, Some, None, List, [], ◌∷◌, ◌++◌, length, sum_by, refl, sym, ap, ◌∙◌, arith, length-append}
+use Rattle.std.proofs.Common.{◌≡◌, ℕ, zero, suc, ◌+◌, ◌<◌, Option, Some, None, List, [], ◌∷◌, ◌++◌, length, sum_by, refl, sym, ap, ◌∙◌, arith, length-append}
 use Rattle.std.proofs.lemmas.List.Sums.{sum_by-cons}
 use Rattle.std.specs.FinMap as map
 use Rattle.fm_base.specs.declared.path.ChanName.{ChanName}
@@ -50,3 +50,11 @@ all_shed-nil m = nothing (weight [] m) m
 -- the first port goes first, and what it frees goes next
 pub all_shed-cons : (x : PortValue) (xs : List PortValue) (m : Chans) → all_shed (x ∷ xs) m ≡ all_shed (freed x (map.get m (channel_of x)) ++ xs) (shut x m)
 all_shed-cons x xs m = ap (λ n. shed n (x ∷ xs) m) (fall x xs m)
+
+-- what is left after the next port is let go sheds as what was left before it
+module _ (x : PortValue) (old mid new : List PortValue) (m n : Chans) (first : old ≡ x ∷ mid) (frees : new ≡ freed x (map.get m (channel_of x)) ++ mid) (shuts : n ≡ shut x m) where
+  pub goes_on : all_shed new n ≡ all_shed old m
+  goes_on = ap (λ xs. all_shed xs n) frees ∙ ap (all_shed (freed x (map.get m (channel_of x)) ++ mid)) shuts ∙ sym (all_shed-cons x mid m) ∙ ap (λ xs. all_shed xs m) (sym first)
+
+  pub falls : weight new n < weight old m
+  falls = omega (arith, ap (λ xs. weight xs n) frees, ap (weight (freed x (map.get m (channel_of x)) ++ mid)) shuts, fall x mid m, ap (λ xs. weight xs m) first)

@@ -1,6 +1,6 @@
 -- What stands behind the channels' names, as plain data.
 -- Source: this profile.
-use Rattle.std.specs.Prelude.{◌≡◌, ℕ, Bool, List, [], ◌∷◌, map, is_some, Option, Some, None}
+use Rattle.std.specs.Prelude.{List, [], map, is_some, Option, Some, None}
 use Rattle.fm_base.specs.declared.path.ChanName.{ChanName}
 use Rattle.fm_base.specs.Channels.{Message, Chan}
 use Rattle.fm_chan.specs.declared.channels.Body.{Body}

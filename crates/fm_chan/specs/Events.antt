@@ -1,10 +1,10 @@
 -- What a process does to the channels by a port.
 -- Source: the Fortran M report (SEND, RECEIVE, ENDCHANNEL), with this profile's rules on discarding.
-use Rattle.std.specs.Prelude.{◌≡◌, ℕ, Bool, true, false, cond, Option, Some, None, List, []}
+use Rattle.std.specs.Prelude.{ℕ, Bool, true, false, Option, Some, None, List, []}
 use Rattle.std.specs.FinMap as map
 use Rattle.fm_base.specs.declared.port.PortValue.{PortValue}
 use Rattle.fm_base.specs.declared.port.PortValue.TheVariants.{Writer, Reader}
-use Rattle.fm_base.specs.Channels.{Message, message_ports, Chan, Chans, ChannelOp, Push, Pop, channel_of, is_ready, changed, gives, spills, all_shed}
+use Rattle.fm_base.specs.Channels.{Message, message_ports, Chan, Chans, ChannelOp, Push, channel_of, changed, spills, all_shed}
 use Rattle.fm_maps.specs.Changes.{adjust}
 
 -- an outport sends, an inport receives

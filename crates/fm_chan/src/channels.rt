@@ -170,10 +170,11 @@ impl Channels {
         ensures back { IfErr result (λ e. e.0 ≡ message) }
         ensures err { OnErr result (self.new ≡ self.old) }
     {
-        match self.bodies.get_mut(port.channel()) {
-            Some(body) => put_last(body, message),
-            None => Ok(None),
-        }
+        let body = match self.bodies.get_mut(port.channel()) {
+            Some(body) => body,
+            None => return Ok(None),
+        };
+        put_last(body, message)
     }
 
     /// Puts a message last. Where the inport is gone, the message is discarded with the ports in it.
@@ -198,27 +199,29 @@ impl Channels {
         ensures channels { self.new ≡ adjusted port.now Pop self.old }
         ensures unchanged { brings result ≡ false → self.new ≡ self.old }
     {
-        match self.bodies.get_mut(port.channel()) {
-            Some(body) => take_first(body),
-            None => Got::Wait,
-        }
+        let body = match self.bodies.get_mut(port.channel()) {
+            Some(body) => body,
+            None => return Got::Wait,
+        };
+        take_first(body)
     }
 
-    fn let_go(&mut self, port: &Port, dropping: &mut Dropping)
-        ensures channels { self.new ≡ shut port.now self.old }
-        ensures ports { dropped_ports dropping.new ≡ freed port.now (chan_at port.now self.old) ++ dropped_ports dropping.old }
+    fn let_go(&mut self, port: Port, dropping: &mut Dropping)
+        ensures channels { self.new ≡ shut port self.old }
+        ensures ports { dropped_ports dropping.new ≡ freed port (chan_at port self.old) ++ dropped_ports dropping.old }
     {
-        match self.bodies.get_mut(port.channel()) {
-            Some(body) => let_go_of(body, port, dropping),
-            None => {}
-        }
+        let body = match self.bodies.get_mut(port.channel()) {
+            Some(body) => body,
+            None => return,
+        };
+        let_go_of(body, &port, dropping);
     }
 
     fn discard_all(&mut self, mut dropping: Dropping)
         ensures { self.new ≡ all_shed (dropped_ports dropping) self.old }
     {
         'ports: while let Some(port) = dropping.next() {
-            self.let_go(&port, &mut dropping);
+            self.let_go(port, &mut dropping);
         }
     }
 
@@ -228,7 +231,7 @@ impl Channels {
         ensures { self.new ≡ shut port self.old }
     {
         let mut nothing = Dropping::new(self.alloc);
-        self.let_go(&port, &mut nothing);
+        self.let_go(port, &mut nothing);
     }
 
     /// Closes the writer of an outport, or forgets an inport with all that waits there; ports in the
@@ -237,7 +240,7 @@ impl Channels {
         ensures { self.new ≡ all_shed (port ∷ []) self.old }
     {
         let mut dropping = Dropping::new(self.alloc);
-        self.let_go(&port, &mut dropping);
+        self.let_go(port, &mut dropping);
         self.discard_all(dropping);
     }
 

@@ -1,4 +1,4 @@
-use Rattle.std.proofs.Common.{◌≡◌, ◌++◌, length}
+use Rattle.std.proofs.Common.{◌≡◌, length}
 use Rattle.fm_chan.specs.Rest.{ports_in}
 use Rattle.fm_chan.proofs.dropping.next_of_ports.Given as goal
 

@@ -1,4 +1,4 @@
-use Rattle.std.proofs.Common.{◌≡◌, ◌++◌, length}
+use Rattle.std.proofs.Common.{◌≡◌, length}
 use Rattle.fm_chan.specs.Rest.{rest_ports}
 use Rattle.fm_chan.proofs.dropping.next_of_rest.Given as goal
 

@@ -1,4 +1,4 @@
-use Rattle.std.proofs.Common.{◌≡◌, ◌++◌, length}
+use Rattle.std.proofs.Common.{◌≡◌}
 use Rattle.fm_chan.specs.Rest.{dropped_ports, levels}
 use Rattle.fm_chan.proofs.dropping.Dropping.next.Given as goal
 
