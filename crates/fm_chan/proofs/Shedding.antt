@@ -23,7 +23,7 @@ queued-sums : (es : List (ChanName × Chan)) → sum_by (λ e. length (queue_por
 queued-sums [] = refl
 queued-sums (e ∷ es) = sum_by-cons (λ (x : ChanName × Chan). length (queue_ports x.1.queue)) e es ∙ ap (λ n. queued e.1 + n) (queued-sums es)
 
-weight-total : (xs : List PortValue) (m : Chans) → weight xs m ≡ length xs + total queued m
+pub weight-total : (xs : List PortValue) (m : Chans) → weight xs m ≡ length xs + total queued m
 unfolding total
 weight-total xs m = ap (λ n. length xs + n) (queued-sums (map.entries m))
 

@@ -6,9 +6,11 @@
 
 mod channels;
 mod dropping;
+mod laws;
 mod message;
 mod port;
 
 pub use channels::{Channels, Got};
+pub use laws::{discards_in_any_order, discards_in_turn};
 pub use message::{Item, Message};
 pub use port::Port;
