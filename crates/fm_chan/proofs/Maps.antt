@@ -1,6 +1,6 @@
 -- Channels kept by name, and the finite map of them.
 use Rattle.std.proofs.Common.{◌≡◌, ℕ, Bool, true, false, cond, List, [], ◌∷◌, ◌++◌, Option, Some, None, refl, sym, ap, subst, ◌∙◌}
-use Rattle.std.specs.Prelude.{IsSome}
+use Rattle.std.specs.Prelude.{IsSome, is_some}
 use Rattle.std.specs.Option.{option_map}
 use Rattle.std.specs.FinMap as map
 use Rattle.std.specs.Cmp.{eq_by_cmp_equiv}
@@ -37,6 +37,13 @@ found (e ∷ es) q = elim (is_at (channel_cmp q) e.0) as (λ b. cond b (Some (ch
 
 get_chan : (es : List (ChanName × Body)) (q : ChanName) → map.get (view_of es) q ≡ option_map chan_of (body_at es q)
 get_chan es q = map.get-from_entries channel_total (entries_of es) q ∙ found es q
+
+some_mapped : (o : Option Body) → is_some o ≡ is_some (option_map chan_of o)
+some_mapped None = refl
+some_mapped (Some b) = refl
+
+pub some_found : (es : List (ChanName × Body)) (m : Chans) (q : ChanName) → view_of es ≡ m → is_some (body_at es q) ≡ is_some (map.get m q)
+some_found es m q view = some_mapped (body_at es q) ∙ ap is_some (sym (get_chan es q) ∙ ap (λ n. map.get n q) view)
 
 mapped : (b : Bool) (x : Body) (o : Option Body) → option_map chan_of (cond b (Some x) o) ≡ cond b (Some (chan_of x)) (option_map chan_of o)
 mapped true x o = refl

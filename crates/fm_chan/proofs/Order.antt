@@ -2,7 +2,6 @@
 use Rattle.std.proofs.Common.{◌≡◌, ◌≢◌, ℕ, zero, suc, ◌+◌, ◌<◌, ◌≤◌, ◌==◌, not, Bool, true, false, cond, Option, Some, None, List, [], ◌∷◌, ◌++◌, length, filter, refl, sym, ap, ◌∙◌, arith, length-append, append_assoc, append-nil}
 use Rattle.std.specs.Prelude.{option_map}
 use Rattle.std.specs.FinMap as map
-use Rattle.std.specs.Ordering.{nat_cmp}
 use Rattle.fm_base.specs.declared.path.ChanName.{ChanName}
 use Rattle.fm_base.specs.declared.port.PortValue.{PortValue}
 use Rattle.fm_base.specs.declared.port.PortValue.TheVariants.{Writer, Reader}
@@ -182,9 +181,12 @@ commutes : (n : ℕ) → Commute n
 commutes zero m x y few = absurd (omega (arith, few))
 commutes (suc n) m x y few = two n (commutes n) x y m few (same_port x y)
 
-pub either_first : (x y : PortValue) (m : Chans) → all_shed (x ∷ y ∷ []) m ≡ all_shed (y ∷ x ∷ []) m
-either_first x y m = each x (y ∷ []) m ∙ sym (commutes (suc (total queued m)) m x y (omega arith)) ∙ sym (each y (x ∷ []) m)
-
 pub any_order : (xs ys : List PortValue) (m : Chans) → all_shed (xs ++ ys) m ≡ all_shed (ys ++ xs) m
 any_order xs ys m =
     in_turn xs ys m ∙ past_all (suc (total queued m)) (commutes (suc (total queued m))) ys xs m (omega arith) ∙ sym (in_turn ys xs m)
+
+pub any_first : (xs : List PortValue) (x : PortValue) (ys : List PortValue) (m : Chans) → all_shed (xs ++ x ∷ ys) m ≡ all_shed (x ∷ xs ++ ys) m
+any_first xs x ys m =
+    in_turn xs (x ∷ ys) m ∙ in_turn (x ∷ []) ys (all_shed xs m)
+    ∙ ap (all_shed ys) (sym (in_turn xs (x ∷ []) m) ∙ any_order xs (x ∷ []) m)
+    ∙ sym (in_turn (x ∷ xs) ys m)

@@ -53,7 +53,7 @@ impl Model for Channels {
 }
 
 /// What a receive got.
-#[derive(Drop)]
+#[derive(Debug, Drop)]
 pub enum Got {
     /// The oldest message.
     Message(Message),
@@ -146,6 +146,13 @@ impl Channels {
             alloc,
             bodies: BTreeMap::new(alloc),
         }
+    }
+
+    /// Whether there is a channel of this name.
+    pub fn contains(&self, name: &ChanName) -> bool
+        ensures { result ≡ is_some (map.get self.now name.now) }
+    {
+        self.bodies.contains_key(name)
     }
 
     /// A new channel of this name: its inport, and its outport, which is writer 0. After want of

@@ -14,8 +14,10 @@ pub fn discards_in_turn()
     ensures outport { (c : ChanName) (w : ℕ) (m : Chans) → all_shed (Writer c w ∷ []) m ≡ shut (Writer c w) m }
 {}
 
-/// In which order ports are discarded doesn't matter.
+/// In which order ports are discarded doesn't matter: of two parts either may go first, and so may
+/// each port of a list.
 pub fn discards_in_any_order()
-    ensures two { (x y : PortValue) (m : Chans) → all_shed (x ∷ y ∷ []) m ≡ all_shed (y ∷ x ∷ []) m }
     ensures parts { (xs ys : List PortValue) (m : Chans) → all_shed (xs ++ ys) m ≡ all_shed (ys ++ xs) m }
+    ensures any_first { (xs : List PortValue) (x : PortValue) (ys : List PortValue) (m : Chans) →
+        all_shed (xs ++ x ∷ ys) m ≡ all_shed (x ∷ xs ++ ys) m }
 {}

@@ -14,3 +14,6 @@ pub use channels::{Channels, Got};
 pub use laws::{discards_in_any_order, discards_in_turn};
 pub use message::{Item, Message};
 pub use port::Port;
+
+#[cfg(test)]
+mod tests;

@@ -10,5 +10,5 @@ messages-preserved c =
     let new = c.next_of_items-port.new in
     let queue = queue_ports c.pop_front.new.self.items in
     c.messages.invariant ∙ next_message c.next_of_items-port.result (ports_in old.ports.items) (items_ports old.items.items) (ports_in new.ports.items) (items_ports new.items.items) (queue_ports old.queue.items) (items_ports c.unpack_message.result.items) queue
-        (sym c.is_some.ensures ∙ c.if-is_some.false) c.next_of_items-port.ensures
-        (ap queue_ports c.in-Some.ensures.items ∙ ap (λ ps. ps ++ queue) (sym c.unpack_message.ensures))
+    (sym c.is_some.ensures ∙ c.if-is_some.false) c.next_of_items-port.ensures
+    (ap queue_ports c.in-Some.ensures.items ∙ ap (λ ps. ps ++ queue) (sym c.unpack_message.ensures))
