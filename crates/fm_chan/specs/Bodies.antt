@@ -11,8 +11,10 @@ abbrev pub waiting : Option Inport → List Message
 waiting None = []
 waiting (Some i) = i.queue.items
 
+-- the channel of a body
 abbrev pub chan_of : Body → Chan
 chan_of b = record { queue = waiting b.inport; writers = b.writers.items; lives = is_some b.inport }
 
+-- the same of entries by name
 abbrev pub entries_of : List (ChanName × Body) → List (ChanName × Chan)
 entries_of es = map (λ e. (e.0, chan_of e.1)) es

@@ -17,7 +17,7 @@ abbrev pub writer_of : PortValue → ℕ
 writer_of (Writer c w) = w
 writer_of (Reader c) = 0
 
--- what the port's channel is
+-- the port's channel, if it is there
 abbrev pub chan_at : PortValue → Chans → Option Chan
 chan_at x m = map.get m (channel_of x)
 
@@ -25,6 +25,7 @@ chan_at x m = map.get m (channel_of x)
 abbrev pub adjusted : PortValue → ChannelOp → Chans → Chans
 adjusted x a m = adjust m (channel_of x) (changed a)
 
+-- the ports of a message to a channel whose inport is gone
 abbrev pub spilt : ChannelOp → Option Chan → List PortValue
 spilt a None = []
 spilt a (Some ch) = spills a ch

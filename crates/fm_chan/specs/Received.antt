@@ -5,6 +5,7 @@ use Rattle.fm_base.specs.Channels.{Message, Chan, Pop, is_ready, gives}
 use Rattle.fm_chan.specs.declared.channels.Got.{Got}
 use Rattle.fm_chan.specs.declared.channels.Got.TheVariants as got
 
+-- a message, or the end of the channel
 abbrev pub got_of : Option Message → Got
 got_of None = got.End
 got_of (Some m) = got.Message m
@@ -13,6 +14,7 @@ got_of (Some m) = got.Message m
 abbrev pub got_from : Chan → Got
 got_from ch = cond (is_ready Pop ch) (got_of (gives Pop ch)) got.Wait
 
+-- what it gets at a port's channel, if that is there
 abbrev pub got_at : Option Chan → Got
 got_at None = got.Wait
 got_at (Some ch) = got_from ch

@@ -14,20 +14,24 @@ use Rattle.fm_chan.specs.Items.{plain_item}
 abbrev pub ports_in : List (Option PortValue) → List PortValue
 ports_in = filter_map (λ p. p)
 
+-- the ports in the items of a message, from left to right
 abbrev pub items_ports : List Item → List PortValue
 items_ports = flat_map (λ i. item_ports (plain_item i))
 
+-- the ports of a level: of the item at hand, of the items behind it, of the messages behind them
 abbrev pub rest_ports : Rest → List PortValue
 rest_ports r = ports_in r.ports.items ++ items_ports r.items.items ++ queue_ports r.queue.items
 
+-- the ports of the levels that were left
 abbrev pub chain_ports : Chain → List PortValue
 chain_ports End = []
 chain_ports (More' rest p below) = rest_ports rest ++ chain_ports below
 
--- in the order in which they are discarded
+-- all of them, in the order in which they are discarded
 abbrev pub dropped_ports : Dropping → List PortValue
 dropped_ports d = rest_ports d.rest ++ chain_ports d.chain
 
+-- how many levels were left
 abbrev pub levels : Chain → ℕ
 levels End = 0
 levels (More' rest p below) = suc (levels below)

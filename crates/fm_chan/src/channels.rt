@@ -20,18 +20,25 @@ use std::marker::Model;
 /// A living inport: what waits there, and room for one level of discarding.
 #[derive(Drop)]
 pub struct Inport {
+    /// The messages, oldest first.
     pub queue: VecDeque<Message>,
+    /// Kept from the start, so that discarding takes no memory.
     pub room: Box<Chain>,
 }
 
 /// What stands behind a channel's name.
 #[derive(Drop)]
 pub struct Body {
+    /// None where the inport is gone.
     pub inport: Option<Inport>,
+    /// The numbers of the open writers.
     pub writers: Vec<u32>,
 }
 
 /// The channels, by their names. Contracts see a finite map.
+///
+/// Each call finds its channel in logarithmic time, whatever waits in it. A port whose channel isn't
+/// here is passed over: a send loses its message, a receive waits, a discard changes nothing.
 #[derive(Drop)]
 pub struct Channels {
     alloc: Global,

@@ -23,7 +23,9 @@ pub struct Rest {
 /// The levels that were left for a deeper one, the deepest first.
 #[derive(Drop)]
 pub enum Chain {
+    /// No level was left.
     End,
+    /// The level that was left last, and those before it.
     More(Rest, Box<Chain>),
 }
 
