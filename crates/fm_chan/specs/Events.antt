@@ -26,9 +26,9 @@ abbrev pub adjusted : PortValue → ChannelOp → Chans → Chans
 adjusted x a m = adjust m (channel_of x) (changed a)
 
 -- the ports of a message to a channel whose inport is gone
-abbrev pub spilt : ChannelOp → Option Chan → List PortValue
-spilt a None = []
-spilt a (Some ch) = spills a ch
+abbrev pub spills_at : ChannelOp → Option Chan → List PortValue
+spills_at a None = []
+spills_at a (Some ch) = spills a ch
 
 -- the ports in what comes back from a channel whose inport is gone
 abbrev pub ports_back : Option Message → List PortValue
@@ -37,4 +37,4 @@ ports_back (Some m) = message_ports m
 
 -- the channels after a send by the port, with what is discarded by it
 abbrev pub sent : PortValue → Message → Chans → Chans
-sent x m cs = all_shed (spilt (Push (writer_of x) m) (chan_at x cs)) (adjusted x (Push (writer_of x) m) cs)
+sent x m cs = all_shed (spills_at (Push (writer_of x) m) (chan_at x cs)) (adjusted x (Push (writer_of x) m) cs)

@@ -5,7 +5,7 @@ ghost use Rattle.std.specs.FinMap as map;
 ghost use Rattle.fm_base.specs.Channels.{fresh, channel_of, Push, Pop, changed, gives, spills, without, discarded, freed, shut, all_shed};
 ghost use Rattle.fm_base.specs.declared.port.PortValue.TheVariants.{Writer, Reader};
 ghost use Rattle.fm_chan.specs.Bodies.{chan_of};
-ghost use Rattle.fm_chan.specs.Events.{is_outport, writer_of, chan_at, adjusted, spilt, ports_back, sent};
+ghost use Rattle.fm_chan.specs.Events.{is_outport, writer_of, chan_at, adjusted, spills_at, ports_back, sent};
 ghost use Rattle.fm_chan.specs.Received.{got_from, got_at, brings};
 ghost use Rattle.fm_chan.specs.Rest.{dropped_ports};
 
@@ -180,7 +180,7 @@ impl Channels {
 
     fn put(&mut self, port: &Port, message: Message) -> Result<Option<Message>, (Message, NoMemory)>
         ensures ok { OnOk result (self.new ≡ adjusted port.now (Push 0 message) self.old) }
-        ensures spilt { IfOk result (λ o. ports_back o ≡ spilt (Push 0 message) (chan_at port.now self.old)) }
+        ensures spilt { IfOk result (λ o. ports_back o ≡ spills_at (Push 0 message) (chan_at port.now self.old)) }
         ensures back { IfErr result (λ e. e.0 ≡ message) }
         ensures err { OnErr result (self.new ≡ self.old) }
     {
