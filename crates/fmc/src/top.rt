@@ -71,17 +71,14 @@ fn finish<K: Sink>(sink: &mut K, reply: Reply) -> Ran
         history,
         paths,
     } = ran;
-    match written {
-        Ok(()) => Ran {
-            exit,
-            history,
-            paths,
-        },
-        Err(WriteFail) => Ran {
-            exit: Exit::WriteFault,
-            history,
-            paths,
-        },
+    let exit = match written {
+        Ok(()) => exit,
+        Err(WriteFail) => Exit::WriteFault,
+    };
+    Ran {
+        exit,
+        history,
+        paths,
     }
 }
 
