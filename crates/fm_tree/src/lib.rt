@@ -5,6 +5,8 @@ mod expression;
 mod level;
 mod port_type;
 mod program_unit;
+mod spell_expr;
+mod spell_list;
 mod statement;
 
 pub use expression::{Expr, ExprNode};
