@@ -7,6 +7,8 @@ mod port_type;
 mod program_unit;
 mod spell_expr;
 mod spell_list;
+mod spell_port_type;
+mod spell_word;
 mod statement;
 
 pub use expression::{Expr, ExprNode};

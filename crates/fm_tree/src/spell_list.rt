@@ -1,11 +1,11 @@
 //! The tokens of lists.
 
 ghost use Rattle.std.specs.Prelude.{◌≡◌, ◌++◌, OnOk};
-ghost use Rattle.fm_tree.specs.Forms.{Form, more_spelled, list_spelled, bracketed_spelled};
+ghost use Rattle.fm_tree.specs.Forms.{Form, before, parens, maybe, listed, more_spelled, list_spelled, bracketed_spelled};
 
 use crate::expression::Expr;
 use crate::spell_expr::push_expr;
-use fm_base::{Name, NoMemory, Token};
+use fm_base::{Name, NoMemory, Seq, Token};
 use std::alloc::Global;
 
 /// A form, by the code that writes the tokens of a value at the end.
@@ -62,6 +62,34 @@ pub fn push_bracketed<T, F: Spelled<T>>(
     push_more::<T, F>(alloc, rest, out)?;
     out.push(Token::Close)?;
     Ok(())
+}
+
+/// In parentheses, also where there is none.
+pub fn push_parens<T, F: Spelled<T>>(
+    alloc: Global,
+    parts: &[T],
+    out: &mut Vec<Token>,
+) -> Result<(), NoMemory>
+    ensures { OnOk result (out.new.items ≡ out.old.items ++ (parens (listed F.form)).spelled parts.now) }
+{
+    out.push(Token::Open)?;
+    push_list::<T, F>(alloc, parts, out)?;
+    out.push(Token::Close)?;
+    Ok(())
+}
+
+/// In parentheses, where a list is written, also one of none.
+pub fn push_arguments<T, F: Spelled<T>>(
+    alloc: Global,
+    parts: &Option<Seq<T>>,
+    out: &mut Vec<Token>,
+) -> Result<(), NoMemory>
+    ensures { OnOk result (out.new.items ≡ out.old.items ++ (maybe Token.Open (before (listed F.form) Token.Close)).spelled parts.now) }
+{
+    match parts {
+        None => Ok(()),
+        Some(parts) => push_parens::<T, F>(alloc, parts.as_slice(), out),
+    }
 }
 
 /// A name.
