@@ -202,16 +202,21 @@ IsEachOnce es = (ends_in es ≤ 1) × (iostats_in es ≤ 1)
 abbrev pub extras_form : Form (List Extra)
 extras_form = such_that (more extra_form) IsEachOnce
 
--- LOCATION ( list(expr) ) or SUBMACHINE ( expr : expr )
+-- LOCATION ( list(expr) )
+abbrev pub location_form : Form (List Tree)
+location_form = behind_word (codes "LOCATION") (parens (some_of expr))
+
+-- SUBMACHINE ( expr : expr )
+abbrev pub submachine_form : Form (Tree × Tree)
+submachine_form = behind_word (codes "SUBMACHINE") (parens (pair expr (behind token.Colon expr)))
+
+-- one of the two
 abbrev pub where_parts : Where → List Tree ⊎ (Tree × Tree)
 where_parts (place.Location es) = inl es
 where_parts (place.Submachine a b) = inr (a, b)
 
 abbrev pub where_form : Form Where
-where_form =
-    over where_parts
-    (either (behind_word (codes "LOCATION") (parens (some_of expr)))
-    (behind_word (codes "SUBMACHINE") (parens (pair expr (behind token.Colon expr)))))
+where_form = over where_parts (either location_form submachine_form)
 
 -- what stands behind the opening parenthesis in `name ( [list(expr)] ) [where]`
 abbrev pub call_parts : CallPart → List Tree × Option Where
