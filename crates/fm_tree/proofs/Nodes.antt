@@ -1,5 +1,5 @@
 -- Each expression of a list has fewer nodes than the list, and each field fewer than the type.
-use Rattle.std.proofs.Common.{◌≡◌, ℕ, zero, suc, ◌<◌, List, [], ◌∷◌, length, arith, slice_index_or}
+use Rattle.std.proofs.Common.{ℕ, zero, suc, ◌<◌, List, [], ◌∷◌, length, arith, slice_index_or}
 use Rattle.fm_tree.specs.Tree.{Tree, node_count, node_counts, trees_from}
 use Rattle.fm_tree.specs.PortFields.{PortFields, NoFields, FieldThen, fields_count, kind_count}
 use Rattle.fm_tree.specs.PortReading.{kind_of, fields_of}

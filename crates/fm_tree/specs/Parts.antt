@@ -2,7 +2,7 @@
 -- Source: ANSI X3.9-1978, sections 5.1, 8.4, 8.6, 11.10 and 12.8.2, and the Fortran M report.
 use Rattle.std.proofs.Common.{inl, inr}
 use Rattle.std.specs.List.{list_all}
-use Rattle.std.specs.Prelude.{ℕ, ◌≡◌, ◌≤◌, ◌+◌, Bool, true, false, ◌&&◌, ◌||◌, ◌==◌, nat_le, IsTrue, Option, Some, None, ◌⊎◌, List, [], ◌∷◌, ◌++◌, codes, pos}
+use Rattle.std.specs.Prelude.{ℕ, ◌≡◌, ◌≤◌, ◌+◌, Bool, false, ◌&&◌, ◌||◌, ◌==◌, nat_le, IsTrue, Option, Some, None, ◌⊎◌, List, [], ◌∷◌, ◌++◌, codes, pos}
 use Rattle.fm_base.specs.declared.name.Label.{Label}
 use Rattle.fm_base.specs.declared.token.Token.{Token}
 use Rattle.fm_base.specs.declared.token.Token.TheVariants as token

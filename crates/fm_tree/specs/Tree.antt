@@ -1,6 +1,6 @@
 -- An expression as plain data.
 -- Source: ANSI X3.9-1978, section 6.
-use Rattle.std.specs.Prelude.{ℕ, ℤ, Bool, List, [], ◌∷◌, ◌+◌, ◌++◌}
+use Rattle.std.specs.Prelude.{ℕ, ℤ, Bool, List, [], ◌∷◌, ◌+◌}
 use Rattle.fm_base.specs.declared.token.Op.{Op}
 
 -- an expression without where it lies in memory, and a list of them

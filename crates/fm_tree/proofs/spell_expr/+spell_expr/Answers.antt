@@ -1,4 +1,4 @@
-use Rattle.std.proofs.Common.{arith, ap, ◌∷◌}
+use Rattle.std.proofs.Common.{arith, ap}
 use Rattle.fm_tree.specs.Tree.{node_count, node_counts, trees_from, Tree}
 use Rattle.std.proofs.Common.{List}
 use Rattle.fm_tree.proofs.Nodes.{in_list}

@@ -1,5 +1,5 @@
 use Rattle.std.proofs.Common.{List, arith, ap}
-use Rattle.fm_tree.specs.PortFields.{PortFields, fields_count, kind_count}
+use Rattle.fm_tree.specs.PortFields.{fields_count, kind_count}
 use Rattle.fm_tree.specs.PortReading.{kind_of, fields_of}
 use Rattle.fm_tree.specs.declared.port_type.Field.{Field}
 use Rattle.fm_tree.proofs.Nodes.{some_field, in_fields}
