@@ -1,0 +1,4 @@
+pub mod Machine
+pub mod Owned
+pub mod Lawful
+pub mod Small

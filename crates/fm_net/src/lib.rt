@@ -1,0 +1,2 @@
+//! Processes over channels.
+#![tactic(auto)]
