@@ -15,6 +15,7 @@ use Rattle.fm_maps.proofs.Alters.{alters_there, alters_swap}
 use Rattle.fm_maps.proofs.Sums.{one_of_total, two_of_total}
 use Rattle.fm_sched.proofs.Moves.{MovesMeet}
 use Rattle.fm_net.specs.Machine.{Place, Need, Nothing, Event, New, Children, Reply, Onward, Ask, child, made, chans_after, spills_at, spilt, with_child, gathered, served_at, served, changes}
+use Rattle.fm_net.specs.Language.{Language}
 use Rattle.fm_net.specs.Owned.{one, count, queued, open_at, opened, present, name_of, HasOneWriter}
 use Rattle.fm_net.specs.Lawful.{port_of, Uses, Numbered, IsLawfulStep, IsLawfulAsk, IsLawfulLanguage}
 use Rattle.fm_net.proofs.Keys.{path_order, channel_order}
@@ -25,21 +26,21 @@ use Rattle.fm_net.proofs.Children.{one_parent, IsNoChild, ChildrenOff, off_chang
 use Rattle.fm_net.proofs.Needs.{absent, no_value, Ready, IsCalm, Commutes, chans_swap, left, served_event}
 
 -- ownership between two parts: a loose port has its place there
-pub record IsSound {Proc : Type 0} (held : Proc → List PortValue) (next_block next_channel : Proc → ℕ) (μ : Midway Proc) : Type 0 where
-  pub places : (z : PortValue) → total (λ x. count z (held x)) μ.procs + total (queued z) μ.chans + μ.loose z ≡ opened μ.chans z
-  pub born : (q : Place) (b i : ℕ) → 1 ≤ present (get μ.procs (child q b i)) → b < value_or_zero next_block (get μ.procs q)
-  pub named : (q : Place) (n : ℕ) → 1 ≤ present (get μ.chans (name_of q n)) → n < value_or_zero next_channel (get μ.procs q)
+pub record IsSound {Proc : Type 0} (language : Language Proc) (μ : Midway Proc) : Type 0 where
+  pub places : (z : PortValue) → total (λ x. count z (language.held x)) μ.procs + total (queued z) μ.chans + μ.loose z ≡ opened μ.chans z
+  pub born : (q : Place) (b i : ℕ) → 1 ≤ present (get μ.procs (child q b i)) → b < value_or_zero language.next_block (get μ.procs q)
+  pub named : (q : Place) (n : ℕ) → 1 ≤ present (get μ.chans (name_of q n)) → n < value_or_zero language.next_channel (get μ.procs q)
 
-module _ {Proc : Type 0} (ask : Proc → Ask Proc) (has_ended : Proc → Bool) (emptied : Proc → Proc) (held : Proc → List PortValue) (next_block next_channel : Proc → ℕ) where
+module _ {Proc : Type 0} (language : Language Proc) where
   abbrev holds : PortValue → Proc → ℕ
-  holds z x = count z (held x)
+  holds z x = count z (language.held x)
 
-  module _ (laws : IsLawfulLanguage ask has_ended emptied held next_block next_channel) (μ : Midway Proc) (good : IsSound held next_block next_channel μ) where
+  module _ (laws : IsLawfulLanguage language) (μ : Midway Proc) (good : IsSound language μ) where
     abbrev Starts : Place → Type 0
-    Starts p = Start ask has_ended emptied μ.procs μ.chans p
+    Starts p = Start language μ.procs μ.chans p
 
-    pub going_of : (p : Place) (t : Starts p) → IsLawfulStep ask has_ended emptied held next_block next_channel t.self t.need t.goes
-    going_of p t = subst (IsLawfulAsk ask has_ended emptied held next_block next_channel t.self) t.asks (laws.goes t.self)
+    pub going_of : (p : Place) (t : Starts p) → IsLawfulStep language t.self t.need t.goes
+    going_of p t = subst (IsLawfulAsk language t.self) t.asks (laws.goes t.self)
 
     most : (z : PortValue) → opened μ.chans z ≤ 1
     most z = opened_small z (get μ.chans (channel_of z))
@@ -68,34 +69,34 @@ module _ {Proc : Type 0} (ask : Proc → Ask Proc) (has_ended : Proc → Bool) (
 
     pub no_child : (p : Place) (t : Starts p) (i : ℕ) → get μ.procs (child p (t.goes (made p t.need) t.reply).block i) ≡ None
     no_child p t i =
-        let b : (t.goes (made p t.need) t.reply).block ≡ next_block t.self = (going_of p t).block_is (made p t.need) t.reply in
+        let b : (t.goes (made p t.need) t.reply).block ≡ language.next_block t.self = (going_of p t).block_is (made p t.need) t.reply in
         no_value _ (λ h. let g = good.born p (t.goes (made p t.need) t.reply).block i h in
-        let e : value_or_zero next_block (get μ.procs p) ≡ next_block t.self = ap (value_or_zero next_block) t.is in omega arith)
+        let e : value_or_zero language.next_block (get μ.procs p) ≡ language.next_block t.self = ap (value_or_zero language.next_block) t.is in omega arith)
 
-    busy : (p r : Place) (t : Starts p) (x : Proc) → get μ.procs r ≡ Some x → has_ended x ≡ true → r ≢ p
+    busy : (p r : Place) (t : Starts p) (x : Proc) → get μ.procs r ≡ Some x → language.has_ended x ≡ true → r ≢ p
     busy p r t x is done e =
         let same : Some x ≡ Some t.self = sym is ∙ ap (get μ.procs) e ∙ t.is in
         let self : x ≡ t.self = cc in
-        cc (sym (laws.stops x done) ∙ ap ask self ∙ t.asks)
+        cc (sym (laws.stops x done) ∙ ap language.ask self ∙ t.asks)
 
-    joined_child : (p : Place) (b n : ℕ) (r : Reply Proc) → served has_ended μ.procs μ.chans p (Children b n) ≡ Some r → (i : ℕ) → 1 ≤ i → i < n + 1 → (x : Proc) × (get μ.procs (child p b i) ≡ Some x) × (has_ended x ≡ true)
-    joined_child p b n r e i l h = go (gathered has_ended μ.procs p b 1 n) refl e
+    joined_child : (p : Place) (b n : ℕ) (r : Reply Proc) → served language.has_ended μ.procs μ.chans p (Children b n) ≡ Some r → (i : ℕ) → 1 ≤ i → i < n + 1 → (x : Proc) × (get μ.procs (child p b i) ≡ Some x) × (language.has_ended x ≡ true)
+    joined_child p b n r e i l h = go (gathered language.has_ended μ.procs p b 1 n) refl e
       where
-        go : (o : Option (List Proc)) → gathered has_ended μ.procs p b 1 n ≡ o → option_map (λ ys. record { message = None; children = ys }) o ≡ Some r → (x : Proc) × (get μ.procs (child p b i) ≡ Some x) × (has_ended x ≡ true)
+        go : (o : Option (List Proc)) → gathered language.has_ended μ.procs p b 1 n ≡ o → option_map (λ ys. record { message = None; children = ys }) o ≡ Some r → (x : Proc) × (get μ.procs (child p b i) ≡ Some x) × (language.has_ended x ≡ true)
         go None is e' = absurd (cc e')
-        go (Some ys) is e' = child_there has_ended μ.procs p b 1 n ys is i l h
+        go (Some ys) is e' = child_there language.has_ended μ.procs p b 1 n ys is i l h
 
-    pub ready_need : (p : Place) (x : Proc) (need : Need) (r : Reply Proc) → get μ.procs p ≡ Some x → Numbered (next_channel x) need → served has_ended μ.procs μ.chans p need ≡ Some r → Ready μ.chans p need
+    pub ready_need : (p : Place) (x : Proc) (need : Need) (r : Reply Proc) → get μ.procs p ≡ Some x → Numbered (language.next_channel x) need → served language.has_ended μ.procs μ.chans p need ≡ Some r → Ready μ.chans p need
     ready_need p x Nothing r is n e = tt
     ready_need p x (Event c a) r is n e = let h = served_event a (get μ.chans c) r e in (h.0, h.1, h.2)
-    ready_need p x (New k) r is n e = no_value _ (λ h. let g = good.named p k h in let w : value_or_zero next_channel (get μ.procs p) ≡ next_channel x = ap (value_or_zero next_channel) is in omega arith)
+    ready_need p x (New k) r is n e = no_value _ (λ h. let g = good.named p k h in let w : value_or_zero language.next_channel (get μ.procs p) ≡ language.next_channel x = ap (value_or_zero language.next_channel) is in omega arith)
     ready_need p x (Children b k) r is n e = tt
 
     open_here : (p : Place) (x : Proc) (c : ChanName) (a : ChannelOp) (ch : Chan) → get μ.procs p ≡ Some x → get μ.chans c ≡ Some ch → 1 ≤ holds (port_of c a) x → 1 ≤ open_at (port_of c a) (Some ch)
     open_here p x c (Push w m) ch is has h = subst (λ o. 1 ≤ open_at (Writer c w) o) has (held_open p x (Writer c w) is h)
     open_here p x c Pop ch is has h = subst (λ o. 1 ≤ open_at (Reader c) o) has (held_open p x (Reader c) is h)
 
-    calm_need : (p q : Place) (x y : Proc) (need other : Need) → (p ≢ q) → get μ.procs p ≡ Some x → get μ.procs q ≡ Some y → Uses (held x) need → Uses (held y) other
+    calm_need : (p q : Place) (x y : Proc) (need other : Need) → (p ≢ q) → get μ.procs p ≡ Some x → get μ.procs q ≡ Some y → Uses (language.held x) need → Uses (language.held y) other
         → Ready μ.chans p need → Ready μ.chans q other → IsCalm μ.chans need other
     calm_need p q x y Nothing other n is_x is_y u v r s = tt
     calm_need p q x y (New k) other n is_x is_y u v r s = tt
@@ -125,47 +126,47 @@ module _ {Proc : Type 0} (ask : Proc → Ask Proc) (has_ended : Proc → Bool) (
       other_out = u.goes (made q u.need) u.reply
 
       abbrev other_changes : List (Change Place Proc)
-      other_changes = changes emptied q u.need other_out
+      other_changes = changes language.emptied q u.need other_out
 
-      no_busy_child : (need : Need) (r : Reply Proc) → served has_ended μ.procs μ.chans q need ≡ Some r → IsNoChild emptied p q need
+      no_busy_child : (need : Need) (r : Reply Proc) → served language.has_ended μ.procs μ.chans q need ≡ Some r → IsNoChild language.emptied p q need
       no_busy_child Nothing r e = tt
       no_busy_child (Event c a) r e = tt
       no_busy_child (New n) r e = tt
       no_busy_child (Children b n) r e = λ i l h w. let k = joined_child q b n r e i l h in busy p (child q b i) t k.0 k.1 k.2 (sym w)
 
-      no_other_child : (b i : ℕ) (need : Need) → IsNoChild emptied (child p b i) q need
+      no_other_child : (b i : ℕ) (need : Need) → IsNoChild language.emptied (child p b i) q need
       no_other_child b i Nothing = tt
       no_other_child b i (Event c a) = tt
       no_other_child b i (New n) = tt
       no_other_child b i (Children d n) = λ j l h. one_parent p q b i d j apart
 
       off_self : Off p other_changes
-      off_self = off_changes emptied p q u.need other_out apart (λ i. absent (get μ.procs) p (child q other_out.block i) t.self t.is (no_child q u i)) (no_busy_child u.need u.reply u.serves)
+      off_self = off_changes language.emptied p q u.need other_out apart (λ i. absent (get μ.procs) p (child q other_out.block i) t.self t.is (no_child q u i)) (no_busy_child u.need u.reply u.serves)
 
       off_child : (b i : ℕ) → (child p b i ≢ q) → Off (child p b i) other_changes
-      off_child b i n = off_changes emptied (child p b i) q u.need other_out n (λ j. one_parent p q b i other_out.block j apart) (no_other_child b i u.need)
+      off_child b i n = off_changes language.emptied (child p b i) q u.need other_out n (λ j. one_parent p q b i other_out.block j apart) (no_other_child b i u.need)
 
       off_started : (i : ℕ) → Off (child p out.block i) other_changes
       off_started i = off_child out.block i (λ e. absent (get μ.procs) q (child p out.block i) u.self u.is (no_child p t i) (sym e))
 
-      off_joined : (need : Need) (r : Reply Proc) → served has_ended μ.procs μ.chans p need ≡ Some r → ChildrenOff emptied p need other_changes
+      off_joined : (need : Need) (r : Reply Proc) → served language.has_ended μ.procs μ.chans p need ≡ Some r → ChildrenOff language.emptied p need other_changes
       off_joined Nothing r e = tt
       off_joined (Event c a) r e = tt
       off_joined (New n) r e = tt
       off_joined (Children b n) r e = λ i l h. off_child b i (let k = joined_child p b n r e i l h in busy q (child p b i) u k.0 k.1 k.2)
 
-      apart_both : Apart (changes emptied p t.need out) other_changes
-      apart_both = apart_changes emptied p t.need out other_changes off_self off_started (off_joined t.need t.reply t.serves)
+      apart_both : Apart (changes language.emptied p t.need out) other_changes
+      apart_both = apart_changes language.emptied p t.need out other_changes off_self off_started (off_joined t.need t.reply t.serves)
 
-      gathered_same : (b i n : ℕ) → ((j : ℕ) → i ≤ j → j < n + i → Off (child p b j) other_changes) → gathered has_ended (alters other_changes μ.procs) p b i n ≡ gathered has_ended μ.procs p b i n
+      gathered_same : (b i n : ℕ) → ((j : ℕ) → i ≤ j → j < n + i → Off (child p b j) other_changes) → gathered language.has_ended (alters other_changes μ.procs) p b i n ≡ gathered language.has_ended μ.procs p b i n
       gathered_same b i zero h = refl
-      gathered_same b i (suc n) h = ap₂ (with_child has_ended) (alters_there path_order other_changes μ.procs (child p b i) (h i (omega arith) (omega arith))) (gathered_same b (suc i) n (λ j l m. h j (omega arith) (omega arith)))
+      gathered_same b i (suc n) h = ap₂ (with_child language.has_ended) (alters_there path_order other_changes μ.procs (child p b i) (h i (omega arith) (omega arith))) (gathered_same b (suc i) n (λ j l m. h j (omega arith) (omega arith)))
 
-      module _ (need : Need) (r : Reply Proc) (serves : served has_ended μ.procs μ.chans p need ≡ Some r) (there : Ready μ.chans p need) (other_there : Ready μ.chans q u.need) (cross : IsCalm μ.chans need u.need) where
-        still_served : (k : Need) → need ≡ k → served has_ended (alters other_changes μ.procs) (chans_after q u.need μ.chans) p k ≡ served has_ended μ.procs μ.chans p k
+      module _ (need : Need) (r : Reply Proc) (serves : served language.has_ended μ.procs μ.chans p need ≡ Some r) (there : Ready μ.chans p need) (other_there : Ready μ.chans q u.need) (cross : IsCalm μ.chans need u.need) where
+        still_served : (k : Need) → need ≡ k → served language.has_ended (alters other_changes μ.procs) (chans_after q u.need μ.chans) p k ≡ served language.has_ended μ.procs μ.chans p k
         still_served Nothing e = refl
         still_served (New n) e = refl
-        still_served (Children b n) e = ap (option_map (λ ys. record { message = None; children = ys })) (gathered_same b 1 n (subst (λ k. ChildrenOff emptied p k other_changes) e (off_joined need r serves)))
+        still_served (Children b n) e = ap (option_map (λ ys. record { message = None; children = ys })) (gathered_same b 1 n (subst (λ k. ChildrenOff language.emptied p k other_changes) e (off_joined need r serves)))
         still_served (Event c a) e = (left {Proc = Proc} μ.chans p q c a u.need (subst (Ready μ.chans p) e there) other_there (subst (λ k. IsCalm μ.chans k u.need) e cross)).served_same
 
         still_spilt : (k : Need) → need ≡ k → spilt k (chans_after q u.need μ.chans) ≡ spilt k μ.chans
@@ -184,7 +185,7 @@ module _ {Proc : Type 0} (ask : Proc → Ask Proc) (has_ended : Proc → Bool) (
       calm_both = calm_need p q t.self u.self t.need u.need apart t.is u.is (going_of p t).uses (going_of q u).uses ready_self ready_other
 
       -- the same step is still there
-      later : Start ask has_ended emptied (alters other_changes μ.procs) (chans_after q u.need μ.chans) p
+      later : Start language (alters other_changes μ.procs) (chans_after q u.need μ.chans) p
       later = record {
         self = t.self;
         is = alters_there path_order other_changes μ.procs p off_self ∙ t.is;
@@ -206,7 +207,7 @@ module _ {Proc : Type 0} (ask : Proc → Ask Proc) (has_ended : Proc → Bool) (
     open_there x (Some ch) h = (ch, refl)
 
     record Seen (x : PortValue) (p : Place) (need : Need) : Type 0 where
-      served_same : served has_ended μ.procs (closed x μ.chans) p need ≡ served has_ended μ.procs μ.chans p need
+      served_same : served language.has_ended μ.procs (closed x μ.chans) p need ≡ served language.has_ended μ.procs μ.chans p need
       even : (z : PortValue) → count z (freed x (get μ.chans (channel_of x))) + count z (spilt need (closed x μ.chans)) ≡ count z (spilt need μ.chans) + count z (freed x (get (chans_after p need μ.chans) (channel_of x)))
       one_chans : chans_after p need (closed x μ.chans) ≡ closed x (chans_after p need μ.chans)
 
@@ -231,7 +232,7 @@ module _ {Proc : Type 0} (ask : Proc → Ask Proc) (has_ended : Proc → Bool) (
           }
     ]
 
-    seen : (x : PortValue) (p : Place) (y : Proc) (need : Need) → get μ.procs p ≡ Some y → Uses (held y) need → 1 ≤ μ.loose x → Ready μ.chans p need → Seen x p need
+    seen : (x : PortValue) (p : Place) (y : Proc) (need : Need) → get μ.procs p ≡ Some y → Uses (language.held y) need → 1 ≤ μ.loose x → Ready μ.chans p need → Seen x p need
     seen x p y Nothing is u l r = record { served_same = refl; even = λ z. omega arith; one_chans = refl }
     seen x p y (Children b n) is u l r = record { served_same = refl; even = λ z. omega arith; one_chans = refl }
     seen x p y (Event c a) is u l r = seen_event x p c a (not_loose p y (port_of c a) x is u l) l r
@@ -247,11 +248,11 @@ module _ {Proc : Type 0} (ask : Proc → Ask Proc) (has_ended : Proc → Bool) (
     seen_by : (p : Place) (x : PortValue) (t : Starts p) → 1 ≤ μ.loose x → Seen x p t.need
     seen_by p x t l = seen x p t.self t.need t.is (going_of p t).uses l (ready_need p t.self t.need t.reply t.is (going_of p t).numbered t.serves)
 
-    beside_discard : (p : Place) (x : PortValue) (t : Starts p) → 1 ≤ μ.loose x → Start ask has_ended emptied μ.procs (closed x μ.chans) p
+    beside_discard : (p : Place) (x : PortValue) (t : Starts p) → 1 ≤ μ.loose x → Start language μ.procs (closed x μ.chans) p
     beside_discard p x t l = record { self = t.self; is = t.is; need = t.need; goes = t.goes; asks = t.asks; reply = t.reply; serves = (seen_by p x t l).served_same ∙ t.serves }
 
     -- of every language: a part is still there after another
-    pub stay : (a b : Part) → (a ≢ b) → (m : Move ask has_ended emptied μ a) (n : Move ask has_ended emptied μ b) → Move ask has_ended emptied (end ask has_ended emptied μ b n).0 a
+    pub stay : (a b : Part) → (a ≢ b) → (m : Move language μ a) (n : Move language μ b) → Move language (end language μ b n).0 a
     stay (Run p) (Run q) apart (h, t) (g, u) = (omega (arith, one_place_apart q p (λ e. apart (ap Run (sym e)))), later p q (λ e. apart (ap Run e)) t u)
     stay (Discard x) (Run q) apart l n = omega arith
     stay (Discard x) (Discard y) apart l n = omega (arith, one_apart y x (λ e. apart (ap Discard (sym e))))
@@ -260,7 +261,7 @@ module _ {Proc : Type 0} (ask : Proc → Ask Proc) (has_ended : Proc → Bool) (
     -- ---- where no channel has a second writer
 
     module _ (single : HasOneWriter μ.chans) where
-      commuting_need : (p q : Place) (x y : Proc) (need other : Need) → (p ≢ q) → get μ.procs p ≡ Some x → get μ.procs q ≡ Some y → Uses (held x) need → Uses (held y) other
+      commuting_need : (p q : Place) (x y : Proc) (need other : Need) → (p ≢ q) → get μ.procs p ≡ Some x → get μ.procs q ≡ Some y → Uses (language.held x) need → Uses (language.held y) other
           → Ready μ.chans p need → Ready μ.chans q other → Commutes μ.chans need other
       commuting_need p q x y Nothing other n is_x is_y u v r s = tt
       commuting_need p q x y (New k) other n is_x is_y u v r s = tt
@@ -278,7 +279,7 @@ module _ {Proc : Type 0} (ask : Proc → Ask Proc) (has_ended : Proc → Bool) (
           (subst (λ z. is_ready a z ≡ true) (same_some r.0 ch (get μ.chans c) r.1 is) r.2)
           (subst (λ z. is_ready b z ≡ true) (same_some s.0 ch (get μ.chans d) s.1 at_d) s.2)).one_chan
 
-      runs : (p q : Place) (apart : p ≢ q) (m : Move ask has_ended emptied μ (Run p)) (n : Move ask has_ended emptied μ (Run q)) → MovesMeet (Move ask has_ended emptied) (end ask has_ended emptied) μ (Run p) (Run q) m n
+      runs : (p q : Place) (apart : p ≢ q) (m : Move language μ (Run p)) (n : Move language μ (Run q)) → MovesMeet (Move language) (end language) μ (Run p) (Run q) m n
       unfolding later
       runs p q apart (h, t) (g, u) =
           let off = λ (e : q ≡ p). apart (sym e) in
@@ -286,7 +287,7 @@ module _ {Proc : Type 0} (ask : Proc → Ask Proc) (has_ended : Proc → Bool) (
             first = (omega (arith, one_place_apart q p off), later p q apart t u);
             second = (omega (arith, one_place_apart p q apart), later q p off u t);
             one_state = λ i. record {
-              procs = alters_swap path_order (changes emptied p t.need (out p q apart t u)) (changes emptied q u.need (other_out p q apart t u)) μ.procs (apart_both p q apart t u) i;
+              procs = alters_swap path_order (changes language.emptied p t.need (out p q apart t u)) (changes language.emptied q u.need (other_out p q apart t u)) μ.procs (apart_both p q apart t u) i;
               chans = chans_swap μ.chans p q t.need u.need apart (ready_self p q apart t u) (ready_other p q apart t u) (commuting_need p q t.self u.self t.need u.need apart t.is u.is (going_of p t).uses (going_of q u).uses (ready_self p q apart t u) (ready_other p q apart t u)) i;
               loose = fun_ext {f = λ z. μ.loose z + count z ((u.goes (made q u.need) u.reply).drops ++ spilt u.need μ.chans) + count z ((t.goes (made p t.need) t.reply).drops ++ spilt t.need (chans_after q u.need μ.chans))}
                   {g = λ z. μ.loose z + count z ((t.goes (made p t.need) t.reply).drops ++ spilt t.need μ.chans) + count z ((u.goes (made q u.need) u.reply).drops ++ spilt u.need (chans_after p t.need μ.chans))}
@@ -299,7 +300,7 @@ module _ {Proc : Type 0} (ask : Proc → Ask Proc) (has_ended : Proc → Bool) (
             second_cost = refl;
           }
 
-      run_beside : (p : Place) (x : PortValue) (m : Move ask has_ended emptied μ (Run p)) (l : 1 ≤ μ.loose x) → MovesMeet (Move ask has_ended emptied) (end ask has_ended emptied) μ (Run p) (Discard x) m l
+      run_beside : (p : Place) (x : PortValue) (m : Move language μ (Run p)) (l : 1 ≤ μ.loose x) → MovesMeet (Move language) (end language) μ (Run p) (Discard x) m l
       unfolding beside_discard
       run_beside p x (h, t) l =
           let s = seen_by p x t l in
@@ -308,7 +309,7 @@ module _ {Proc : Type 0} (ask : Proc → Ask Proc) (has_ended : Proc → Bool) (
             first = (h, beside_discard p x t l);
             second = omega arith;
             one_state = λ i. record {
-              procs = alters (changes emptied p t.need (t.goes (made p t.need) t.reply)) μ.procs;
+              procs = alters (changes language.emptied p t.need (t.goes (made p t.need) t.reply)) μ.procs;
               chans = s.one_chans i;
               loose = fun_ext {f = λ z. (μ.loose z - one x z + count z (freed x (get μ.chans (channel_of x)))) + count z ((t.goes (made p t.need) t.reply).drops ++ spilt t.need (closed x μ.chans))}
                   {g = λ z. (μ.loose z + count z ((t.goes (made p t.need) t.reply).drops ++ spilt t.need μ.chans)) - one x z + count z (freed x (get (chans_after p t.need μ.chans) (channel_of x)))}
@@ -319,7 +320,7 @@ module _ {Proc : Type 0} (ask : Proc → Ask Proc) (has_ended : Proc → Bool) (
             second_cost = refl;
           }
 
-      two_discards : (x y : PortValue) → (x ≢ y) → (m : 1 ≤ μ.loose x) (n : 1 ≤ μ.loose y) → MovesMeet (Move ask has_ended emptied) (end ask has_ended emptied) μ (Discard x) (Discard y) m n
+      two_discards : (x y : PortValue) → (x ≢ y) → (m : 1 ≤ μ.loose x) (n : 1 ≤ μ.loose y) → MovesMeet (Move language) (end language) μ (Discard x) (Discard y) m n
       two_discards x y apart m n = record {
         first = omega (arith, one_apart y x (λ e. apart (sym e)));
         second = omega (arith, one_apart x y apart);
@@ -335,10 +336,10 @@ module _ {Proc : Type 0} (ask : Proc → Ask Proc) (has_ended : Proc → Bool) (
         second_cost = refl;
       }
 
-      turned : (a b : Part) (m : Move ask has_ended emptied μ a) (n : Move ask has_ended emptied μ b) → MovesMeet (Move ask has_ended emptied) (end ask has_ended emptied) μ b a n m → MovesMeet (Move ask has_ended emptied) (end ask has_ended emptied) μ a b m n
+      turned : (a b : Part) (m : Move language μ a) (n : Move language μ b) → MovesMeet (Move language) (end language) μ b a n m → MovesMeet (Move language) (end language) μ a b m n
       turned a b m n w = record { first = w.second; second = w.first; one_state = sym w.one_state; first_cost = w.second_cost; second_cost = w.first_cost }
 
-      pub meet : (a b : Part) → (a ≢ b) → (m : Move ask has_ended emptied μ a) (n : Move ask has_ended emptied μ b) → MovesMeet (Move ask has_ended emptied) (end ask has_ended emptied) μ a b m n
+      pub meet : (a b : Part) → (a ≢ b) → (m : Move language μ a) (n : Move language μ b) → MovesMeet (Move language) (end language) μ a b m n
       meet (Run p) (Run q) apart m n = runs p q (λ e. apart (ap Run e)) m n
       meet (Run p) (Discard x) apart m n = run_beside p x m n
       meet (Discard x) (Run p) apart m n = turned _ _ _ _ (run_beside p x n m)

@@ -1,12 +1,13 @@
 -- What a language of processes owes, so that each of its steps keeps ownership and leaves others theirs:
 -- what a process takes in is what it then holds, starts its children with, lets go or gives away.
 -- Source: this profile.
-use Rattle.std.specs.Prelude.{◌≡◌, ℕ, ◌+◌, ◌<◌, ◌≤◌, Option, Some, None, List, [], ◌∷◌, Bool, true, length}
+use Rattle.std.specs.Prelude.{◌≡◌, ℕ, ◌+◌, ◌<◌, ◌≤◌, Option, Some, None, List, [], ◌∷◌, true, length}
 use Rattle.fm_base.specs.declared.path.ChanName.{ChanName}
 use Rattle.fm_base.specs.declared.port.PortValue.{PortValue}
 use Rattle.fm_base.specs.declared.port.PortValue.TheVariants.{Writer, Reader}
 use Rattle.fm_base.specs.Channels.{Message, ChannelOp, Push, Pop, message_ports}
 use Rattle.fm_net.specs.Machine.{Need, Nothing, Event, New, Children, Reply, Onward, Ask, Stop, Go}
+use Rattle.fm_net.specs.Language.{Language}
 use Rattle.fm_net.specs.Owned.{count}
 
 -- the port by which an event comes to its channel
@@ -68,26 +69,26 @@ abbrev pub sum_of : {X : Type 0} → (X → ℕ) → List X → ℕ
 sum_of f [] = 0
 sum_of f (x ∷ xs) = f x + sum_of f xs
 
-module _ {Proc : Type 0} (ask : Proc → Ask Proc) (has_ended : Proc → Bool) (emptied : Proc → Proc) (held : Proc → List PortValue) (next_block next_channel : Proc → ℕ) where
+module _ {Proc : Type 0} (language : Language Proc) where
   -- how often the process holds the port
   abbrev pub holds : PortValue → Proc → ℕ
-  holds z x = count z (held x)
+  holds z x = count z (language.held x)
 
   -- what a process owes that goes on
   pub record IsLawfulStep (x : Proc) (need : Need) (f : ChanName → Reply Proc → Onward Proc) : Type 0 where
-    pub uses : Uses (held x) need
-    pub numbered : Numbered (next_channel x) need
+    pub uses : Uses (language.held x) need
+    pub numbered : Numbered (language.next_channel x) need
     -- its children start in its next block, whose number is then passed
-    pub block_is : (c : ChanName) (r : Reply Proc) → (f c r).block ≡ next_block x
-    pub later_block : (c : ChanName) (r : Reply Proc) → next_block x ≤ next_block (f c r).self
-    pub passed_block : (c : ChanName) (r : Reply Proc) → 1 ≤ length (f c r).starts → next_block x < next_block (f c r).self
+    pub block_is : (c : ChanName) (r : Reply Proc) → (f c r).block ≡ language.next_block x
+    pub later_block : (c : ChanName) (r : Reply Proc) → language.next_block x ≤ language.next_block (f c r).self
+    pub passed_block : (c : ChanName) (r : Reply Proc) → 1 ≤ length (f c r).starts → language.next_block x < language.next_block (f c r).self
     -- and so with a channel that it makes
-    pub later_channel : (c : ChanName) (r : Reply Proc) → next_channel x ≤ next_channel (f c r).self
-    pub passed_channel : (c : ChanName) (r : Reply Proc) (n : ℕ) → need ≡ New n → next_channel x < next_channel (f c r).self
+    pub later_channel : (c : ChanName) (r : Reply Proc) → language.next_channel x ≤ language.next_channel (f c r).self
+    pub passed_channel : (c : ChanName) (r : Reply Proc) (n : ℕ) → need ≡ New n → language.next_channel x < language.next_channel (f c r).self
     -- each port comes out as often as it went in
     pub account : (c : ChanName) (r : Reply Proc) → MayBring need r → (z : PortValue)
-        → count z (held (f c r).self) + sum_of (holds z) (f c r).starts + count z (f c r).drops + count z (given_by need) + sum_of (λ k. holds z (emptied k)) r.children
-        ≡ count z (held x) + count z (got r.message) + count z (made_by need c) + sum_of (holds z) r.children
+        → holds z (f c r).self + sum_of (holds z) (f c r).starts + count z (f c r).drops + count z (given_by need) + sum_of (λ k. holds z (language.emptied k)) r.children
+        ≡ holds z x + count z (got r.message) + count z (made_by need c) + sum_of (holds z) r.children
 
   -- by cases on what the process asks, so that it computes at each statement
   abbrev pub IsLawfulAsk : Proc → Ask Proc → Type 0
@@ -96,7 +97,7 @@ module _ {Proc : Type 0} (ask : Proc → Ask Proc) (has_ended : Proc → Bool) (
 
   -- what a language owes
   pub record IsLawfulLanguage : Type 0 where
-    pub stops : (x : Proc) → has_ended x ≡ true → ask x ≡ Stop
-    pub same_block : (x : Proc) → next_block (emptied x) ≡ next_block x
-    pub same_channel : (x : Proc) → next_channel (emptied x) ≡ next_channel x
-    pub goes : (x : Proc) → IsLawfulAsk x (ask x)
+    pub stops : (x : Proc) → language.has_ended x ≡ true → language.ask x ≡ Stop
+    pub same_block : (x : Proc) → language.next_block (language.emptied x) ≡ language.next_block x
+    pub same_channel : (x : Proc) → language.next_channel (language.emptied x) ≡ language.next_channel x
+    pub goes : (x : Proc) → IsLawfulAsk x (language.ask x)

@@ -11,6 +11,7 @@ use Rattle.fm_base.specs.PathOrder.{channel_cmp}
 use Rattle.fm_base.specs.Channels.{Chan, Chans, queue_ports, channel_of}
 use Rattle.fm_maps.specs.Sums.{total, value_or_zero}
 use Rattle.fm_net.specs.Machine.{Place, State, child}
+use Rattle.fm_net.specs.Language.{Language}
 
 abbrev pub same_channel : ChanName → ChanName → Bool
 same_channel = eq_by_cmp channel_cmp
@@ -57,15 +58,14 @@ present = value_or_zero (λ x. 1)
 abbrev pub name_of : Place → ℕ → ChanName
 name_of p n = record { maker = p; number = n }
 
--- what each step of a language keeps: `held` are the ports that a process holds, and
--- `next_block` and `next_channel` the numbers of the block and of the channel that it makes next
-pub record IsOwned {Proc : Type 0} (held : Proc → List PortValue) (next_block next_channel : Proc → ℕ) (s : State Proc) : Type 0 where
+-- what each step of a language keeps
+pub record IsOwned {Proc : Type 0} (language : Language Proc) (s : State Proc) : Type 0 where
   -- the places of a port in processes and in messages are as many as it is open: one, or none
-  pub places : (z : PortValue) → total (λ x. count z (held x)) s.procs + total (queued z) s.chans ≡ opened s.chans z
+  pub places : (z : PortValue) → total (λ x. count z (language.held x)) s.procs + total (queued z) s.chans ≡ opened s.chans z
   -- a child's block was started by its parent, which now has a later number for the next one
-  pub born : (q : Place) (b i : ℕ) → 1 ≤ present (get s.procs (child q b i)) → b < value_or_zero next_block (get s.procs q)
+  pub born : (q : Place) (b i : ℕ) → 1 ≤ present (get s.procs (child q b i)) → b < value_or_zero language.next_block (get s.procs q)
   -- and so with a channel and its maker
-  pub named : (q : Place) (n : ℕ) → 1 ≤ present (get s.chans (name_of q n)) → n < value_or_zero next_channel (get s.procs q)
+  pub named : (q : Place) (n : ℕ) → 1 ≤ present (get s.chans (name_of q n)) → n < value_or_zero language.next_channel (get s.procs q)
 
 -- no channel has a writer but the first one
 abbrev pub HasOneWriter : Chans → Type 0

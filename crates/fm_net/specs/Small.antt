@@ -7,6 +7,7 @@ use Rattle.fm_base.specs.declared.path.ChanName.{ChanName}
 use Rattle.fm_base.specs.declared.port.PortValue.{PortValue}
 use Rattle.fm_base.specs.declared.port.PortValue.TheVariants.{Writer, Reader}
 use Rattle.fm_base.specs.Channels.{Item, Words, Ports, Message, Push, Pop, item_ports, message_ports}
+use Rattle.fm_net.specs.Language.{Language}
 use Rattle.fm_net.specs.Machine.{Nothing, Event, New, Children, Onward, Ask, Stop, Go, State}
 
 -- what a process does next. Variables go by number. A block starts a child for each pair: its unit, and
@@ -169,6 +170,10 @@ ask_by us x (Some b) = Go (Children b.0 b.1) (λ c r. record {
 -- what a process does next, where these are the units
 abbrev pub ask : List (List Instr) → Proc → Ask Proc
 ask us x = ask_by us x x.joins
+
+-- the language of these units
+abbrev pub language : List (List Instr) → Language Proc
+language us = record { ask = ask us; has_ended = has_ended; emptied = emptied; held = held; next_block = λ x. x.next_block; next_channel = λ x. x.next_channel }
 
 -- main alone, with the first unit
 abbrev pub first_state : List (List Instr) → State Proc
