@@ -10,3 +10,7 @@ pub mod Channels
 pub mod Keeping
 pub mod Discards
 pub mod Steps
+pub mod First
+pub mod Laws
+pub mod SmallPorts
+pub mod SmallLaws

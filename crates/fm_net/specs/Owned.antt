@@ -3,7 +3,7 @@
 -- Source: the Fortran M report (ports belong to one process), with this profile's rules on discarding.
 use Rattle.std.specs.Prelude.{◌≡◌, ℕ, ◌+◌, ◌<◌, ◌≤◌, Option, Some, None, List, [], ◌∷◌, Bool, true, false, cond, ◌==◌, ◌&&◌}
 use Rattle.std.specs.Ordering.{eq_by_cmp}
-use Rattle.std.specs.FinMap.{get}
+use Rattle.std.specs.FinMap.{empty, get, insert}
 use Rattle.fm_base.specs.declared.path.ChanName.{ChanName}
 use Rattle.fm_base.specs.declared.port.PortValue.{PortValue}
 use Rattle.fm_base.specs.declared.port.PortValue.TheVariants.{Writer, Reader}
@@ -66,6 +66,10 @@ pub record IsOwned {Proc : Type 0} (language : Language Proc) (s : State Proc) :
   pub born : (q : Place) (b i : ℕ) → 1 ≤ present (get s.procs (child q b i)) → b < value_or_zero language.next_block (get s.procs q)
   -- and so with a channel and its maker
   pub named : (q : Place) (n : ℕ) → 1 ≤ present (get s.chans (name_of q n)) → n < value_or_zero language.next_channel (get s.procs q)
+
+-- main alone, and no channel
+abbrev pub main_alone : {Proc : Type 0} → Proc → State Proc
+main_alone x = record { procs = insert empty [] x; chans = empty }
 
 -- no channel has a writer but the first one
 abbrev pub HasOneWriter : Chans → Type 0
