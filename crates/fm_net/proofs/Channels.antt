@@ -127,4 +127,3 @@ shut_present m x d h = go (eq_by_cmp channel_cmp d (channel_of x)) (get m d) (su
     go true None h' = h'
     go true (Some ch) h' = h'
     go false o h' = h'
-

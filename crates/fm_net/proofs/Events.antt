@@ -123,4 +123,3 @@ brings Pop ch = tt
 
 pub same_some : (u v : Chan) (o : Option Chan) → o ≡ Some u → o ≡ Some v → u ≡ v
 same_some u v o e f = cc
-

@@ -1,12 +1,11 @@
 -- Parts of steps keep ownership.
-use Rattle.std.proofs.Common.{◌≡◌, ℕ, ◌+◌, ◌≤◌, Option, Some, None, List, [], ◌++◌, Bool, inl, inr, refl, sym, ap, ◌∙◌, subst, arith}
+use Rattle.std.proofs.Common.{◌≡◌, ℕ, None, inl, inr, ap, ◌∙◌, subst, arith}
 use Rattle.std.specs.FinMap.{get}
 use Rattle.fm_base.specs.declared.path.ChanName.{ChanName}
-use Rattle.fm_base.specs.declared.port.PortValue.{PortValue}
-use Rattle.fm_base.specs.declared.port.PortValue.TheVariants.{Writer, Reader}
+use Rattle.fm_base.specs.declared.port.PortValue.TheVariants.{Writer}
 use Rattle.fm_maps.specs.Changes.{alters}
-use Rattle.fm_maps.specs.Sums.{total, value_or_zero}
-use Rattle.fm_net.specs.Machine.{Place, Need, New, Ask, child, made, spilt, changes}
+use Rattle.fm_maps.specs.Sums.{value_or_zero}
+use Rattle.fm_net.specs.Machine.{Place, New, child, made, spilt, changes}
 use Rattle.fm_net.specs.Language.{Language}
 use Rattle.fm_net.specs.Owned.{count, opened, name_of, HasOneWriter}
 use Rattle.fm_net.specs.Lawful.{Numbered, IsLawfulLanguage}

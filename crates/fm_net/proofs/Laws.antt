@@ -1,5 +1,5 @@
 -- The laws of a language along every schedule from a first state.
-use Rattle.std.proofs.Common.{◌≡◌, ◌≢◌, ℕ, List}
+use Rattle.std.proofs.Common.{List}
 use Rattle.fm_maps.proofs.Keys.{decide}
 use Rattle.fm_sched.specs.Schedule.{Can, next, IsEnding, Stays, Diamond, Throughout, Settles}
 use Rattle.fm_sched.proofs.Along.{good_throughout, throughout}

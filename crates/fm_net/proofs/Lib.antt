@@ -14,3 +14,4 @@ pub mod First
 pub mod Laws
 pub mod SmallPorts
 pub mod SmallLaws
+pub mod Places

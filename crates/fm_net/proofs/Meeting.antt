@@ -1,11 +1,11 @@
 -- Parts of steps: each leaves another its own, and where no channel has a second writer, both orders meet.
-use Rattle.std.proofs.Common.{◌≡◌, ◌≢◌, ℕ, zero, suc, ◌+◌, ◌-◌, ◌≤◌, ◌<◌, Option, Some, None, List, [], ◌∷◌, ◌++◌, Bool, true, false, cond, length, option_map, refl, sym, ap, ap₂, ◌∙◌, subst, arith}
+use Rattle.std.proofs.Common.{◌≡◌, ◌≢◌, ℕ, zero, suc, ◌+◌, ◌-◌, ◌≤◌, ◌<◌, Option, Some, None, List, [], ◌++◌, true, cond, option_map, refl, sym, ap, ap₂, ◌∙◌, subst, arith}
 use mathlib.Core.Path.{fun_ext}
-use Rattle.std.specs.FinMap.{get, insert}
+use Rattle.std.specs.FinMap.{get}
 use Rattle.fm_base.specs.declared.path.ChanName.{ChanName}
 use Rattle.fm_base.specs.declared.port.PortValue.{PortValue}
 use Rattle.fm_base.specs.declared.port.PortValue.TheVariants.{Writer, Reader}
-use Rattle.fm_base.specs.Channels.{Chan, Chans, ChannelOp, Push, Pop, is_ready, changed, gives, channel_of, discarded, freed, fresh}
+use Rattle.fm_base.specs.Channels.{Chan, ChannelOp, Push, Pop, is_ready, changed, channel_of, discarded, freed, fresh}
 use Rattle.fm_maps.specs.Changes.{Change, adjust, alters, Off, Apart}
 use Rattle.fm_maps.specs.Sums.{total, value_or_zero}
 use Rattle.fm_maps.proofs.Keys.{decide}
@@ -14,7 +14,7 @@ use Rattle.fm_maps.proofs.Adjusts.{adjust_there, adjust_swap, adjust_past_insert
 use Rattle.fm_maps.proofs.Alters.{alters_there, alters_swap}
 use Rattle.fm_maps.proofs.Sums.{one_of_total, two_of_total}
 use Rattle.fm_sched.proofs.Moves.{MovesMeet}
-use Rattle.fm_net.specs.Machine.{Place, Need, Nothing, Event, New, Children, Reply, Onward, Ask, child, made, chans_after, spills_at, spilt, with_child, gathered, served_at, served, changes}
+use Rattle.fm_net.specs.Machine.{Place, Need, Nothing, Event, New, Children, Reply, Onward, child, made, chans_after, spills_at, spilt, with_child, gathered, served_at, served, changes}
 use Rattle.fm_net.specs.Language.{Language}
 use Rattle.fm_net.specs.Owned.{one, count, queued, open_at, opened, present, name_of, HasOneWriter}
 use Rattle.fm_net.specs.Lawful.{port_of, Uses, Numbered, IsLawfulStep, IsLawfulAsk, IsLawfulLanguage}

@@ -1,8 +1,7 @@
 -- What one process needs of the channels, before and after another has had its own.
-use Rattle.std.proofs.Common.{◌≡◌, ◌≢◌, ℕ, ◌+◌, ◌<◌, ◌≤◌, Option, Some, None, List, [], ◌∷◌, Bool, true, false, cond, option_map, refl, sym, ap, ap₂, ◌∙◌, subst, arith}
-use Rattle.std.specs.FinMap.{get, insert}
+use Rattle.std.proofs.Common.{◌≡◌, ◌≢◌, ℕ, ◌≤◌, Option, Some, None, [], Bool, true, false, cond, option_map, refl, sym, ap, ap₂, ◌∙◌, arith}
+use Rattle.std.specs.FinMap.{get}
 use Rattle.fm_base.specs.declared.path.ChanName.{ChanName}
-use Rattle.fm_base.specs.declared.port.PortValue.{PortValue}
 use Rattle.fm_base.specs.Channels.{Chan, Chans, ChannelOp, is_ready, changed, gives, fresh}
 use Rattle.fm_maps.specs.Changes.{adjust}
 use Rattle.fm_maps.proofs.Keys.{decide}

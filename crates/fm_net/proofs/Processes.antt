@@ -1,5 +1,5 @@
 -- What a step does to the processes: itself, the children that it starts, and those that it joins.
-use Rattle.std.proofs.Common.{◌≡◌, ◌≢◌, ℕ, zero, suc, ◌+◌, ◌≤◌, Option, Some, None, List, [], ◌∷◌, ◌++◌, Bool, true, false, cond, length, option_map, ◌⊎◌, inl, inr, refl, sym, ap, ◌∙◌, subst, arith}
+use Rattle.std.proofs.Common.{◌≡◌, ℕ, zero, suc, ◌+◌, ◌≤◌, Option, Some, None, List, [], ◌∷◌, ◌++◌, Bool, true, false, cond, length, option_map, ◌⊎◌, inl, inr, refl, sym, ap, ◌∙◌, subst, arith}
 use Rattle.std.specs.FinMap.{get}
 use Rattle.std.specs.Ordering.{eq_by_cmp}
 use Rattle.fm_base.specs.PathOrder.{path_cmp}
@@ -138,4 +138,3 @@ module _ {Proc : Type 0} where
             | inl a ↦ inl (omega (arith, same_need (λ x. 1) (λ x. refl) m p need q))
             | inr a ↦ inr a
           ]
-

@@ -1,9 +1,8 @@
 -- The small language is lawful.
-use Rattle.std.proofs.Common.{◌≡◌, ◌≢◌, ℕ, ℤ, suc, ◌+◌, ◌≤◌, ◌<◌, Option, Some, None, List, [], ◌∷◌, ◌++◌, true, length, refl, sym, ap, ◌∙◌, arith}
-use Rattle.fm_base.specs.declared.path.ChanName.{ChanName}
+use Rattle.std.proofs.Common.{◌≡◌, ℕ, ◌+◌, Option, Some, None, List, [], ◌∷◌, true, refl, ap, arith}
 use Rattle.fm_base.specs.declared.port.PortValue.{PortValue}
 use Rattle.fm_base.specs.declared.port.PortValue.TheVariants.{Writer, Reader}
-use Rattle.fm_base.specs.Channels.{Item, Words, Ports, item_ports, message_ports}
+use Rattle.fm_base.specs.Channels.{Item, Words, item_ports, message_ports}
 use Rattle.fm_net.specs.Machine.{Nothing, Ask, Stop, Go}
 use Rattle.fm_net.specs.Owned.{count, IsOwned, HasOneWriter}
 use Rattle.fm_net.specs.Lawful.{got, sum_of, IsLawfulAsk, IsLawfulLanguage}

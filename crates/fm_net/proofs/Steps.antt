@@ -5,12 +5,12 @@ use Rattle.std.specs.FinMap.{get}
 use Rattle.fm_base.specs.declared.port.PortValue.{PortValue}
 use Rattle.fm_base.specs.Channels.{Chans, channel_of, freed, shut, shed, weight}
 use Rattle.fm_maps.proofs.Keys.{decide}
-use Rattle.fm_sched.specs.Schedule.{price, Can, next, play, IsLegal, IsEnding, NotIn, Stays, Diamond, Leads}
+use Rattle.fm_sched.specs.Schedule.{price, Can, next, IsEnding, NotIn, Stays, Diamond, Leads}
 use Rattle.fm_sched.proofs.Runs.{leads_nowhere, leads_first, leads_on}
 use Rattle.fm_sched.proofs.Along.{good_after, can_after, stays_after}
 use Rattle.fm_sched.proofs.Fronts.{settles}
 use Rattle.fm_sched.proofs.Moves.{MovesMeet, next_is, stays_by_moves, diamond}
-use Rattle.fm_net.specs.Machine.{Place, Procs, Ask, State, Begun, finished, begun, machine_step}
+use Rattle.fm_net.specs.Machine.{Place, Procs, State, Begun, finished, begun, machine_step}
 use Rattle.fm_net.specs.Language.{Language}
 use Rattle.fm_net.specs.Owned.{one, count, IsOwned, HasOneWriter}
 use Rattle.fm_net.specs.Lawful.{IsLawfulLanguage}
