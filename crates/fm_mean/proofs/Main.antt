@@ -10,7 +10,7 @@ use Rattle.fm_base.specs.Channels.{Chans, shed, weight}
 use Rattle.fm_base.proofs.PathLaws.{path_total, path_exact}
 use Rattle.fm_maps.specs.Changes.{alter}
 use Rattle.fm_mean.specs.declared.tree.Placed.{Placed}
-use Rattle.fm_mean.specs.Machine.{Place, Stop, act_of, act, finished}
+use Rattle.fm_net.specs.Machine.{Place, Stop, act_of, act, finished}
 use Rattle.fm_mean.specs.Meaning.{Proc, ask, step, alone, alone_to, has_ended, emptied}
 use Rattle.fm_mean.specs.Outcome.{outcome_of, report_text, ended_line, fault_line, fault_in, fault_at, lines_at}
 

@@ -3,7 +3,7 @@
 use Rattle.std.specs.Prelude.{◌≡◌, ℕ, Some, None, List, [], ◌++◌}
 use Rattle.std.specs.List.{flat_map}
 use Rattle.fm_mean.specs.declared.tree.Placed.{Placed}
-use Rattle.fm_mean.specs.Machine.{Place, Stop}
+use Rattle.fm_net.specs.Machine.{Place, Stop}
 use Rattle.fm_mean.specs.Meaning.{Proc, ask, step, alone, alone_to}
 use Rattle.fm_mean.specs.Outcome.{outcome_of, report_text, ended_line, fault_line, fault_in}
 

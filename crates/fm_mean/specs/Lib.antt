@@ -1,6 +1,5 @@
 pub mod Terms
 pub mod Reading
-pub mod Machine
 pub mod Values
 pub mod Meaning
 pub mod Outcome

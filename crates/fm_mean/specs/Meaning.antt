@@ -9,7 +9,7 @@ use Rattle.fm_mean.specs.declared.tree.Placed.{Placed}
 use Rattle.fm_mean.specs.declared.tree.Stmt.{Stmt}
 use Rattle.fm_mean.specs.declared.tree.Stmt.TheVariants.{Program, Assign, Print, End}
 use Rattle.fm_mean.specs.Values.{Variables, value_of, printed_all}
-use Rattle.fm_mean.specs.Machine.{Place, Ask, Stop, Go, Nothing, State, machine_step}
+use Rattle.fm_net.specs.Machine.{Place, Ask, Stop, Go, Nothing, State, machine_step}
 
 -- whether a process runs, has ended, or has faulted at a line
 pub data Phase : Type 0 where

@@ -6,7 +6,7 @@ use Rattle.std.specs.Fmt.{decimal}
 use Rattle.std.specs.FinMap as finite
 use Rattle.fm_base.specs.declared.fault.Fault.{Fault}
 use Rattle.fm_base.specs.Texts.{path_text, fault_name}
-use Rattle.fm_mean.specs.Machine.{Place, State}
+use Rattle.fm_net.specs.Machine.{Place, State}
 use Rattle.fm_mean.specs.Meaning.{Proc, Phase, Running, Ended, Faulted, has_ended}
 
 -- a process that has faulted: where it stands, the line and the fault

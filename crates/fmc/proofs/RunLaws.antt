@@ -13,7 +13,7 @@ use Rattle.fm_mean.specs.declared.tree.Placed.{Placed}
 use Rattle.fm_mean.specs.declared.tree.Stmt.{Stmt}
 use Rattle.fm_mean.specs.declared.tree.Stmt.TheVariants.{Program, Assign, Print, End}
 use Rattle.fm_mean.specs.Values.{Variables}
-use Rattle.fm_mean.specs.Machine.{Place, State, Stop}
+use Rattle.fm_net.specs.Machine.{Place, State, Stop}
 use Rattle.fm_mean.specs.Meaning.{Proc, Running, Ended, Faulted, ask, ask_at, ask_entry, assigns, prints, faults, alone_to, step, first, alone}
 use Rattle.fm_mean.specs.Outcome.{ended_line, fault_line, fault_in, FaultAt, ended_at}
 use Rattle.fm_mean.proofs.Main.{main_steps, main_stops, main_found, report_alone, faults_alone}

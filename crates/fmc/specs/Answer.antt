@@ -13,7 +13,7 @@ use Rattle.fm_base.specs.Rules.{refusal_text}
 use Rattle.fm_io.specs.Streams.{WritesFront}
 use Rattle.fm_sched.specs.Schedule.{play, IsLegal, IsEnding}
 use Rattle.fm_mean.specs.declared.tree.Placed.{Placed}
-use Rattle.fm_mean.specs.Machine.{Place}
+use Rattle.fm_net.specs.Machine.{Place}
 use Rattle.fm_mean.specs.Meaning.{step, first}
 use Rattle.fm_mean.specs.Outcome.{outcome_of, report_text}
 use Rattle.fmc.specs.declared.answer.Exit.{Exit}

@@ -2,7 +2,7 @@
 -- Source: this profile.
 use Rattle.std.specs.Prelude.{◌≡◌, ℕ, List, [], ◌∷◌, map}
 use Rattle.fm_mean.specs.declared.tree.Placed.{Placed}
-use Rattle.fm_mean.specs.Machine.{Place}
+use Rattle.fm_net.specs.Machine.{Place}
 use Rattle.fmc.specs.Run.{Reports}
 use Rattle.fmc.specs.declared.answer.Ran.{Ran}
 use Rattle.fmc.specs.declared.answer.Reply.{Reply}

@@ -12,7 +12,7 @@ use Rattle.fm_mean.specs.declared.tree.Stmt.{Stmt}
 use Rattle.fm_mean.specs.declared.tree.Stmt.TheVariants.{Program, Assign, Print, End}
 use Rattle.fm_mean.specs.declared.tree.Item.{Item}
 use Rattle.fm_mean.specs.Values.{Variables, value_of, printed_all}
-use Rattle.fm_mean.specs.Machine.{State}
+use Rattle.fm_net.specs.Machine.{State}
 use Rattle.fm_mean.specs.Meaning.{Proc, step, first}
 use Rattle.fm_mean.specs.Outcome.{Outcome, FaultAt, outcome_of, report_text, ended_line}
 use Rattle.fmc.specs.declared.answer.Exit.{Exit}

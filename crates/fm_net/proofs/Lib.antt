@@ -1,0 +1,17 @@
+pub mod Keys
+pub mod Counts
+pub mod Events
+pub mod Parts
+pub mod Children
+pub mod Needs
+pub mod Meeting
+pub mod Processes
+pub mod Channels
+pub mod Keeping
+pub mod Discards
+pub mod Steps
+pub mod First
+pub mod Laws
+pub mod SmallPorts
+pub mod SmallLaws
+pub mod Places

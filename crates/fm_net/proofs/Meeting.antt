@@ -1,0 +1,346 @@
+-- Parts of steps: each leaves another its own, and where no channel has a second writer, both orders meet.
+use Rattle.std.proofs.Common.{◌≡◌, ◌≢◌, ℕ, zero, suc, ◌+◌, ◌-◌, ◌≤◌, ◌<◌, Option, Some, None, List, [], ◌++◌, true, cond, option_map, refl, sym, ap, ap₂, ◌∙◌, subst, arith}
+use mathlib.Core.Path.{fun_ext}
+use Rattle.std.specs.FinMap.{get}
+use Rattle.fm_base.specs.declared.path.ChanName.{ChanName}
+use Rattle.fm_base.specs.declared.port.PortValue.{PortValue}
+use Rattle.fm_base.specs.declared.port.PortValue.TheVariants.{Writer, Reader}
+use Rattle.fm_base.specs.Channels.{Chan, ChannelOp, Push, Pop, is_ready, changed, channel_of, discarded, freed, fresh}
+use Rattle.fm_maps.specs.Changes.{Change, adjust, alters, Off, Apart}
+use Rattle.fm_maps.specs.Sums.{total, value_or_zero}
+use Rattle.fm_maps.proofs.Keys.{decide}
+use Rattle.fm_maps.proofs.Inserts.{insert_there}
+use Rattle.fm_maps.proofs.Adjusts.{adjust_there, adjust_swap, adjust_past_insert}
+use Rattle.fm_maps.proofs.Alters.{alters_there, alters_swap}
+use Rattle.fm_maps.proofs.Sums.{one_of_total, two_of_total}
+use Rattle.fm_sched.proofs.Moves.{MovesMeet}
+use Rattle.fm_net.specs.Machine.{Place, Need, Nothing, Event, New, Children, Reply, Onward, child, made, chans_after, spills_at, spilt, with_child, gathered, served_at, served, changes}
+use Rattle.fm_net.specs.Language.{Language}
+use Rattle.fm_net.specs.Owned.{one, count, queued, open_at, opened, present, name_of, HasOneWriter}
+use Rattle.fm_net.specs.Lawful.{port_of, Uses, Numbered, IsLawfulStep, IsLawfulAsk, IsLawfulLanguage}
+use Rattle.fm_net.proofs.Keys.{path_order, channel_order}
+use Rattle.fm_net.proofs.Counts.{closed, one_apart, one_below, one_once, count-append, opened_small, adjust_at}
+use Rattle.fm_net.proofs.Events.{Beside, beside, beside_swap, calm, crosses, freed_same, discarded_swap, same_some}
+use Rattle.fm_net.proofs.Parts.{Midway, Part, Run, Discard, one_place, one_place_apart, Start, Move, end}
+use Rattle.fm_net.proofs.Children.{one_parent, IsNoChild, ChildrenOff, off_changes, apart_changes, child_there}
+use Rattle.fm_net.proofs.Needs.{absent, no_value, Ready, IsCalm, Commutes, chans_swap, left, served_event}
+
+-- ownership between two parts: a loose port has its place there
+pub record IsSound {Proc : Type 0} (language : Language Proc) (μ : Midway Proc) : Type 0 where
+  pub places : (z : PortValue) → total (λ x. count z (language.held x)) μ.procs + total (queued z) μ.chans + μ.loose z ≡ opened μ.chans z
+  pub born : (q : Place) (b i : ℕ) → 1 ≤ present (get μ.procs (child q b i)) → b < value_or_zero language.next_block (get μ.procs q)
+  pub named : (q : Place) (n : ℕ) → 1 ≤ present (get μ.chans (name_of q n)) → n < value_or_zero language.next_channel (get μ.procs q)
+
+module _ {Proc : Type 0} (language : Language Proc) where
+  abbrev holds : PortValue → Proc → ℕ
+  holds z x = count z (language.held x)
+
+  module _ (laws : IsLawfulLanguage language) (μ : Midway Proc) (good : IsSound language μ) where
+    abbrev Starts : Place → Type 0
+    Starts p = Start language μ.procs μ.chans p
+
+    pub going_of : (p : Place) (t : Starts p) → IsLawfulStep language t.self t.need t.goes
+    going_of p t = subst (IsLawfulAsk language t.self) t.asks (laws.goes t.self)
+
+    most : (z : PortValue) → opened μ.chans z ≤ 1
+    most z = opened_small z (get μ.chans (channel_of z))
+
+    pub loose_open : (z : PortValue) → 1 ≤ μ.loose z → 1 ≤ opened μ.chans z
+    loose_open z h = omega (arith, good.places z)
+
+    holder : (p : Place) (x : Proc) (z : PortValue) → get μ.procs p ≡ Some x → holds z x ≤ total (holds z) μ.procs
+    holder p x z is = subst (λ o. value_or_zero (holds z) o ≤ total (holds z) μ.procs) is (one_of_total path_order (holds z) μ.procs p)
+
+    holders : (p q : Place) (x y : Proc) (z : PortValue) → (p ≢ q) → get μ.procs p ≡ Some x → get μ.procs q ≡ Some y → holds z x + holds z y ≤ total (holds z) μ.procs
+    holders p q x y z n is_x is_y = omega (arith, two_of_total path_order (holds z) μ.procs p q n, ap (value_or_zero (holds z)) is_x, ap (value_or_zero (holds z)) is_y)
+
+    held_open : (p : Place) (x : Proc) (z : PortValue) → get μ.procs p ≡ Some x → 1 ≤ holds z x → 1 ≤ opened μ.chans z
+    held_open p x z is h = omega (arith, good.places z, holder p x z is)
+
+    not_loose : (p : Place) (x : Proc) (z y : PortValue) → get μ.procs p ≡ Some x → 1 ≤ holds z x → 1 ≤ μ.loose y → y ≢ z
+    not_loose p x z y is h l e = let l' : 1 ≤ μ.loose z = subst (λ w. 1 ≤ μ.loose w) e l in
+        omega (arith, good.places z, holder p x z is, most z)
+
+    not_both : (p q : Place) (x y : Proc) (z w : PortValue) → (p ≢ q) → get μ.procs p ≡ Some x → get μ.procs q ≡ Some y → 1 ≤ holds z x → 1 ≤ holds w y → z ≢ w
+    not_both p q x y z w n is_x is_y h g e = let g' : 1 ≤ holds z y = subst (λ u. 1 ≤ holds u y) (sym e) g in
+        omega (arith, good.places z, holders p q x y z n is_x is_y, most z)
+
+    -- ---- the processes that a step touches
+
+    pub no_child : (p : Place) (t : Starts p) (i : ℕ) → get μ.procs (child p (t.goes (made p t.need) t.reply).block i) ≡ None
+    no_child p t i =
+        let b : (t.goes (made p t.need) t.reply).block ≡ language.next_block t.self = (going_of p t).block_is (made p t.need) t.reply in
+        no_value _ (λ h. let g = good.born p (t.goes (made p t.need) t.reply).block i h in
+        let e : value_or_zero language.next_block (get μ.procs p) ≡ language.next_block t.self = ap (value_or_zero language.next_block) t.is in omega arith)
+
+    busy : (p r : Place) (t : Starts p) (x : Proc) → get μ.procs r ≡ Some x → language.has_ended x ≡ true → r ≢ p
+    busy p r t x is done e =
+        let same : Some x ≡ Some t.self = sym is ∙ ap (get μ.procs) e ∙ t.is in
+        let self : x ≡ t.self = cc in
+        cc (sym (laws.stops x done) ∙ ap language.ask self ∙ t.asks)
+
+    joined_child : (p : Place) (b n : ℕ) (r : Reply Proc) → served language.has_ended μ.procs μ.chans p (Children b n) ≡ Some r → (i : ℕ) → 1 ≤ i → i < n + 1 → (x : Proc) × (get μ.procs (child p b i) ≡ Some x) × (language.has_ended x ≡ true)
+    joined_child p b n r e i l h = go (gathered language.has_ended μ.procs p b 1 n) refl e
+      where
+        go : (o : Option (List Proc)) → gathered language.has_ended μ.procs p b 1 n ≡ o → option_map (λ ys. record { message = None; children = ys }) o ≡ Some r → (x : Proc) × (get μ.procs (child p b i) ≡ Some x) × (language.has_ended x ≡ true)
+        go None is e' = absurd (cc e')
+        go (Some ys) is e' = child_there language.has_ended μ.procs p b 1 n ys is i l h
+
+    pub ready_need : (p : Place) (x : Proc) (need : Need) (r : Reply Proc) → get μ.procs p ≡ Some x → Numbered (language.next_channel x) need → served language.has_ended μ.procs μ.chans p need ≡ Some r → Ready μ.chans p need
+    ready_need p x Nothing r is n e = tt
+    ready_need p x (Event c a) r is n e = let h = served_event a (get μ.chans c) r e in (h.0, h.1, h.2)
+    ready_need p x (New k) r is n e = no_value _ (λ h. let g = good.named p k h in let w : value_or_zero language.next_channel (get μ.procs p) ≡ language.next_channel x = ap (value_or_zero language.next_channel) is in omega arith)
+    ready_need p x (Children b k) r is n e = tt
+
+    open_here : (p : Place) (x : Proc) (c : ChanName) (a : ChannelOp) (ch : Chan) → get μ.procs p ≡ Some x → get μ.chans c ≡ Some ch → 1 ≤ holds (port_of c a) x → 1 ≤ open_at (port_of c a) (Some ch)
+    open_here p x c (Push w m) ch is has h = subst (λ o. 1 ≤ open_at (Writer c w) o) has (held_open p x (Writer c w) is h)
+    open_here p x c Pop ch is has h = subst (λ o. 1 ≤ open_at (Reader c) o) has (held_open p x (Reader c) is h)
+
+    calm_need : (p q : Place) (x y : Proc) (need other : Need) → (p ≢ q) → get μ.procs p ≡ Some x → get μ.procs q ≡ Some y → Uses (language.held x) need → Uses (language.held y) other
+        → Ready μ.chans p need → Ready μ.chans q other → IsCalm μ.chans need other
+    calm_need p q x y Nothing other n is_x is_y u v r s = tt
+    calm_need p q x y (New k) other n is_x is_y u v r s = tt
+    calm_need p q x y (Children b k) other n is_x is_y u v r s = tt
+    calm_need p q x y (Event c a) Nothing n is_x is_y u v r s = tt
+    calm_need p q x y (Event c a) (New k) n is_x is_y u v r s = tt
+    calm_need p q x y (Event c a) (Children b k) n is_x is_y u v r s = tt
+    calm_need p q x y (Event c a) (Event d b) n is_x is_y u v r s = λ e ch is.
+        let at_d : get μ.chans d ≡ Some ch = ap (get μ.chans) (sym e) ∙ is in
+        calm c a b ch
+        (λ w. not_both p q x y (port_of c a) (port_of d b) n is_x is_y u v (w ∙ ap (λ k. port_of k b) e))
+        (open_here p x c a ch is_x is u)
+        (subst (λ k. 1 ≤ open_at (port_of k b) (Some ch)) (sym e) (open_here q y d b ch is_y at_d v))
+        (subst (λ z. is_ready a z ≡ true) (same_some r.0 ch (get μ.chans c) r.1 is) r.2)
+        (subst (λ z. is_ready b z ≡ true) (same_some s.0 ch (get μ.chans d) s.1 at_d) s.2)
+
+    -- ---- two processes
+
+    module _ (p q : Place) (apart : p ≢ q) (t : Starts p) (u : Starts q) where
+      back : q ≢ p
+      back e = apart (sym e)
+
+      abbrev out : Onward Proc
+      out = t.goes (made p t.need) t.reply
+
+      abbrev other_out : Onward Proc
+      other_out = u.goes (made q u.need) u.reply
+
+      abbrev other_changes : List (Change Place Proc)
+      other_changes = changes language.emptied q u.need other_out
+
+      no_busy_child : (need : Need) (r : Reply Proc) → served language.has_ended μ.procs μ.chans q need ≡ Some r → IsNoChild language.emptied p q need
+      no_busy_child Nothing r e = tt
+      no_busy_child (Event c a) r e = tt
+      no_busy_child (New n) r e = tt
+      no_busy_child (Children b n) r e = λ i l h w. let k = joined_child q b n r e i l h in busy p (child q b i) t k.0 k.1 k.2 (sym w)
+
+      no_other_child : (b i : ℕ) (need : Need) → IsNoChild language.emptied (child p b i) q need
+      no_other_child b i Nothing = tt
+      no_other_child b i (Event c a) = tt
+      no_other_child b i (New n) = tt
+      no_other_child b i (Children d n) = λ j l h. one_parent p q b i d j apart
+
+      off_self : Off p other_changes
+      off_self = off_changes language.emptied p q u.need other_out apart (λ i. absent (get μ.procs) p (child q other_out.block i) t.self t.is (no_child q u i)) (no_busy_child u.need u.reply u.serves)
+
+      off_child : (b i : ℕ) → (child p b i ≢ q) → Off (child p b i) other_changes
+      off_child b i n = off_changes language.emptied (child p b i) q u.need other_out n (λ j. one_parent p q b i other_out.block j apart) (no_other_child b i u.need)
+
+      off_started : (i : ℕ) → Off (child p out.block i) other_changes
+      off_started i = off_child out.block i (λ e. absent (get μ.procs) q (child p out.block i) u.self u.is (no_child p t i) (sym e))
+
+      off_joined : (need : Need) (r : Reply Proc) → served language.has_ended μ.procs μ.chans p need ≡ Some r → ChildrenOff language.emptied p need other_changes
+      off_joined Nothing r e = tt
+      off_joined (Event c a) r e = tt
+      off_joined (New n) r e = tt
+      off_joined (Children b n) r e = λ i l h. off_child b i (let k = joined_child p b n r e i l h in busy q (child p b i) u k.0 k.1 k.2)
+
+      apart_both : Apart (changes language.emptied p t.need out) other_changes
+      apart_both = apart_changes language.emptied p t.need out other_changes off_self off_started (off_joined t.need t.reply t.serves)
+
+      gathered_same : (b i n : ℕ) → ((j : ℕ) → i ≤ j → j < n + i → Off (child p b j) other_changes) → gathered language.has_ended (alters other_changes μ.procs) p b i n ≡ gathered language.has_ended μ.procs p b i n
+      gathered_same b i zero h = refl
+      gathered_same b i (suc n) h = ap₂ (with_child language.has_ended) (alters_there path_order other_changes μ.procs (child p b i) (h i (omega arith) (omega arith))) (gathered_same b (suc i) n (λ j l m. h j (omega arith) (omega arith)))
+
+      module _ (need : Need) (r : Reply Proc) (serves : served language.has_ended μ.procs μ.chans p need ≡ Some r) (there : Ready μ.chans p need) (other_there : Ready μ.chans q u.need) (cross : IsCalm μ.chans need u.need) where
+        still_served : (k : Need) → need ≡ k → served language.has_ended (alters other_changes μ.procs) (chans_after q u.need μ.chans) p k ≡ served language.has_ended μ.procs μ.chans p k
+        still_served Nothing e = refl
+        still_served (New n) e = refl
+        still_served (Children b n) e = ap (option_map (λ ys. record { message = None; children = ys })) (gathered_same b 1 n (subst (λ k. ChildrenOff language.emptied p k other_changes) e (off_joined need r serves)))
+        still_served (Event c a) e = (left {Proc = Proc} μ.chans p q c a u.need (subst (Ready μ.chans p) e there) other_there (subst (λ k. IsCalm μ.chans k u.need) e cross)).served_same
+
+        still_spilt : (k : Need) → need ≡ k → spilt k (chans_after q u.need μ.chans) ≡ spilt k μ.chans
+        still_spilt Nothing e = refl
+        still_spilt (New n) e = refl
+        still_spilt (Children b n) e = refl
+        still_spilt (Event c a) e = (left {Proc = Proc} μ.chans p q c a u.need (subst (Ready μ.chans p) e there) other_there (subst (λ k. IsCalm μ.chans k u.need) e cross)).spilt_same
+
+      ready_self : Ready μ.chans p t.need
+      ready_self = ready_need p t.self t.need t.reply t.is (going_of p t).numbered t.serves
+
+      ready_other : Ready μ.chans q u.need
+      ready_other = ready_need q u.self u.need u.reply u.is (going_of q u).numbered u.serves
+
+      calm_both : IsCalm μ.chans t.need u.need
+      calm_both = calm_need p q t.self u.self t.need u.need apart t.is u.is (going_of p t).uses (going_of q u).uses ready_self ready_other
+
+      -- the same step is still there
+      later : Start language (alters other_changes μ.procs) (chans_after q u.need μ.chans) p
+      later = record {
+        self = t.self;
+        is = alters_there path_order other_changes μ.procs p off_self ∙ t.is;
+        need = t.need;
+        goes = t.goes;
+        asks = t.asks;
+        reply = t.reply;
+        serves = still_served t.need t.reply t.serves ready_self ready_other calm_both t.need refl ∙ t.serves;
+      }
+
+      spilt_later : spilt t.need (chans_after q u.need μ.chans) ≡ spilt t.need μ.chans
+      spilt_later = still_spilt t.need t.reply t.serves ready_self ready_other calm_both t.need refl
+
+    -- ---- a process beside a discard
+
+    open_there : (x : PortValue) (o : Option Chan) → 1 ≤ open_at x o → (ch : Chan) × (o ≡ Some ch)
+    unfolding open_at
+    open_there x None h = absurd (omega arith)
+    open_there x (Some ch) h = (ch, refl)
+
+    record Seen (x : PortValue) (p : Place) (need : Need) : Type 0 where
+      served_same : served language.has_ended μ.procs (closed x μ.chans) p need ≡ served language.has_ended μ.procs μ.chans p need
+      even : (z : PortValue) → count z (freed x (get μ.chans (channel_of x))) + count z (spilt need (closed x μ.chans)) ≡ count z (spilt need μ.chans) + count z (freed x (get (chans_after p need μ.chans) (channel_of x)))
+      one_chans : chans_after p need (closed x μ.chans) ≡ closed x (chans_after p need μ.chans)
+
+    seen_event : (x : PortValue) (p : Place) (c : ChanName) (a : ChannelOp) → (x ≢ port_of c a) → 1 ≤ μ.loose x → Ready μ.chans p (Event c a) → Seen x p (Event c a)
+    seen_event x p c a off loose r = elim (decide channel_order (channel_of x) c) [
+      | yes e ↦
+          let at : get μ.chans (channel_of x) ≡ Some r.0 = ap (get μ.chans) e ∙ r.1 in
+          let later : get (adjust μ.chans c (changed a)) (channel_of x) ≡ Some (changed a r.0) = adjust_at μ.chans c (channel_of x) (changed a) e ∙ ap (option_map (changed a)) at in
+          let gone : get (closed x μ.chans) c ≡ Some (discarded x r.0) = adjust_at μ.chans (channel_of x) c (discarded x) (sym e) ∙ ap (option_map (discarded x)) r.1 in
+          let w : Beside a x r.0 (discarded x r.0) (Some r.0) (Some (changed a r.0)) = beside c a x r.0 off e (subst (λ o. 1 ≤ open_at x o) at (loose_open x loose)) r.2 in
+          record {
+            served_same = ap (served_at {Proc = Proc} a) gone ∙ ap₂ (λ t g. cond t (Some (record { message = g; children = [] })) None) (w.can ∙ sym r.2) w.same ∙ ap (served_at a) (sym r.1);
+            even = λ z. omega (arith, w.even z, ap (λ o. count z (freed x o)) at, ap (λ o. count z (freed x o)) later, ap (λ o. count z (spills_at a o)) gone, ap (λ o. count z (spills_at a o)) r.1);
+            one_chans = adjust_swap channel_order μ.chans c (channel_of x) (changed a) (discarded x) (λ e ch is. beside_swap a x ch);
+          }
+      | no n ↦
+          let same : get (closed x μ.chans) c ≡ get μ.chans c = adjust_there channel_order μ.chans (channel_of x) (discarded x) c (λ e. n (sym e)) in
+          record {
+            served_same = ap (served_at {Proc = Proc} a) same;
+            even = λ z. omega (arith, ap (λ o. count z (freed x o)) (adjust_there channel_order μ.chans c (changed a) (channel_of x) n), ap (λ o. count z (spills_at a o)) same);
+            one_chans = adjust_swap channel_order μ.chans c (channel_of x) (changed a) (discarded x) (λ e ch is. beside_swap a x ch);
+          }
+    ]
+
+    seen : (x : PortValue) (p : Place) (y : Proc) (need : Need) → get μ.procs p ≡ Some y → Uses (language.held y) need → 1 ≤ μ.loose x → Ready μ.chans p need → Seen x p need
+    seen x p y Nothing is u l r = record { served_same = refl; even = λ z. omega arith; one_chans = refl }
+    seen x p y (Children b n) is u l r = record { served_same = refl; even = λ z. omega arith; one_chans = refl }
+    seen x p y (Event c a) is u l r = seen_event x p c a (not_loose p y (port_of c a) x is u l) l r
+    seen x p y (New n) is u l r =
+        let h = open_there x (get μ.chans (channel_of x)) (loose_open x l) in
+        let off : channel_of x ≢ (name_of p n) = absent (get μ.chans) (channel_of x) (name_of p n) h.0 h.1 r in
+        record {
+          served_same = refl;
+          even = λ z. omega (arith, ap (λ o. count z (freed x o)) (insert_there channel_order μ.chans (name_of p n) fresh (channel_of x) off));
+          one_chans = sym (adjust_past_insert channel_order μ.chans (channel_of x) (name_of p n) (discarded x) fresh off);
+        }
+
+    seen_by : (p : Place) (x : PortValue) (t : Starts p) → 1 ≤ μ.loose x → Seen x p t.need
+    seen_by p x t l = seen x p t.self t.need t.is (going_of p t).uses l (ready_need p t.self t.need t.reply t.is (going_of p t).numbered t.serves)
+
+    beside_discard : (p : Place) (x : PortValue) (t : Starts p) → 1 ≤ μ.loose x → Start language μ.procs (closed x μ.chans) p
+    beside_discard p x t l = record { self = t.self; is = t.is; need = t.need; goes = t.goes; asks = t.asks; reply = t.reply; serves = (seen_by p x t l).served_same ∙ t.serves }
+
+    -- of every language: a part is still there after another
+    pub stay : (a b : Part) → (a ≢ b) → (m : Move language μ a) (n : Move language μ b) → Move language (end language μ b n).0 a
+    stay (Run p) (Run q) apart (h, t) (g, u) = (omega (arith, one_place_apart q p (λ e. apart (ap Run (sym e)))), later p q (λ e. apart (ap Run e)) t u)
+    stay (Discard x) (Run q) apart l n = omega arith
+    stay (Discard x) (Discard y) apart l n = omega (arith, one_apart y x (λ e. apart (ap Discard (sym e))))
+    stay (Run p) (Discard x) apart (h, t) l = (h, beside_discard p x t l)
+
+    -- ---- where no channel has a second writer
+
+    module _ (single : HasOneWriter μ.chans) where
+      commuting_need : (p q : Place) (x y : Proc) (need other : Need) → (p ≢ q) → get μ.procs p ≡ Some x → get μ.procs q ≡ Some y → Uses (language.held x) need → Uses (language.held y) other
+          → Ready μ.chans p need → Ready μ.chans q other → Commutes μ.chans need other
+      commuting_need p q x y Nothing other n is_x is_y u v r s = tt
+      commuting_need p q x y (New k) other n is_x is_y u v r s = tt
+      commuting_need p q x y (Children b k) other n is_x is_y u v r s = tt
+      commuting_need p q x y (Event c a) Nothing n is_x is_y u v r s = tt
+      commuting_need p q x y (Event c a) (New k) n is_x is_y u v r s = tt
+      commuting_need p q x y (Event c a) (Children b k) n is_x is_y u v r s = tt
+      commuting_need p q x y (Event c a) (Event d b) n is_x is_y u v r s = λ e ch is.
+          let at_d : get μ.chans d ≡ Some ch = ap (get μ.chans) (sym e) ∙ is in
+          (crosses c a b ch
+          (λ w. not_both p q x y (port_of c a) (port_of d b) n is_x is_y u v (w ∙ ap (λ k. port_of k b) e))
+          (λ w l. single c w (subst (λ o. 1 ≤ open_at (Writer c w) o) (sym is) l))
+          (open_here p x c a ch is_x is u)
+          (subst (λ k. 1 ≤ open_at (port_of k b) (Some ch)) (sym e) (open_here q y d b ch is_y at_d v))
+          (subst (λ z. is_ready a z ≡ true) (same_some r.0 ch (get μ.chans c) r.1 is) r.2)
+          (subst (λ z. is_ready b z ≡ true) (same_some s.0 ch (get μ.chans d) s.1 at_d) s.2)).one_chan
+
+      runs : (p q : Place) (apart : p ≢ q) (m : Move language μ (Run p)) (n : Move language μ (Run q)) → MovesMeet (Move language) (end language) μ (Run p) (Run q) m n
+      unfolding later
+      runs p q apart (h, t) (g, u) =
+          let off = λ (e : q ≡ p). apart (sym e) in
+          record {
+            first = (omega (arith, one_place_apart q p off), later p q apart t u);
+            second = (omega (arith, one_place_apart p q apart), later q p off u t);
+            one_state = λ i. record {
+              procs = alters_swap path_order (changes language.emptied p t.need (out p q apart t u)) (changes language.emptied q u.need (other_out p q apart t u)) μ.procs (apart_both p q apart t u) i;
+              chans = chans_swap μ.chans p q t.need u.need apart (ready_self p q apart t u) (ready_other p q apart t u) (commuting_need p q t.self u.self t.need u.need apart t.is u.is (going_of p t).uses (going_of q u).uses (ready_self p q apart t u) (ready_other p q apart t u)) i;
+              loose = fun_ext {f = λ z. μ.loose z + count z ((u.goes (made q u.need) u.reply).drops ++ spilt u.need μ.chans) + count z ((t.goes (made p t.need) t.reply).drops ++ spilt t.need (chans_after q u.need μ.chans))}
+                  {g = λ z. μ.loose z + count z ((t.goes (made p t.need) t.reply).drops ++ spilt t.need μ.chans) + count z ((u.goes (made q u.need) u.reply).drops ++ spilt u.need (chans_after p t.need μ.chans))}
+                  (λ z. let e₁ = ap (λ s. count z ((t.goes (made p t.need) t.reply).drops ++ s)) (spilt_later p q apart t u) in
+                  let e₂ = ap (λ s. count z ((u.goes (made q u.need) u.reply).drops ++ s)) (spilt_later q p off u t) in
+                  omega arith) i;
+              remaining = fun_ext {f = λ r. (μ.remaining r - one_place q r) - one_place p r} {g = λ r. (μ.remaining r - one_place p r) - one_place q r} (λ r. omega arith) i;
+            };
+            first_cost = refl;
+            second_cost = refl;
+          }
+
+      run_beside : (p : Place) (x : PortValue) (m : Move language μ (Run p)) (l : 1 ≤ μ.loose x) → MovesMeet (Move language) (end language) μ (Run p) (Discard x) m l
+      unfolding beside_discard
+      run_beside p x (h, t) l =
+          let s = seen_by p x t l in
+          let o = t.goes (made p t.need) t.reply in
+          record {
+            first = (h, beside_discard p x t l);
+            second = omega arith;
+            one_state = λ i. record {
+              procs = alters (changes language.emptied p t.need (t.goes (made p t.need) t.reply)) μ.procs;
+              chans = s.one_chans i;
+              loose = fun_ext {f = λ z. (μ.loose z - one x z + count z (freed x (get μ.chans (channel_of x)))) + count z ((t.goes (made p t.need) t.reply).drops ++ spilt t.need (closed x μ.chans))}
+                  {g = λ z. (μ.loose z + count z ((t.goes (made p t.need) t.reply).drops ++ spilt t.need μ.chans)) - one x z + count z (freed x (get (chans_after p t.need μ.chans) (channel_of x)))}
+                  (λ z. omega (arith, one_below μ.loose x z l, s.even z, count-append z (t.goes (made p t.need) t.reply).drops (spilt t.need (closed x μ.chans)), count-append z (t.goes (made p t.need) t.reply).drops (spilt t.need μ.chans))) i;
+              remaining = λ q. μ.remaining q - one_place p q;
+            };
+            first_cost = refl;
+            second_cost = refl;
+          }
+
+      two_discards : (x y : PortValue) → (x ≢ y) → (m : 1 ≤ μ.loose x) (n : 1 ≤ μ.loose y) → MovesMeet (Move language) (end language) μ (Discard x) (Discard y) m n
+      two_discards x y apart m n = record {
+        first = omega (arith, one_apart y x (λ e. apart (sym e)));
+        second = omega (arith, one_apart x y apart);
+        one_state = λ i. record {
+          procs = μ.procs;
+          chans = adjust_swap channel_order μ.chans (channel_of x) (channel_of y) (discarded x) (discarded y) (λ e ch is. discarded_swap x y ch) i;
+          loose = fun_ext {f = λ z. (μ.loose z - one y z + count z (freed y (get μ.chans (channel_of y)))) - one x z + count z (freed x (get (closed y μ.chans) (channel_of x)))}
+              {g = λ z. (μ.loose z - one x z + count z (freed x (get μ.chans (channel_of x)))) - one y z + count z (freed y (get (closed x μ.chans) (channel_of y)))} (λ z.
+              omega (arith, one_below μ.loose x z m, one_below μ.loose y z n, one_once x y z apart, ap (count z) (freed_same μ.chans x y apart), ap (count z) (freed_same μ.chans y x (λ e. apart (sym e))))) i;
+          remaining = μ.remaining;
+        };
+        first_cost = refl;
+        second_cost = refl;
+      }
+
+      turned : (a b : Part) (m : Move language μ a) (n : Move language μ b) → MovesMeet (Move language) (end language) μ b a n m → MovesMeet (Move language) (end language) μ a b m n
+      turned a b m n w = record { first = w.second; second = w.first; one_state = sym w.one_state; first_cost = w.second_cost; second_cost = w.first_cost }
+
+      pub meet : (a b : Part) → (a ≢ b) → (m : Move language μ a) (n : Move language μ b) → MovesMeet (Move language) (end language) μ a b m n
+      meet (Run p) (Run q) apart m n = runs p q (λ e. apart (ap Run e)) m n
+      meet (Run p) (Discard x) apart m n = run_beside p x m n
+      meet (Discard x) (Run p) apart m n = turned _ _ _ _ (run_beside p x n m)
+      meet (Discard x) (Discard y) apart m n = two_discards x y (λ e. apart (ap Discard e)) m n

@@ -1,0 +1,300 @@
+-- A step is a list of its parts, and so steps stay, keep ownership and meet as parts do.
+use Rattle.std.proofs.Common.{◌≡◌, ◌≢◌, ℕ, zero, suc, ◌+◌, ◌-◌, ◌≤◌, Option, Some, None, List, [], ◌∷◌, ◌++◌, Bool, true, false, cond, nat_lt, option_map, refl, sym, ap, ◌∙◌, subst, arith, lt-ltb}
+use mathlib.Core.Path.{fun_ext}
+use Rattle.std.specs.FinMap.{get}
+use Rattle.fm_base.specs.declared.port.PortValue.{PortValue}
+use Rattle.fm_base.specs.Channels.{Chans, channel_of, freed, shut, shed, weight}
+use Rattle.fm_maps.proofs.Keys.{decide}
+use Rattle.fm_sched.specs.Schedule.{price, Can, next, IsEnding, NotIn, Stays, Diamond, Leads}
+use Rattle.fm_sched.proofs.Runs.{leads_nowhere, leads_first, leads_on}
+use Rattle.fm_sched.proofs.Along.{good_after, can_after, stays_after}
+use Rattle.fm_sched.proofs.Fronts.{settles}
+use Rattle.fm_sched.proofs.Moves.{MovesMeet, next_is, stays_by_moves, diamond}
+use Rattle.fm_net.specs.Machine.{Place, Procs, State, Begun, finished, begun, machine_step}
+use Rattle.fm_net.specs.Language.{Language}
+use Rattle.fm_net.specs.Owned.{one, count, IsOwned, HasOneWriter}
+use Rattle.fm_net.specs.Lawful.{IsLawfulLanguage}
+use Rattle.fm_net.proofs.Keys.{path_order}
+use Rattle.fm_net.proofs.Counts.{shut-closed, one_self, count-nil, count-cons, count-append, port_decide}
+use Rattle.fm_net.proofs.Discards.{weight_falls, no_weight}
+use Rattle.fm_net.proofs.Parts.{Midway, Part, Run, Discard, one_place, one_place_self, Move, end, ran, without_port, part_step, took, takes}
+use Rattle.fm_net.proofs.Meeting.{IsSound, stay, meet}
+use Rattle.fm_net.proofs.Keeping.{keeps, keeps_single}
+
+place_of : Part → Place → Place
+place_of (Run p) d = p
+place_of (Discard x) d = d
+
+part_decide : (a b : Part) → Dec (a ≡ b)
+part_decide (Run p) (Run q) = elim (decide path_order p q) [ yes e ↦ yes (ap Run e) | no n ↦ no (λ e. n (cc)) ]
+part_decide (Run p) (Discard y) = no (λ e. cc)
+part_decide (Discard x) (Run q) = no (λ e. cc)
+part_decide (Discard x) (Discard y) = elim (port_decide x y) [ yes e ↦ yes (ap Discard e) | no n ↦ no (λ e. n (cc)) ]
+
+-- the discards in the order of `shed`
+trace : ℕ → List PortValue → Chans → List Part
+trace zero ds m = []
+trace (suc n) [] m = []
+trace (suc n) (x ∷ ds) m = Discard x ∷ trace n (freed x (get m (channel_of x)) ++ ds) (shut x m)
+
+module _ {Proc : Type 0} (language : Language Proc) where
+  abbrev part : Midway Proc → Part → Option (Midway Proc × ℕ)
+  part = part_step language
+
+  abbrev step : State Proc → Place → Option (State Proc × ℕ)
+  step = machine_step language.ask language.has_ended language.emptied
+
+  abbrev ran_option : Midway Proc → Place → Option (Begun Proc) → Option (Midway Proc × ℕ)
+  ran_option μ p = option_map (ran language μ p)
+
+  midway : Procs Proc → Chans → List PortValue → (Place → ℕ) → Midway Proc
+  midway procs m ds remaining = record { procs = procs; chans = m; loose = λ z. count z ds; remaining = remaining }
+
+  discarding : (n : ℕ) (ds : List PortValue) (m : Chans) (procs : Procs Proc) (remaining : Place → ℕ) → weight ds m ≤ n
+      → Leads part (midway procs m ds remaining) (trace n ds m) (midway procs (shed n ds m) [] remaining) 0
+  unfolding midway trace
+  discarding zero ds m procs remaining h = record { legal = tt; there = ap (λ es. midway procs m es remaining) (no_weight ds m h); price_is = refl }
+  discarding (suc n) [] m procs remaining h = leads_nowhere part (midway procs m [] remaining)
+  discarding (suc n) (x ∷ ds) m procs remaining h =
+      let more = freed x (get m (channel_of x)) ++ ds in
+      let rest = discarding n more (shut x m) procs remaining (omega (arith, weight_falls x ds m)) in
+      let same : without_port language (midway procs m (x ∷ ds) remaining) x ≡ midway procs (shut x m) more remaining =
+      λ i. record {
+        procs = procs;
+        chans = sym (shut-closed x m) i;
+        loose = fun_ext {f = λ z. (count z (x ∷ ds) - one x z) + count z (freed x (get m (channel_of x)))} {g = λ z. count z more}
+            (λ z. omega (arith, count-cons z x ds, count-append z (freed x (get m (channel_of x))) ds)) i;
+        remaining = remaining;
+      } in
+      leads_first part (midway procs m (x ∷ ds) remaining) (Discard x) (without_port language (midway procs m (x ∷ ds) remaining) x, 0) (trace n more (shut x m)) _ 0
+      (takes language (midway procs m (x ∷ ds) remaining) (Discard x) (omega (arith, count-cons x x ds, one_self x)))
+      (subst (λ y. Leads part y (trace n more (shut x m)) (midway procs (shed n more (shut x m)) [] remaining) 0) (sym same) rest)
+
+  -- ---- the parts of one step
+
+  abbrev at : State Proc → (Place → ℕ) → Midway Proc
+  at s remaining = midway s.procs s.chans [] remaining
+
+  abbrev less : Place → (Place → ℕ) → Place → ℕ
+  less p remaining q = remaining q - one_place p q
+
+  abbrev discards : Begun Proc → List Part
+  discards b = trace (weight b.drops b.chans) b.drops b.chans
+
+  abbrev parts : Place → Begun Proc → List Part
+  parts p b = Run p ∷ discards b
+
+  run_first : (s : State Proc) (p : Place) (b : Begun Proc) (remaining : Place → ℕ) → begun language.ask language.has_ended language.emptied s p ≡ Some b → 1 ≤ remaining p → part (at s remaining) (Run p) ≡ Some (midway b.procs b.chans b.drops (less p remaining), b.cost)
+  unfolding midway
+  run_first s p b remaining is h =
+      ap (λ c. cond c (ran_option (at s remaining) p (begun language.ask language.has_ended language.emptied s p)) None) (lt-ltb 0 (remaining p) h) ∙ ap (ran_option (at s remaining) p) is
+      ∙ λ i. Some (
+        record {
+          procs = b.procs;
+          chans = b.chans;
+          loose = fun_ext {f = λ z. count z [] + count z b.drops} {g = λ z. count z b.drops} (λ z. omega (arith, count-nil z)) i;
+          remaining = less p remaining;
+        },
+        b.cost,
+      )
+
+  parts_lead : (s : State Proc) (p : Place) (b : Begun Proc) (remaining : Place → ℕ) → begun language.ask language.has_ended language.emptied s p ≡ Some b → 1 ≤ remaining p → Leads part (at s remaining) (parts p b) (at (finished b).0 (less p remaining)) (b.cost + 0)
+  parts_lead s p b remaining is h =
+      leads_first part (at s remaining) (Run p) (midway b.procs b.chans b.drops (less p remaining), b.cost) (discards b) (at (finished b).0 (less p remaining)) 0 (run_first s p b remaining is h)
+      (discarding (weight b.drops b.chans) b.drops b.chans b.procs (less p remaining) (omega arith))
+
+  -- and back: the first part of a process is the beginning of a step
+  run_begun : (s : State Proc) (p : Place) (remaining : Place → ℕ) (r : Midway Proc × ℕ) → part (at s remaining) (Run p) ≡ Some r → (b : Begun Proc) × (begun language.ask language.has_ended language.emptied s p ≡ Some b) × (b.cost ≡ r.1)
+  unfolding midway price
+  run_begun s p remaining r e = go (nat_lt 0 (remaining p)) (begun language.ask language.has_ended language.emptied s p) refl e
+    where
+      go : (c : Bool) (o : Option (Begun Proc)) → begun language.ask language.has_ended language.emptied s p ≡ o → cond c (ran_option (at s remaining) p o) None ≡ Some r → (b : Begun Proc) × (begun language.ask language.has_ended language.emptied s p ≡ Some b) × (b.cost ≡ r.1)
+      go true None is e' = absurd (cc e')
+      go true (Some b) is e' = (b, is, ap price e')
+      go false o is e' = absurd (cc e')
+
+  not_traced : (p : Place) (n : ℕ) (ds : List PortValue) (m : Chans) → NotIn (Run p) (trace n ds m)
+  unfolding trace
+  not_traced p zero ds m = tt
+  not_traced p (suc n) [] m = tt
+  not_traced p (suc n) (x ∷ ds) m = ((λ e. cc), not_traced p n (freed x (get m (channel_of x)) ++ ds) (shut x m))
+
+  not_in_parts : (p q : Place) (b : Begun Proc) → (p ≢ q) → NotIn (Run q) (parts p b)
+  unfolding place_of
+  not_in_parts p q b apart = ((λ w. apart (ap (λ a. place_of a p) (sym w))), not_traced q (weight b.drops b.chans) b.drops b.chans)
+
+  nothing_left : (s : State Proc) (remaining : Place → ℕ) → ((p : Place) → remaining p ≡ 0) → (a : Part) → part (at s remaining) a ≡ None
+  unfolding midway
+  nothing_left s remaining none (Run p) = ap (λ n. cond (nat_lt 0 n) (ran_option (at s remaining) p (begun language.ask language.has_ended language.emptied s p)) None) (none p)
+  nothing_left s remaining none (Discard x) = ap (λ n. cond (nat_lt 0 n) (Some (without_port language (at s remaining) x, 0)) None) (count-nil x)
+
+  ends_at : (μ : Midway Proc) (s : State Proc) (remaining : Place → ℕ) (cs : List Part) (paid : ℕ) → Leads part μ cs (at s remaining) paid → ((p : Place) → remaining p ≡ 0) → IsEnding part μ cs
+  ends_at μ s remaining cs paid l none = (l.legal, λ a. subst (λ x. part x a ≡ None) (sym l.there) (nothing_left s remaining none a))
+
+  -- ---- the step taken apart
+
+  abbrev Whole : State Proc → Place → Type 0
+  Whole s p = (b : Begun Proc) × (begun language.ask language.has_ended language.emptied s p ≡ Some b)
+
+  abbrev whole_end : (s : State Proc) (p : Place) → Whole s p → State Proc × ℕ
+  whole_end s p m = finished m.0
+
+  whole_took : (s : State Proc) (p : Place) (r : State Proc × ℕ) → step s p ≡ Some r → Whole s p
+  whole_took s p r e = go (begun language.ask language.has_ended language.emptied s p) refl e
+    where
+      go : (o : Option (Begun Proc)) → begun language.ask language.has_ended language.emptied s p ≡ o → option_map finished o ≡ Some r → Whole s p
+      go None is e' = absurd (cc e')
+      go (Some b) is e' = (b, is)
+
+  whole_takes : (s : State Proc) (p : Place) (m : Whole s p) → step s p ≡ Some (whole_end s p m)
+  whole_takes s p m = ap (option_map finished) m.1
+
+  -- both processes have one step to make
+  both : Place → Place → Place → ℕ
+  both p q r = one_place p r + one_place q r
+
+  both_first : (p q : Place) → 1 ≤ both p q p
+  unfolding both
+  both_first p q = omega (arith, one_place_self p)
+
+  both_second : (p q : Place) → 1 ≤ both p q q
+  unfolding both
+  both_second p q = omega (arith, one_place_self q)
+
+  second_left : (p q : Place) → 1 ≤ less p (both p q) q
+  unfolding both
+  second_left p q = omega (arith, one_place_self q)
+
+  first_left : (p q : Place) → 1 ≤ less q (both p q) p
+  unfolding both
+  first_left p q = omega (arith, one_place_self p)
+
+  none_left : (p q r : Place) → less q (less p (both p q)) r ≡ 0
+  unfolding both
+  none_left p q r = omega arith
+
+  none_left_turned : (p q r : Place) → less p (less q (both p q)) r ≡ 0
+  unfolding both
+  none_left_turned p q r = omega arith
+
+  state_of : Midway Proc → State Proc
+  state_of μ = record { procs = μ.procs; chans = μ.chans }
+
+  abbrev Owned : State Proc → Type 0
+  Owned = IsOwned language
+
+  abbrev Sound : Midway Proc → Type 0
+  Sound = IsSound language
+
+  sound_at : (s : State Proc) (remaining : Place → ℕ) → Owned s → Sound (at s remaining)
+  unfolding midway
+  sound_at s remaining o = record { places = λ z. omega (arith, o.places z, count-nil z); born = o.born; named = o.named }
+
+  owned_at : (s : State Proc) (remaining : Place → ℕ) → Sound (at s remaining) → Owned s
+  unfolding midway
+  owned_at s remaining g = record { places = λ z. omega (arith, g.places z, count-nil z); born = g.born; named = g.named }
+
+  -- with one writer a channel
+  abbrev Sole : Midway Proc → Type 0
+  Sole μ = Sound μ × HasOneWriter μ.chans
+
+  sole_at : (s : State Proc) (remaining : Place → ℕ) → Owned s → HasOneWriter s.chans → Sole (at s remaining)
+  unfolding midway
+  sole_at s remaining o single = (sound_at s remaining o, single)
+
+  single_at : (s : State Proc) (remaining : Place → ℕ) → Sole (at s remaining) → HasOneWriter s.chans
+  unfolding midway
+  single_at s remaining g = g.1
+
+  module _ (laws : IsLawfulLanguage language) where
+    part_next : (μ : Midway Proc) (a : Part) (m : Move language μ a) → next part μ a ≡ (end language μ a m).0
+    part_next = next_is part (Move language) (end language) (took language) (takes language)
+
+    part_keeps : (μ : Midway Proc) (a : Part) → Sound μ → Can part μ a → Sound (next part μ a)
+    part_keeps μ a good can =
+        let m = took language μ a can.0 can.1 in
+        subst Sound (sym (part_next μ a m)) (keeps language laws μ good a m)
+
+    sole_keeps : (μ : Midway Proc) (a : Part) → Sole μ → Can part μ a → Sole (next part μ a)
+    sole_keeps μ a good can =
+        let m = took language μ a can.0 can.1 in
+        (part_keeps μ a good.0 can, subst (λ (ν : Midway Proc). HasOneWriter ν.chans) (sym (part_next μ a m)) (keeps_single language laws μ good.0 good.1 a m))
+
+    part_stays : (μ : Midway Proc) → Sound μ → Stays part μ
+    part_stays μ good = stays_by_moves part (Move language) (end language) (took language) (takes language) μ (λ a b apart m n. stay language laws μ good a b apart m n)
+
+    part_diamond : (μ : Midway Proc) → Sole μ → Diamond part μ
+    part_diamond μ good = diamond part (Move language) (end language) (took language) (takes language) μ (λ a b apart m n. meet language laws μ good.0 good.1 a b apart m n)
+
+    -- ---- steps keep ownership
+
+    one_step : (s : State Proc) (p : Place) (m : Whole s p) → Leads part (at s (one_place p)) (parts p m.0) (at (finished m.0).0 (less p (one_place p))) (m.0.cost + 0)
+    one_step s p m = parts_lead s p m.0 (one_place p) m.1 (omega (arith, one_place_self p))
+
+    whole_next : (s : State Proc) (p : Place) (m : Whole s p) → next step s p ≡ (finished m.0).0
+    whole_next = next_is step Whole whole_end whole_took whole_takes
+
+    pub step_keeps : (s : State Proc) (p : Place) → Owned s → Can step s p → Owned (next step s p)
+    step_keeps s p owned can =
+        let m = whole_took s p can.0 can.1 in
+        let l = one_step s p m in
+        subst Owned (sym (whole_next s p m))
+        (owned_at (finished m.0).0 (less p (one_place p)) (subst Sound l.there (good_after part Sound part_keeps (parts p m.0) (at s (one_place p)) (sound_at s (one_place p) owned) l.legal)))
+
+    pub step_keeps_single : (s : State Proc) (p : Place) → Owned s → HasOneWriter s.chans → Can step s p → HasOneWriter (next step s p).chans
+    step_keeps_single s p owned single can =
+        let m = whole_took s p can.0 can.1 in
+        let l = one_step s p m in
+        subst (λ (t : State Proc). HasOneWriter t.chans) (sym (whole_next s p m))
+        (single_at (finished m.0).0 (less p (one_place p)) (subst Sole l.there (good_after part Sole sole_keeps (parts p m.0) (at s (one_place p)) (sole_at s (one_place p) owned single) l.legal)))
+
+    -- ---- a step of q leaves p its step
+
+    still_begun : (s : State Proc) (p q : Place) → Owned s → (p ≢ q) → Whole s p → (n : Whole s q) → Whole (finished n.0).0 p
+    still_begun s p q owned apart m n =
+        let remaining = both q p in
+        let l = parts_lead s q n.0 remaining n.1 (both_first q p) in
+        let can = can_after part Sound part_keeps part_stays (parts q n.0) (at s remaining) (Run p) (sound_at s remaining owned) l.legal (not_in_parts q p n.0 (λ e. apart (sym e)))
+        ((midway m.0.procs m.0.chans m.0.drops (less p remaining), m.0.cost), run_first s p m.0 remaining m.1 (both_second q p)) in
+        let b = run_begun (finished n.0).0 p (less q remaining) can.0 (ap (λ x. part x (Run p)) (sym l.there) ∙ can.1) in
+        (b.0, b.1)
+
+    pub steps_stay : (s : State Proc) → Owned s → Stays step s
+    steps_stay s owned = stays_by_moves step Whole whole_end whole_took whole_takes s (λ p q apart m n. still_begun s p q owned apart m n)
+
+    -- ---- with one writer a channel, both orders meet
+
+    -- after p's step q has its own, at the same cost
+    follows : (s : State Proc) (p q : Place) (remaining : Place → ℕ) → Owned s → HasOneWriter s.chans → (p ≢ q) → 1 ≤ remaining p → 1 ≤ remaining q → (m : Whole s p) (n : Whole s q) → (b : Begun Proc) × (begun language.ask language.has_ended language.emptied (finished m.0).0 q ≡ Some b) × (b.cost ≡ n.0.cost)
+    unfolding price
+    follows s p q remaining owned single apart h g m n =
+        let l = parts_lead s p m.0 remaining m.1 h in
+        let e = run_first s q n.0 remaining n.1 g in
+        let after_p = stays_after part Sole sole_keeps part_diamond (parts p m.0) (at s remaining) (Run q) (sole_at s remaining owned single) l.legal (not_in_parts p q m.0 apart) ((midway n.0.procs n.0.chans n.0.drops (less q remaining), n.0.cost), e) in
+        let there : part (at (finished m.0).0 (less p remaining)) (Run q) ≡ Some after_p.0.0 = ap (λ x. part x (Run q)) (sym l.there) ∙ after_p.0.1 in
+        let b = run_begun (finished m.0).0 q (less p remaining) after_p.0.0 there in
+        (b.0, b.1, b.2 ∙ sym (ap price after_p.0.1) ∙ after_p.1 ∙ ap price e)
+
+    whole_meet : (s : State Proc) → Owned s → HasOneWriter s.chans → (p q : Place) → (p ≢ q) → (m : Whole s p) (n : Whole s q) → MovesMeet Whole whole_end s p q m n
+    unfolding midway state_of
+    whole_meet s owned single p q apart m n =
+        let remaining = both p q in
+        let b = follows s p q remaining owned single apart (both_first p q) (both_second p q) m n in
+        let a = follows s q p remaining owned single (λ e. apart (sym e)) (both_second p q) (both_first p q) n m in
+        let first = leads_on part (at s remaining) (at (finished m.0).0 (less p remaining)) (at (finished b.0).0 (less q (less p remaining))) (parts p m.0) (parts q b.0) _ _
+        (parts_lead s p m.0 remaining m.1 (both_first p q)) (parts_lead (finished m.0).0 q b.0 (less p remaining) b.1 (second_left p q)) in
+        let second = leads_on part (at s remaining) (at (finished n.0).0 (less q remaining)) (at (finished a.0).0 (less p (less q remaining))) (parts q n.0) (parts p a.0) _ _
+        (parts_lead s q n.0 remaining n.1 (both_second p q)) (parts_lead (finished n.0).0 p a.0 (less q remaining) a.1 (first_left p q)) in
+        let all = settles part part_decide Sole sole_keeps part_diamond (at s remaining) (parts p m.0 ++ parts q b.0) (sole_at s remaining owned single)
+        (ends_at (at s remaining) (finished b.0).0 (less q (less p remaining)) (parts p m.0 ++ parts q b.0) _ first (none_left p q)) in
+        let one_end = all.one_state (parts q n.0 ++ parts p a.0) (ends_at (at s remaining) (finished a.0).0 (less p (less q remaining)) (parts q n.0 ++ parts p a.0) _ second (none_left_turned p q)) in
+        record {
+          first = (a.0, a.1);
+          second = (b.0, b.1);
+          one_state = ap state_of (sym second.there ∙ one_end ∙ first.there);
+          first_cost = a.2;
+          second_cost = b.2;
+        }
+
+    pub steps_commute : (s : State Proc) → Owned s → HasOneWriter s.chans → Diamond step s
+    steps_commute s owned single = diamond step Whole whole_end whole_took whole_takes s (whole_meet s owned single)

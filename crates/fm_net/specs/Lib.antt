@@ -1,0 +1,5 @@
+pub mod Machine
+pub mod Language
+pub mod Owned
+pub mod Lawful
+pub mod Small
