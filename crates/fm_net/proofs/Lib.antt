@@ -15,3 +15,5 @@ pub mod Laws
 pub mod SmallPorts
 pub mod SmallLaws
 pub mod Places
+pub mod Typed
+pub mod SmallTypes

@@ -177,7 +177,7 @@ module _ {Proc : Type 0} (language : Language Proc) where
   unfolding both
   none_left_turned p q r = omega arith
 
-  state_of : Midway Proc → State Proc
+  abbrev pub state_of : Midway Proc → State Proc
   state_of μ = record { procs = μ.procs; chans = μ.chans }
 
   abbrev Owned : State Proc → Type 0
@@ -201,10 +201,6 @@ module _ {Proc : Type 0} (language : Language Proc) where
   sole_at : (s : State Proc) (remaining : Place → ℕ) → Owned s → HasOneWriter s.chans → Sole (at s remaining)
   unfolding midway
   sole_at s remaining o single = (sound_at s remaining o, single)
-
-  single_at : (s : State Proc) (remaining : Place → ℕ) → Sole (at s remaining) → HasOneWriter s.chans
-  unfolding midway
-  single_at s remaining g = g.1
 
   module _ (laws : IsLawfulLanguage language) where
     part_next : (μ : Midway Proc) (a : Part) (m : Move language μ a) → next part μ a ≡ (end language μ a m).0
@@ -241,12 +237,33 @@ module _ {Proc : Type 0} (language : Language Proc) where
         subst Owned (sym (whole_next s p m))
         (owned_at (finished m.0).0 (less p (one_place p)) (subst Sound l.there (good_after part Sound part_keeps (parts p m.0) (at s (one_place p)) (sound_at s (one_place p) owned) l.legal)))
 
+    -- what each part keeps, each step does
+    module _ (Fact : State Proc → Type 0) (kept : (μ : Midway Proc) (a : Part) → Sound μ → Fact (state_of μ) → (m : Move language μ a) → Fact (state_of (end language μ a m).0)) where
+      abbrev SoundFact : Midway Proc → Type 0
+      SoundFact μ = Sound μ × Fact (state_of μ)
+
+      fact_keeps : (μ : Midway Proc) (a : Part) → SoundFact μ → Can part μ a → SoundFact (next part μ a)
+      fact_keeps μ a good can =
+          let m = took language μ a can.0 can.1 in
+          (part_keeps μ a good.0 can, subst (λ (ν : Midway Proc). Fact (state_of ν)) (sym (part_next μ a m)) (kept μ a good.0 good.1 m))
+
+      fact_at : (s : State Proc) (remaining : Place → ℕ) → Owned s → Fact s → SoundFact (at s remaining)
+      unfolding midway
+      fact_at s remaining owned fact = (sound_at s remaining owned, fact)
+
+      at_fact : (s : State Proc) (remaining : Place → ℕ) → SoundFact (at s remaining) → Fact s
+      unfolding midway
+      at_fact s remaining good = good.1
+
+      pub step_keeps_fact : (s : State Proc) (p : Place) → Owned s → Fact s → Can step s p → Fact (next step s p)
+      step_keeps_fact s p owned fact can =
+          let m = whole_took s p can.0 can.1 in
+          let l = one_step s p m in
+          subst Fact (sym (whole_next s p m))
+          (at_fact (finished m.0).0 (less p (one_place p)) (subst SoundFact l.there (good_after part SoundFact fact_keeps (parts p m.0) (at s (one_place p)) (fact_at s (one_place p) owned fact) l.legal)))
+
     pub step_keeps_single : (s : State Proc) (p : Place) → Owned s → HasOneWriter s.chans → Can step s p → HasOneWriter (next step s p).chans
-    step_keeps_single s p owned single can =
-        let m = whole_took s p can.0 can.1 in
-        let l = one_step s p m in
-        subst (λ (t : State Proc). HasOneWriter t.chans) (sym (whole_next s p m))
-        (single_at (finished m.0).0 (less p (one_place p)) (subst Sole l.there (good_after part Sole sole_keeps (parts p m.0) (at s (one_place p)) (sole_at s (one_place p) owned single) l.legal)))
+    step_keeps_single = step_keeps_fact (λ s. HasOneWriter s.chans) (λ μ a good single m. keeps_single language laws μ good single a m)
 
     -- ---- a step of q leaves p its step
 
@@ -276,7 +293,7 @@ module _ {Proc : Type 0} (language : Language Proc) where
         (b.0, b.1, b.2 ∙ sym (ap price after_p.0.1) ∙ after_p.1 ∙ ap price e)
 
     whole_meet : (s : State Proc) → Owned s → HasOneWriter s.chans → (p q : Place) → (p ≢ q) → (m : Whole s p) (n : Whole s q) → MovesMeet Whole whole_end s p q m n
-    unfolding midway state_of
+    unfolding midway
     whole_meet s owned single p q apart m n =
         let remaining = both p q in
         let b = follows s p q remaining owned single apart (both_first p q) (both_second p q) m n in

@@ -6,7 +6,9 @@
 //! that accounts for its ports (`IsLawfulLanguage`) has these laws: each open port stands in one place
 //! (`IsOwned`), no step takes another process its step, and where each channel has one writer
 //! (`HasOneWriter`), all schedules lead to one outcome at one cost. The definitions stand in `specs/`.
-//! Each function here has an empty body: its contract is a law.
+//! Each function here has an empty body: its contract is a law. That what channels and processes owe to
+//! the types of channels is kept by each step is a lemma of `proofs/Typed.antt`, since a contract can't
+//! quantify over facts.
 #![tactic(auto)]
 
 ghost use Rattle.std.specs.Prelude.{◌≡◌, ◌≢◌, ◌⊎◌, ◌≤◌, ℕ, Option, Some, List, []};
@@ -19,7 +21,7 @@ ghost use Rattle.fm_net.specs.Machine.{Place, State, Event, Reply, Onward, Go};
 ghost use Rattle.fm_net.specs.Language.{Language, language_step};
 ghost use Rattle.fm_net.specs.Owned.{queued, opened, IsOwned, HasOneWriter, main_alone};
 ghost use Rattle.fm_net.specs.Lawful.{holds, IsLawfulLanguage};
-ghost use Rattle.fm_net.specs.Small.{Instr, language as small, first_state};
+ghost use Rattle.fm_net.specs.Small.{Instr, language as small, first_state, HasOneItemMessages};
 
 /// Ownership of ports holds where main is alone with no port, is kept by each step, and so holds
 /// throughout.
@@ -97,11 +99,14 @@ pub fn one_outcome<P>()
 {}
 
 /// What the laws ask for can be met: a small language with channels, ports in messages and blocks of
-/// children is lawful, and has one outcome from its first state, whatever its units are.
+/// children is lawful, and has one outcome from its first state, whatever its units are. Its messages are
+/// of one item each.
 pub fn small_language()
     ensures lawful { (units : List (List Instr)) → IsLawfulLanguage (small units) }
     ensures owned { (units : List (List Instr)) →
         Throughout (language_step (small units)) (IsOwned (small units)) (first_state units) }
+    ensures typed { (units : List (List Instr)) →
+        Throughout (language_step (small units)) HasOneItemMessages (first_state units) }
     ensures commutes { (units : List (List Instr)) →
         Throughout (language_step (small units)) (Diamond (language_step (small units))) (first_state units) }
     ensures settles { (units : List (List Instr)) (cs : List Place) →
