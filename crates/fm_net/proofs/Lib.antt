@@ -15,5 +15,6 @@ pub mod Laws
 pub mod SmallPorts
 pub mod SmallLaws
 pub mod Places
+pub mod Cases
 pub mod Typed
 pub mod SmallTypes
