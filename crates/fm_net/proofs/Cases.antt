@@ -1,8 +1,7 @@
 -- The step of a process, by what it asks.
-use Rattle.std.proofs.Common.{◌≡◌, ℕ, zero, suc, Option, Some, None, List, [], ◌∷◌, ◌++◌, Bool, true, false, cond, option_map, refl, sym, ap, ap₂, ◌∙◌, append-nil}
+use Rattle.std.proofs.Common.{◌≡◌, ℕ, zero, suc, Option, Some, None, List, [], ◌∷◌, ◌++◌, Bool, true, false, cond, option_map, refl, ap, ◌∙◌, append-nil}
 use Rattle.std.specs.FinMap.{get, insert}
 use Rattle.fm_base.specs.declared.path.ChanName.{ChanName}
-use Rattle.fm_base.specs.declared.port.PortValue.{PortValue}
 use Rattle.fm_base.specs.Channels.{Chan, Chans, ChannelOp, is_ready, changed, gives, spills, fresh, shed, weight, all_shed}
 use Rattle.fm_maps.specs.Changes.{alter, alters}
 use Rattle.fm_maps.proofs.Adjusts.{adjust-insert}

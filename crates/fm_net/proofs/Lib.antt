@@ -18,3 +18,4 @@ pub mod Places
 pub mod Cases
 pub mod Typed
 pub mod SmallTypes
+pub mod SmallRun

@@ -5,7 +5,7 @@ use Rattle.std.specs.Prelude.{◌≡◌, ◌≤◌, Option, Some, List, [], ◌�
 use Rattle.std.specs.FinMap.{get}
 use Rattle.fm_base.specs.declared.path.ChanName.{ChanName}
 use Rattle.fm_base.specs.declared.port.PortValue.{PortValue}
-use Rattle.fm_base.specs.Channels.{Message, Chan, ChannelOp, Push, Pop, message_ports, channel_of}
+use Rattle.fm_base.specs.Channels.{Message, Chan, Push, Pop, message_ports, channel_of}
 use Rattle.fm_net.specs.Machine.{Place, Need, Nothing, Event, New, Children, Reply, Onward, Ask, Stop, Go, State}
 use Rattle.fm_net.specs.Language.{Language}
 use Rattle.fm_net.specs.Owned.{count}

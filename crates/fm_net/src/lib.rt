@@ -21,7 +21,7 @@ ghost use Rattle.fm_net.specs.Machine.{Place, State, Need, Nothing, Event, New, 
 ghost use Rattle.fm_net.specs.Language.{Language, language_step};
 ghost use Rattle.fm_net.specs.Owned.{queued, opened, name_of, IsOwned, HasOneWriter, main_alone};
 ghost use Rattle.fm_net.specs.Lawful.{holds, IsLawfulLanguage};
-ghost use Rattle.fm_net.specs.Small.{Instr, language as small, first_state, HasOneItemMessages};
+ghost use Rattle.fm_net.specs.Small.{Instr, language as small, first_state, HasOneItemMessages, sample, sample_choices};
 
 /// The step of the process at a place, by what it asks. Where there is no process, where it asks for
 /// nothing more, and where what it needs isn't served, there is none. Where it starts no child and
@@ -39,24 +39,24 @@ pub fn one_step<P>()
         (need : Need) (f : ChanName → Reply P → Onward P) → language.ask x ≡ Go need f → (r : Reply P) →
         served language.has_ended s.procs s.chans p need ≡ Some r →
         language_step language s p
-            ≡ Some (finished (going language.emptied s.procs s.chans p need (f (made p need) r))) }
+        ≡ Some (finished (going language.emptied s.procs s.chans p need (f (made p need) r))) }
     ensures local { (language : Language P) (s : State P) (p : Place) (x : P) → get s.procs p ≡ Some x →
         (f : ChanName → Reply P → Onward P) (o : Onward P) → language.ask x ≡ Go Nothing f →
         f (name_of p 0) (record { message = None; children = [] }) ≡ o → o.starts ≡ [] →
         language_step language s p
-            ≡ Some (record { procs = insert s.procs p o.self; chans = all_shed o.drops s.chans }, o.cost) }
+        ≡ Some (record { procs = insert s.procs p o.self; chans = all_shed o.drops s.chans }, o.cost) }
     ensures channel { (language : Language P) (s : State P) (p : Place) (x : P) → get s.procs p ≡ Some x →
         (n : ℕ) (f : ChanName → Reply P → Onward P) (o : Onward P) → language.ask x ≡ Go (New n) f →
         f (name_of p n) (record { message = None; children = [] }) ≡ o → o.starts ≡ [] →
         language_step language s p
-            ≡ Some (record { procs = insert s.procs p o.self; chans = all_shed o.drops (insert s.chans (name_of p n) fresh) }, o.cost) }
+        ≡ Some (record { procs = insert s.procs p o.self; chans = all_shed o.drops (insert s.chans (name_of p n) fresh) }, o.cost) }
     ensures event { (language : Language P) (s : State P) (p : Place) (x : P) → get s.procs p ≡ Some x →
         (c : ChanName) (a : ChannelOp) (f : ChanName → Reply P → Onward P) →
         language.ask x ≡ Go (Event c a) f → (ch : Chan) → get s.chans c ≡ Some ch → (o : Onward P) →
         f (name_of p 0) (record { message = gives a ch; children = [] }) ≡ o → o.starts ≡ [] →
         is_ready a ch ≡ true →
         language_step language s p
-            ≡ Some (record { procs = insert s.procs p o.self; chans = all_shed (o.drops ++ spills a ch) (insert s.chans c (changed a ch)) }, o.cost) }
+        ≡ Some (record { procs = insert s.procs p o.self; chans = all_shed (o.drops ++ spills a ch) (insert s.chans c (changed a ch)) }, o.cost) }
     ensures event_waits { (language : Language P) (s : State P) (p : Place) (x : P) → get s.procs p ≡ Some x →
         (c : ChanName) (a : ChannelOp) (f : ChanName → Reply P → Onward P) →
         language.ask x ≡ Go (Event c a) f → (ch : Chan) → get s.chans c ≡ Some ch →
@@ -140,7 +140,7 @@ pub fn one_outcome<P>()
 
 /// What the laws ask for can be met: a small language with channels, ports in messages and blocks of
 /// children is lawful, and has one outcome from its first state, whatever its units are. Its messages are
-/// of one item each.
+/// of one item each, and a sample program ends.
 pub fn small_language()
     ensures lawful { (units : List (List Instr)) → IsLawfulLanguage (small units) }
     ensures owned { (units : List (List Instr)) →
@@ -149,6 +149,7 @@ pub fn small_language()
         Throughout (language_step (small units)) HasOneItemMessages (first_state units) }
     ensures commutes { (units : List (List Instr)) →
         Throughout (language_step (small units)) (Diamond (language_step (small units))) (first_state units) }
+    ensures sample_ends { IsEnding (language_step (small sample)) (first_state sample) sample_choices }
     ensures settles { (units : List (List Instr)) (cs : List Place) →
         IsEnding (language_step (small units)) (first_state units) cs →
         Settles (language_step (small units)) (first_state units) cs }
