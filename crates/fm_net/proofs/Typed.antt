@@ -34,17 +34,17 @@ use Rattle.fm_net.proofs.Steps.{state_of, step_keeps, step_keeps_fact}
 
 -- ---- facts of all values of a map
 
-module _ {K X : Type 0} {R : K → K → Ordering} (o : IsKeyOrder R) (P : X → Type 0) where
+module _ {K X : Type 0} {R : K → K → Ordering} (o : IsKeyOrder R) (Fact : X → Type 0) where
   abbrev Each : FinMap R X → Type 0
-  Each m = (q : K) (x : X) → get m q ≡ Some x → P x
+  Each m = (q : K) (x : X) → get m q ≡ Some x → Fact x
 
   abbrev At : Option X → Type 0
-  At v = (x : X) → v ≡ Some x → P x
+  At v = (x : X) → v ≡ Some x → Fact x
 
   Each-alter : (m : FinMap R X) (k : K) (f : Option X → Option X) → Each m → ((v : Option X) → At v → At (f v)) → Each (alter m k f)
   Each-alter m k f each keeps q x is = go (eq_by_cmp R q k) (sym (get-alter o m k f q) ∙ is)
     where
-      go : (b : Bool) → cond b (f (get m q)) (get m q) ≡ Some x → P x
+      go : (b : Bool) → cond b (f (get m q)) (get m q) ≡ Some x → Fact x
       go true e = keeps (get m q) (each q) x e
       go false e = each q x e
 
@@ -63,9 +63,9 @@ module _ {K X : Type 0} {R : K → K → Ordering} (o : IsKeyOrder R) (P : X →
 the_value : {X : Type 0} (u v : X) → Some u ≡ Some v → u ≡ v
 the_value u v e = cc
 
-AllIn-push : {X : Type 0} (P : X → Type 0) (xs : List X) (x : X) → AllIn P xs → P x → AllIn P (xs ++ x ∷ [])
-AllIn-push P [] x h g = (g, tt)
-AllIn-push P (y ∷ xs) x h g = (h.0, AllIn-push P xs x h.1 g)
+AllIn-push : {X : Type 0} (Fact : X → Type 0) (xs : List X) (x : X) → AllIn Fact xs → Fact x → AllIn Fact (xs ++ x ∷ [])
+AllIn-push Fact [] x h g = (g, tt)
+AllIn-push Fact (y ∷ xs) x h g = (h.0, AllIn-push Fact xs x h.1 g)
 
 module _ {Proc T : Type 0} (language : Language Proc) (IsFine : (ChanName → T) → Proc → Type 0) (Fits : (ChanName → T) → ChanName → Message → Type 0) where
   -- ---- the queues
@@ -110,9 +110,9 @@ module _ {Proc T : Type 0} (language : Language Proc) (IsFine : (ChanName → T)
 
   -- ---- the processes
 
-  starts_keep : (P : Proc → Type 0) (p : Place) (b j : ℕ) (xs : List Proc) → AllIn P xs → AllKeep path_order P (start_changes p b j xs)
-  starts_keep P p b j [] all = tt
-  starts_keep P p b j (x ∷ xs) all = ((λ v h y e. subst P (the_value x y e) all.0), starts_keep P p b (suc j) xs all.1)
+  starts_keep : (Fact : Proc → Type 0) (p : Place) (b j : ℕ) (xs : List Proc) → AllIn Fact xs → AllKeep path_order Fact (start_changes p b j xs)
+  starts_keep Fact p b j [] all = tt
+  starts_keep Fact p b j (x ∷ xs) all = ((λ v h y e. subst Fact (the_value x y e) all.0), starts_keep Fact p b (suc j) xs all.1)
 
   emptied_keeps : (types : ChanName → T) → IsTypedLanguage language IsFine Fits → (v : Option Proc) → At path_order (IsFine types) v → At path_order (IsFine types) (option_map language.emptied v)
   emptied_keeps types typing None h y e = absurd (cc)
@@ -178,12 +178,12 @@ module _ {Proc T : Type 0} (language : Language Proc) (IsFine : (ChanName → T)
   same_type types m p (Children b n) t r c ch is = refl
   same_type types m p (New n) t r c ch is = sym (ap (λ b. cond b t (types c)) (tie_not channel_order c (name_of p n) (λ e. cc (sym is ∙ ap (get m) e ∙ r))))
 
-  module _ (typing : IsTypedLanguage language IsFine Fits) (laws : IsLawfulLanguage language) (μ : Midway Proc) (good : IsSound language μ) (types : ChanName → T) (typed : AreTypes language IsFine Fits types (state_of language μ)) where
-    holder_open : (q : Place) (x : Proc) (z : PortValue) → get μ.procs q ≡ Some x → 1 ≤ count z (language.held x) → 1 ≤ opened μ.chans z
-    holder_open q x z is h = omega (arith, good.places z, subst (λ o. value_or_zero (λ (y : Proc). count z (language.held y)) o ≤ total (λ (y : Proc). count z (language.held y)) μ.procs) is (one_of_total path_order (λ (y : Proc). count z (language.held y)) μ.procs q))
+  module _ (typing : IsTypedLanguage language IsFine Fits) (laws : IsLawfulLanguage language) (mid : Midway Proc) (good : IsSound language mid) (types : ChanName → T) (typed : AreTypes language IsFine Fits types (state_of language mid)) where
+    holder_open : (q : Place) (x : Proc) (z : PortValue) → get mid.procs q ≡ Some x → 1 ≤ count z (language.held x) → 1 ≤ opened mid.chans z
+    holder_open q x z is h = omega (arith, good.places z, subst (λ o. value_or_zero (λ (y : Proc). count z (language.held y)) o ≤ total (λ (y : Proc). count z (language.held y)) mid.procs) is (one_of_total path_order (λ (y : Proc). count z (language.held y)) mid.procs q))
 
-    queue_open : (c : ChanName) (ch : Chan) (z : PortValue) → get μ.chans c ≡ Some ch → 1 ≤ count z (queue_ports ch.queue) → 1 ≤ opened μ.chans z
-    queue_open c ch z is h = omega (arith, good.places z, subst (λ o. value_or_zero (queued z) o ≤ total (queued z) μ.chans) is (one_of_total channel_order (queued z) μ.chans c))
+    queue_open : (c : ChanName) (ch : Chan) (z : PortValue) → get mid.chans c ≡ Some ch → 1 ≤ count z (queue_ports ch.queue) → 1 ≤ opened mid.chans z
+    queue_open c ch z is h = omega (arith, good.places z, subst (λ o. value_or_zero (queued z) o ≤ total (queued z) mid.chans) is (one_of_total channel_order (queued z) mid.chans c))
 
     all_agree : (others : ChanName → T) (c : ChanName) (ms : List Message) → types c ≡ others c → ((z : PortValue) → 1 ≤ count z (queue_ports ms) → types (channel_of z) ≡ others (channel_of z)) → AllIn (Fits types c) ms → AllIn (Fits others c) ms
     all_agree others c [] e h all = tt
@@ -192,36 +192,36 @@ module _ {Proc T : Type 0} (language : Language Proc) (IsFine : (ChanName → T)
       all_agree others c ms e (λ z l. h z (omega (arith, count-append z (message_ports m) (queue_ports ms)))) all.1,
     )
 
-    module _ (others : ChanName → T) (same : (c : ChanName) (ch : Chan) → get μ.chans c ≡ Some ch → types c ≡ others c) where
-      at_port : (z : PortValue) → 1 ≤ opened μ.chans z → types (channel_of z) ≡ others (channel_of z)
-      at_port z h = let o = channel_there z (get μ.chans (channel_of z)) h in same (channel_of z) o.0 o.1
+    module _ (others : ChanName → T) (same : (c : ChanName) (ch : Chan) → get mid.chans c ≡ Some ch → types c ≡ others c) where
+      at_port : (z : PortValue) → 1 ≤ opened mid.chans z → types (channel_of z) ≡ others (channel_of z)
+      at_port z h = let o = channel_there z (get mid.chans (channel_of z)) h in same (channel_of z) o.0 o.1
 
-      typed_so : AreTypes language IsFine Fits others (state_of language μ)
+      typed_so : AreTypes language IsFine Fits others (state_of language mid)
       typed_so = record {
         each = λ q x is. typing.agrees types others x (λ z h. at_port z (holder_open q x z is h)) (typed.each q x is);
         queues = λ c ch is. all_agree others c ch.queue (same c ch is) (λ z h. at_port z (queue_open c ch z is h)) (typed.queues c ch is);
       }
 
     -- parts keep the types, with one more where a channel is made
-    pub keeps_typed : (a : Part) (m : Move language μ a) → IsTyped language IsFine Fits (state_of language (end language μ a m).0)
-    keeps_typed (Discard x) l = (types, record { each = typed.each; queues = λ c. kept_at types c μ.chans (channel_of x) (discarded x) typed.queues (λ ch is h. after_discard types (channel_of x) x ch h) })
+    pub keeps_typed : (a : Part) (m : Move language mid a) → IsTyped language IsFine Fits (state_of language (end language mid a m).0)
+    keeps_typed (Discard x) l = (types, record { each = typed.each; queues = λ c. kept_at types c mid.chans (channel_of x) (discarded x) typed.queues (λ ch is h. after_discard types (channel_of x) x ch h) })
     keeps_typed (Run p) (h, t) =
         let g : IsTypedStep language IsFine Fits t.self t.need t.goes = subst (IsTypedAsk language IsFine Fits t.self) t.asks (typing.goes t.self) in
         let others : ChanName → T = retyped types p t.need g.type_made in
-        let there = ready_need language laws μ good p t.self t.need t.reply t.is (going_of language laws μ good p t).numbered t.serves in
-        let now : AreTypes language IsFine Fits others (state_of language μ) = typed_so others (same_type types μ.chans p t.need g.type_made there) in
+        let there = ready_need language laws mid good p t.self t.need t.reply t.is (going_of language laws mid good p t).numbered t.serves in
+        let now : AreTypes language IsFine Fits others (state_of language mid) = typed_so others (same_type types mid.chans p t.need g.type_made there) in
         let self = now.each p t.self t.is in
-        let on = g.goes_on others self (made p t.need) t.reply (made_fits types p t.need g.type_made) (came_fits others μ.procs μ.chans p t.need t.reply now.queues t.serves) (served_children_fine others μ.procs μ.chans p t.need t.reply now.each t.serves) in (
+        let on = g.goes_on others self (made p t.need) t.reply (made_fits types p t.need g.type_made) (came_fits others mid.procs mid.chans p t.need t.reply now.queues t.serves) (served_children_fine others mid.procs mid.chans p t.need t.reply now.each t.serves) in (
           others,
           record {
-            each = Each-alters path_order (IsFine others) (changes language.emptied p t.need (t.goes (made p t.need) t.reply)) μ.procs (changes_keep others typing p t.need (t.goes (made p t.need) t.reply) on.0 on.1) now.each;
-            queues = queues_after others p t.need μ.chans (g.sends others self) now.queues;
+            each = Each-alters path_order (IsFine others) (changes language.emptied p t.need (t.goes (made p t.need) t.reply)) mid.procs (changes_keep others typing p t.need (t.goes (made p t.need) t.reply) on.0 on.1) now.each;
+            queues = queues_after others p t.need mid.chans (g.sends others self) now.queues;
           },
         )
 
   -- each step of a language with types keeps them
   pub step_keeps_types : IsTypedLanguage language IsFine Fits → (laws : IsLawfulLanguage language) → (s : State Proc) (p : Place) → IsOwned language s → IsTyped language IsFine Fits s → Can (language_step language) s p → IsTyped language IsFine Fits (next (language_step language) s p)
-  step_keeps_types typing laws = step_keeps_fact language laws (IsTyped language IsFine Fits) (λ μ a good typed m. keeps_typed typing laws μ good typed.0 typed.1 a m)
+  step_keeps_types typing laws = step_keeps_fact language laws (IsTyped language IsFine Fits) (λ mid a good typed m. keeps_typed typing laws mid good typed.0 typed.1 a m)
 
   pub types_throughout : IsTypedLanguage language IsFine Fits → IsLawfulLanguage language → (first : State Proc) → IsOwned language first → IsTyped language IsFine Fits first → Throughout (language_step language) (IsTyped language IsFine Fits) first
   types_throughout typing laws first owned typed =
