@@ -4,3 +4,4 @@ pub mod Values
 pub mod Meaning
 pub mod Outcome
 pub mod Alone
+pub mod Language

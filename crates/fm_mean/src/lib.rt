@@ -5,5 +5,5 @@
 mod laws;
 mod tree;
 
-pub use laws::{main_alone, report_of_main_alone};
+pub use laws::{main_alone, one_outcome, report_of_main_alone};
 pub use tree::{Expr, Item, Node, Operator, Placed, Sign, Stmt};

@@ -19,68 +19,68 @@ use Rattle.fm_net.proofs.Channels.{opened_after, queued_after, present_after, ma
 use native.Mathlib.Decide.{ℕ_discrete}
 
 module _ {Proc : Type 0} (language : Language Proc)
-    (laws : IsLawfulLanguage language) (μ : Midway Proc) (good : IsSound language μ) where
-  new_name : (p : Place) (t : Start language μ.procs μ.chans p) (n : ℕ) → t.need ≡ New n → get μ.chans (name_of p n) ≡ None
+    (laws : IsLawfulLanguage language) (mid : Midway Proc) (good : IsSound language mid) where
+  new_name : (p : Place) (t : Start language mid.procs mid.chans p) (n : ℕ) → t.need ≡ New n → get mid.chans (name_of p n) ≡ None
   new_name p t n e =
-      let g = going_of language laws μ good p t in
-      subst (Ready μ.chans p) e (ready_need language laws μ good p t.self t.need t.reply t.is g.numbered t.serves)
+      let g = going_of language laws mid good p t in
+      subst (Ready mid.chans p) e (ready_need language laws mid good p t.self t.need t.reply t.is g.numbered t.serves)
 
   -- each part keeps ownership
-  pub keeps : (a : Part) (m : Move language μ a) → IsSound language (end language μ a m).0
+  pub keeps : (a : Part) (m : Move language mid a) → IsSound language (end language mid a m).0
   keeps (Discard x) l =
-      let is_open = loose_open language laws μ good x l in
+      let is_open = loose_open language laws mid good x l in
       record {
-        places = λ z. omega (arith, good.places z, queued_shut μ.chans x z, opened_shut μ.chans x z is_open, one_below μ.loose x z l);
+        places = λ z. omega (arith, good.places z, queued_shut mid.chans x z, opened_shut mid.chans x z is_open, one_below mid.loose x z l);
         born = good.born;
-        named = λ q n h. good.named q n (shut_present μ.chans x (name_of q n) h);
+        named = λ q n h. good.named q n (shut_present mid.chans x (name_of q n) h);
       }
   keeps (Run p) (h, t) =
-      let g = going_of language laws μ good p t in
+      let g = going_of language laws mid good p t in
       let c = made p t.need in
       let o = t.goes (made p t.need) t.reply in
       let new = new_name p t in
-      let no_children = no_child language laws μ good p t in
+      let no_children = no_child language laws mid good p t in
       record {
         places = λ z.
-            let q = queued_after language.has_ended μ.procs μ.chans p t.need t.reply z t.serves new in
+            let q = queued_after language.has_ended mid.procs mid.chans p t.need t.reply z t.serves new in
             omega (
               arith,
               good.places z,
-              total_changes language.has_ended language.emptied μ.procs μ.chans p t.need t.reply o t.self t.is t.serves no_children (λ x. count z (language.held x)),
+              total_changes language.has_ended language.emptied mid.procs mid.chans p t.need t.reply o t.self t.is t.serves no_children (λ x. count z (language.held x)),
               q.0,
-              opened_after μ.chans p t.need z new,
+              opened_after mid.chans p t.need z new,
               g.account c t.reply q.1 z,
-              count-append z o.drops (spilt t.need μ.chans),
+              count-append z o.drops (spilt t.need mid.chans),
             );
         born = λ q b i l.
-            let up = rises language.has_ended language.emptied μ.procs μ.chans p t.need t.reply o t.self t.is t.serves no_children language.next_block laws.same_block (g.later_block c t.reply) q in
-            elim (comes language.has_ended language.emptied μ.procs μ.chans p t.need t.reply o t.self t.is t.serves no_children (child q b i) l) [
+            let up = rises language.has_ended language.emptied mid.procs mid.chans p t.need t.reply o t.self t.is t.serves no_children language.next_block laws.same_block (g.later_block c t.reply) q in
+            elim (comes language.has_ended language.emptied mid.procs mid.chans p t.need t.reply o t.self t.is t.serves no_children (child q b i) l) [
               | inl was ↦ omega (arith, good.born q b i was)
               | inr is ↦
                   let at : q ≡ p = pair_snoc q p (b, i) (o.block, is.1.0) is.1.1 in
                   let number : b ≡ o.block = child_block q p b i o.block is.1.0 is.1.1 in
-                  let mine : value_or_zero language.next_block (get (alters (changes language.emptied p t.need o) μ.procs) q) ≡ language.next_block o.self =
-                  ap (λ r. value_or_zero language.next_block (get (alters (changes language.emptied p t.need o) μ.procs) r)) at ∙ ap (value_or_zero language.next_block) (here language.has_ended language.emptied μ.procs μ.chans p t.need t.reply o t.self t.is t.serves no_children) in
+                  let mine : value_or_zero language.next_block (get (alters (changes language.emptied p t.need o) mid.procs) q) ≡ language.next_block o.self =
+                  ap (λ r. value_or_zero language.next_block (get (alters (changes language.emptied p t.need o) mid.procs) r)) at ∙ ap (value_or_zero language.next_block) (here language.has_ended language.emptied mid.procs mid.chans p t.need t.reply o t.self t.is t.serves no_children) in
                   omega (arith, g.block_is c t.reply, g.passed_block c t.reply is.0)
             ];
         named = λ q n l.
-            let up = rises language.has_ended language.emptied μ.procs μ.chans p t.need t.reply o t.self t.is t.serves no_children language.next_channel laws.same_channel (g.later_channel c t.reply) q in
-            elim (present_after μ.chans p t.need (name_of q n) l) [
+            let up = rises language.has_ended language.emptied mid.procs mid.chans p t.need t.reply o t.self t.is t.serves no_children language.next_channel laws.same_channel (g.later_channel c t.reply) q in
+            elim (present_after mid.chans p t.need (name_of q n) l) [
               | inl was ↦ omega (arith, good.named q n was)
               | inr is ↦
                   let at : q ≡ p = ap (λ (d : ChanName). d.maker) is.2 in
                   let number : n ≡ is.0 = ap (λ (d : ChanName). d.number) is.2 in
                   let number_is : is.0 ≡ language.next_channel t.self = subst (Numbered (language.next_channel t.self)) is.1 g.numbered in
-                  let mine : value_or_zero language.next_channel (get (alters (changes language.emptied p t.need o) μ.procs) q) ≡ language.next_channel o.self =
-                  ap (λ r. value_or_zero language.next_channel (get (alters (changes language.emptied p t.need o) μ.procs) r)) at ∙ ap (value_or_zero language.next_channel) (here language.has_ended language.emptied μ.procs μ.chans p t.need t.reply o t.self t.is t.serves no_children) in
+                  let mine : value_or_zero language.next_channel (get (alters (changes language.emptied p t.need o) mid.procs) q) ≡ language.next_channel o.self =
+                  ap (λ r. value_or_zero language.next_channel (get (alters (changes language.emptied p t.need o) mid.procs) r)) at ∙ ap (value_or_zero language.next_channel) (here language.has_ended language.emptied mid.procs mid.chans p t.need t.reply o t.self t.is t.serves no_children) in
                   omega (arith, g.passed_channel c t.reply is.0 is.1)
             ];
       }
 
   -- and no part gives a channel a second writer
-  pub keeps_single : HasOneWriter μ.chans → (a : Part) (m : Move language μ a) → HasOneWriter (end language μ a m).0.chans
-  keeps_single single (Discard x) l c w h = single c w (omega (arith, opened_shut μ.chans x (Writer c w) (loose_open language laws μ good x l)))
-  keeps_single single (Run p) (h, t) d w l = elim (ℕ_discrete (opened μ.chans (Writer d w)) 0) [
-    | yes none ↦ made_writer t.need (made p t.need) d w (omega (arith, opened_after μ.chans p t.need (Writer d w) (new_name p t)))
+  pub keeps_single : HasOneWriter mid.chans → (a : Part) (m : Move language mid a) → HasOneWriter (end language mid a m).0.chans
+  keeps_single single (Discard x) l c w h = single c w (omega (arith, opened_shut mid.chans x (Writer c w) (loose_open language laws mid good x l)))
+  keeps_single single (Run p) (h, t) d w l = elim (ℕ_discrete (opened mid.chans (Writer d w)) 0) [
+    | yes none ↦ made_writer t.need (made p t.need) d w (omega (arith, opened_after mid.chans p t.need (Writer d w) (new_name p t)))
     | no some ↦ single d w (omega arith)
   ]

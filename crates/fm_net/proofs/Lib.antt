@@ -15,3 +15,7 @@ pub mod Laws
 pub mod SmallPorts
 pub mod SmallLaws
 pub mod Places
+pub mod Cases
+pub mod Typed
+pub mod SmallTypes
+pub mod SmallRun

@@ -26,78 +26,78 @@ use Rattle.fm_net.proofs.Children.{one_parent, IsNoChild, ChildrenOff, off_chang
 use Rattle.fm_net.proofs.Needs.{absent, no_value, Ready, IsCalm, Commutes, chans_swap, left, served_event}
 
 -- ownership between two parts: a loose port has its place there
-pub record IsSound {Proc : Type 0} (language : Language Proc) (μ : Midway Proc) : Type 0 where
-  pub places : (z : PortValue) → total (λ x. count z (language.held x)) μ.procs + total (queued z) μ.chans + μ.loose z ≡ opened μ.chans z
-  pub born : (q : Place) (b i : ℕ) → 1 ≤ present (get μ.procs (child q b i)) → b < value_or_zero language.next_block (get μ.procs q)
-  pub named : (q : Place) (n : ℕ) → 1 ≤ present (get μ.chans (name_of q n)) → n < value_or_zero language.next_channel (get μ.procs q)
+pub record IsSound {Proc : Type 0} (language : Language Proc) (mid : Midway Proc) : Type 0 where
+  pub places : (z : PortValue) → total (λ x. count z (language.held x)) mid.procs + total (queued z) mid.chans + mid.loose z ≡ opened mid.chans z
+  pub born : (q : Place) (b i : ℕ) → 1 ≤ present (get mid.procs (child q b i)) → b < value_or_zero language.next_block (get mid.procs q)
+  pub named : (q : Place) (n : ℕ) → 1 ≤ present (get mid.chans (name_of q n)) → n < value_or_zero language.next_channel (get mid.procs q)
 
 module _ {Proc : Type 0} (language : Language Proc) where
   abbrev holds : PortValue → Proc → ℕ
   holds z x = count z (language.held x)
 
-  module _ (laws : IsLawfulLanguage language) (μ : Midway Proc) (good : IsSound language μ) where
+  module _ (laws : IsLawfulLanguage language) (mid : Midway Proc) (good : IsSound language mid) where
     abbrev Starts : Place → Type 0
-    Starts p = Start language μ.procs μ.chans p
+    Starts p = Start language mid.procs mid.chans p
 
     pub going_of : (p : Place) (t : Starts p) → IsLawfulStep language t.self t.need t.goes
     going_of p t = subst (IsLawfulAsk language t.self) t.asks (laws.goes t.self)
 
-    most : (z : PortValue) → opened μ.chans z ≤ 1
-    most z = opened_small z (get μ.chans (channel_of z))
+    most : (z : PortValue) → opened mid.chans z ≤ 1
+    most z = opened_small z (get mid.chans (channel_of z))
 
-    pub loose_open : (z : PortValue) → 1 ≤ μ.loose z → 1 ≤ opened μ.chans z
+    pub loose_open : (z : PortValue) → 1 ≤ mid.loose z → 1 ≤ opened mid.chans z
     loose_open z h = omega (arith, good.places z)
 
-    holder : (p : Place) (x : Proc) (z : PortValue) → get μ.procs p ≡ Some x → holds z x ≤ total (holds z) μ.procs
-    holder p x z is = subst (λ o. value_or_zero (holds z) o ≤ total (holds z) μ.procs) is (one_of_total path_order (holds z) μ.procs p)
+    holder : (p : Place) (x : Proc) (z : PortValue) → get mid.procs p ≡ Some x → holds z x ≤ total (holds z) mid.procs
+    holder p x z is = subst (λ o. value_or_zero (holds z) o ≤ total (holds z) mid.procs) is (one_of_total path_order (holds z) mid.procs p)
 
-    holders : (p q : Place) (x y : Proc) (z : PortValue) → (p ≢ q) → get μ.procs p ≡ Some x → get μ.procs q ≡ Some y → holds z x + holds z y ≤ total (holds z) μ.procs
-    holders p q x y z n is_x is_y = omega (arith, two_of_total path_order (holds z) μ.procs p q n, ap (value_or_zero (holds z)) is_x, ap (value_or_zero (holds z)) is_y)
+    holders : (p q : Place) (x y : Proc) (z : PortValue) → (p ≢ q) → get mid.procs p ≡ Some x → get mid.procs q ≡ Some y → holds z x + holds z y ≤ total (holds z) mid.procs
+    holders p q x y z n is_x is_y = omega (arith, two_of_total path_order (holds z) mid.procs p q n, ap (value_or_zero (holds z)) is_x, ap (value_or_zero (holds z)) is_y)
 
-    held_open : (p : Place) (x : Proc) (z : PortValue) → get μ.procs p ≡ Some x → 1 ≤ holds z x → 1 ≤ opened μ.chans z
+    held_open : (p : Place) (x : Proc) (z : PortValue) → get mid.procs p ≡ Some x → 1 ≤ holds z x → 1 ≤ opened mid.chans z
     held_open p x z is h = omega (arith, good.places z, holder p x z is)
 
-    not_loose : (p : Place) (x : Proc) (z y : PortValue) → get μ.procs p ≡ Some x → 1 ≤ holds z x → 1 ≤ μ.loose y → y ≢ z
-    not_loose p x z y is h l e = let l' : 1 ≤ μ.loose z = subst (λ w. 1 ≤ μ.loose w) e l in
+    not_loose : (p : Place) (x : Proc) (z y : PortValue) → get mid.procs p ≡ Some x → 1 ≤ holds z x → 1 ≤ mid.loose y → y ≢ z
+    not_loose p x z y is h l e = let l' : 1 ≤ mid.loose z = subst (λ w. 1 ≤ mid.loose w) e l in
         omega (arith, good.places z, holder p x z is, most z)
 
-    not_both : (p q : Place) (x y : Proc) (z w : PortValue) → (p ≢ q) → get μ.procs p ≡ Some x → get μ.procs q ≡ Some y → 1 ≤ holds z x → 1 ≤ holds w y → z ≢ w
+    not_both : (p q : Place) (x y : Proc) (z w : PortValue) → (p ≢ q) → get mid.procs p ≡ Some x → get mid.procs q ≡ Some y → 1 ≤ holds z x → 1 ≤ holds w y → z ≢ w
     not_both p q x y z w n is_x is_y h g e = let g' : 1 ≤ holds z y = subst (λ u. 1 ≤ holds u y) (sym e) g in
         omega (arith, good.places z, holders p q x y z n is_x is_y, most z)
 
     -- ---- the processes that a step touches
 
-    pub no_child : (p : Place) (t : Starts p) (i : ℕ) → get μ.procs (child p (t.goes (made p t.need) t.reply).block i) ≡ None
+    pub no_child : (p : Place) (t : Starts p) (i : ℕ) → get mid.procs (child p (t.goes (made p t.need) t.reply).block i) ≡ None
     no_child p t i =
         let b : (t.goes (made p t.need) t.reply).block ≡ language.next_block t.self = (going_of p t).block_is (made p t.need) t.reply in
         no_value _ (λ h. let g = good.born p (t.goes (made p t.need) t.reply).block i h in
-        let e : value_or_zero language.next_block (get μ.procs p) ≡ language.next_block t.self = ap (value_or_zero language.next_block) t.is in omega arith)
+        let e : value_or_zero language.next_block (get mid.procs p) ≡ language.next_block t.self = ap (value_or_zero language.next_block) t.is in omega arith)
 
-    busy : (p r : Place) (t : Starts p) (x : Proc) → get μ.procs r ≡ Some x → language.has_ended x ≡ true → r ≢ p
+    busy : (p r : Place) (t : Starts p) (x : Proc) → get mid.procs r ≡ Some x → language.has_ended x ≡ true → r ≢ p
     busy p r t x is done e =
-        let same : Some x ≡ Some t.self = sym is ∙ ap (get μ.procs) e ∙ t.is in
+        let same : Some x ≡ Some t.self = sym is ∙ ap (get mid.procs) e ∙ t.is in
         let self : x ≡ t.self = cc in
         cc (sym (laws.stops x done) ∙ ap language.ask self ∙ t.asks)
 
-    joined_child : (p : Place) (b n : ℕ) (r : Reply Proc) → served language.has_ended μ.procs μ.chans p (Children b n) ≡ Some r → (i : ℕ) → 1 ≤ i → i < n + 1 → (x : Proc) × (get μ.procs (child p b i) ≡ Some x) × (language.has_ended x ≡ true)
-    joined_child p b n r e i l h = go (gathered language.has_ended μ.procs p b 1 n) refl e
+    joined_child : (p : Place) (b n : ℕ) (r : Reply Proc) → served language.has_ended mid.procs mid.chans p (Children b n) ≡ Some r → (i : ℕ) → 1 ≤ i → i < n + 1 → (x : Proc) × (get mid.procs (child p b i) ≡ Some x) × (language.has_ended x ≡ true)
+    joined_child p b n r e i l h = go (gathered language.has_ended mid.procs p b 1 n) refl e
       where
-        go : (o : Option (List Proc)) → gathered language.has_ended μ.procs p b 1 n ≡ o → option_map (λ ys. record { message = None; children = ys }) o ≡ Some r → (x : Proc) × (get μ.procs (child p b i) ≡ Some x) × (language.has_ended x ≡ true)
+        go : (o : Option (List Proc)) → gathered language.has_ended mid.procs p b 1 n ≡ o → option_map (λ ys. record { message = None; children = ys }) o ≡ Some r → (x : Proc) × (get mid.procs (child p b i) ≡ Some x) × (language.has_ended x ≡ true)
         go None is e' = absurd (cc e')
-        go (Some ys) is e' = child_there language.has_ended μ.procs p b 1 n ys is i l h
+        go (Some ys) is e' = child_there language.has_ended mid.procs p b 1 n ys is i l h
 
-    pub ready_need : (p : Place) (x : Proc) (need : Need) (r : Reply Proc) → get μ.procs p ≡ Some x → Numbered (language.next_channel x) need → served language.has_ended μ.procs μ.chans p need ≡ Some r → Ready μ.chans p need
+    pub ready_need : (p : Place) (x : Proc) (need : Need) (r : Reply Proc) → get mid.procs p ≡ Some x → Numbered (language.next_channel x) need → served language.has_ended mid.procs mid.chans p need ≡ Some r → Ready mid.chans p need
     ready_need p x Nothing r is n e = tt
-    ready_need p x (Event c a) r is n e = let h = served_event a (get μ.chans c) r e in (h.0, h.1, h.2)
-    ready_need p x (New k) r is n e = no_value _ (λ h. let g = good.named p k h in let w : value_or_zero language.next_channel (get μ.procs p) ≡ language.next_channel x = ap (value_or_zero language.next_channel) is in omega arith)
+    ready_need p x (Event c a) r is n e = let h = served_event a (get mid.chans c) r e in (h.0, h.1, h.2)
+    ready_need p x (New k) r is n e = no_value _ (λ h. let g = good.named p k h in let w : value_or_zero language.next_channel (get mid.procs p) ≡ language.next_channel x = ap (value_or_zero language.next_channel) is in omega arith)
     ready_need p x (Children b k) r is n e = tt
 
-    open_here : (p : Place) (x : Proc) (c : ChanName) (a : ChannelOp) (ch : Chan) → get μ.procs p ≡ Some x → get μ.chans c ≡ Some ch → 1 ≤ holds (port_of c a) x → 1 ≤ open_at (port_of c a) (Some ch)
+    open_here : (p : Place) (x : Proc) (c : ChanName) (a : ChannelOp) (ch : Chan) → get mid.procs p ≡ Some x → get mid.chans c ≡ Some ch → 1 ≤ holds (port_of c a) x → 1 ≤ open_at (port_of c a) (Some ch)
     open_here p x c (Push w m) ch is has h = subst (λ o. 1 ≤ open_at (Writer c w) o) has (held_open p x (Writer c w) is h)
     open_here p x c Pop ch is has h = subst (λ o. 1 ≤ open_at (Reader c) o) has (held_open p x (Reader c) is h)
 
-    calm_need : (p q : Place) (x y : Proc) (need other : Need) → (p ≢ q) → get μ.procs p ≡ Some x → get μ.procs q ≡ Some y → Uses (language.held x) need → Uses (language.held y) other
-        → Ready μ.chans p need → Ready μ.chans q other → IsCalm μ.chans need other
+    calm_need : (p q : Place) (x y : Proc) (need other : Need) → (p ≢ q) → get mid.procs p ≡ Some x → get mid.procs q ≡ Some y → Uses (language.held x) need → Uses (language.held y) other
+        → Ready mid.chans p need → Ready mid.chans q other → IsCalm mid.chans need other
     calm_need p q x y Nothing other n is_x is_y u v r s = tt
     calm_need p q x y (New k) other n is_x is_y u v r s = tt
     calm_need p q x y (Children b k) other n is_x is_y u v r s = tt
@@ -105,20 +105,17 @@ module _ {Proc : Type 0} (language : Language Proc) where
     calm_need p q x y (Event c a) (New k) n is_x is_y u v r s = tt
     calm_need p q x y (Event c a) (Children b k) n is_x is_y u v r s = tt
     calm_need p q x y (Event c a) (Event d b) n is_x is_y u v r s = λ e ch is.
-        let at_d : get μ.chans d ≡ Some ch = ap (get μ.chans) (sym e) ∙ is in
+        let at_d : get mid.chans d ≡ Some ch = ap (get mid.chans) (sym e) ∙ is in
         calm c a b ch
         (λ w. not_both p q x y (port_of c a) (port_of d b) n is_x is_y u v (w ∙ ap (λ k. port_of k b) e))
         (open_here p x c a ch is_x is u)
         (subst (λ k. 1 ≤ open_at (port_of k b) (Some ch)) (sym e) (open_here q y d b ch is_y at_d v))
-        (subst (λ z. is_ready a z ≡ true) (same_some r.0 ch (get μ.chans c) r.1 is) r.2)
-        (subst (λ z. is_ready b z ≡ true) (same_some s.0 ch (get μ.chans d) s.1 at_d) s.2)
+        (subst (λ z. is_ready a z ≡ true) (same_some r.0 ch (get mid.chans c) r.1 is) r.2)
+        (subst (λ z. is_ready b z ≡ true) (same_some s.0 ch (get mid.chans d) s.1 at_d) s.2)
 
     -- ---- two processes
 
     module _ (p q : Place) (apart : p ≢ q) (t : Starts p) (u : Starts q) where
-      back : q ≢ p
-      back e = apart (sym e)
-
       abbrev out : Onward Proc
       out = t.goes (made p t.need) t.reply
 
@@ -128,7 +125,7 @@ module _ {Proc : Type 0} (language : Language Proc) where
       abbrev other_changes : List (Change Place Proc)
       other_changes = changes language.emptied q u.need other_out
 
-      no_busy_child : (need : Need) (r : Reply Proc) → served language.has_ended μ.procs μ.chans q need ≡ Some r → IsNoChild language.emptied p q need
+      no_busy_child : (need : Need) (r : Reply Proc) → served language.has_ended mid.procs mid.chans q need ≡ Some r → IsNoChild language.emptied p q need
       no_busy_child Nothing r e = tt
       no_busy_child (Event c a) r e = tt
       no_busy_child (New n) r e = tt
@@ -141,15 +138,15 @@ module _ {Proc : Type 0} (language : Language Proc) where
       no_other_child b i (Children d n) = λ j l h. one_parent p q b i d j apart
 
       off_self : Off p other_changes
-      off_self = off_changes language.emptied p q u.need other_out apart (λ i. absent (get μ.procs) p (child q other_out.block i) t.self t.is (no_child q u i)) (no_busy_child u.need u.reply u.serves)
+      off_self = off_changes language.emptied p q u.need other_out apart (λ i. absent (get mid.procs) p (child q other_out.block i) t.self t.is (no_child q u i)) (no_busy_child u.need u.reply u.serves)
 
       off_child : (b i : ℕ) → (child p b i ≢ q) → Off (child p b i) other_changes
       off_child b i n = off_changes language.emptied (child p b i) q u.need other_out n (λ j. one_parent p q b i other_out.block j apart) (no_other_child b i u.need)
 
       off_started : (i : ℕ) → Off (child p out.block i) other_changes
-      off_started i = off_child out.block i (λ e. absent (get μ.procs) q (child p out.block i) u.self u.is (no_child p t i) (sym e))
+      off_started i = off_child out.block i (λ e. absent (get mid.procs) q (child p out.block i) u.self u.is (no_child p t i) (sym e))
 
-      off_joined : (need : Need) (r : Reply Proc) → served language.has_ended μ.procs μ.chans p need ≡ Some r → ChildrenOff language.emptied p need other_changes
+      off_joined : (need : Need) (r : Reply Proc) → served language.has_ended mid.procs mid.chans p need ≡ Some r → ChildrenOff language.emptied p need other_changes
       off_joined Nothing r e = tt
       off_joined (Event c a) r e = tt
       off_joined (New n) r e = tt
@@ -158,37 +155,37 @@ module _ {Proc : Type 0} (language : Language Proc) where
       apart_both : Apart (changes language.emptied p t.need out) other_changes
       apart_both = apart_changes language.emptied p t.need out other_changes off_self off_started (off_joined t.need t.reply t.serves)
 
-      gathered_same : (b i n : ℕ) → ((j : ℕ) → i ≤ j → j < n + i → Off (child p b j) other_changes) → gathered language.has_ended (alters other_changes μ.procs) p b i n ≡ gathered language.has_ended μ.procs p b i n
+      gathered_same : (b i n : ℕ) → ((j : ℕ) → i ≤ j → j < n + i → Off (child p b j) other_changes) → gathered language.has_ended (alters other_changes mid.procs) p b i n ≡ gathered language.has_ended mid.procs p b i n
       gathered_same b i zero h = refl
-      gathered_same b i (suc n) h = ap₂ (with_child language.has_ended) (alters_there path_order other_changes μ.procs (child p b i) (h i (omega arith) (omega arith))) (gathered_same b (suc i) n (λ j l m. h j (omega arith) (omega arith)))
+      gathered_same b i (suc n) h = ap₂ (with_child language.has_ended) (alters_there path_order other_changes mid.procs (child p b i) (h i (omega arith) (omega arith))) (gathered_same b (suc i) n (λ j l m. h j (omega arith) (omega arith)))
 
-      module _ (need : Need) (r : Reply Proc) (serves : served language.has_ended μ.procs μ.chans p need ≡ Some r) (there : Ready μ.chans p need) (other_there : Ready μ.chans q u.need) (cross : IsCalm μ.chans need u.need) where
-        still_served : (k : Need) → need ≡ k → served language.has_ended (alters other_changes μ.procs) (chans_after q u.need μ.chans) p k ≡ served language.has_ended μ.procs μ.chans p k
+      module _ (need : Need) (r : Reply Proc) (serves : served language.has_ended mid.procs mid.chans p need ≡ Some r) (there : Ready mid.chans p need) (other_there : Ready mid.chans q u.need) (cross : IsCalm mid.chans need u.need) where
+        still_served : (k : Need) → need ≡ k → served language.has_ended (alters other_changes mid.procs) (chans_after q u.need mid.chans) p k ≡ served language.has_ended mid.procs mid.chans p k
         still_served Nothing e = refl
         still_served (New n) e = refl
         still_served (Children b n) e = ap (option_map (λ ys. record { message = None; children = ys })) (gathered_same b 1 n (subst (λ k. ChildrenOff language.emptied p k other_changes) e (off_joined need r serves)))
-        still_served (Event c a) e = (left {Proc = Proc} μ.chans p q c a u.need (subst (Ready μ.chans p) e there) other_there (subst (λ k. IsCalm μ.chans k u.need) e cross)).served_same
+        still_served (Event c a) e = (left {Proc = Proc} mid.chans p q c a u.need (subst (Ready mid.chans p) e there) other_there (subst (λ k. IsCalm mid.chans k u.need) e cross)).served_same
 
-        still_spilt : (k : Need) → need ≡ k → spilt k (chans_after q u.need μ.chans) ≡ spilt k μ.chans
+        still_spilt : (k : Need) → need ≡ k → spilt k (chans_after q u.need mid.chans) ≡ spilt k mid.chans
         still_spilt Nothing e = refl
         still_spilt (New n) e = refl
         still_spilt (Children b n) e = refl
-        still_spilt (Event c a) e = (left {Proc = Proc} μ.chans p q c a u.need (subst (Ready μ.chans p) e there) other_there (subst (λ k. IsCalm μ.chans k u.need) e cross)).spilt_same
+        still_spilt (Event c a) e = (left {Proc = Proc} mid.chans p q c a u.need (subst (Ready mid.chans p) e there) other_there (subst (λ k. IsCalm mid.chans k u.need) e cross)).spilt_same
 
-      ready_self : Ready μ.chans p t.need
+      ready_self : Ready mid.chans p t.need
       ready_self = ready_need p t.self t.need t.reply t.is (going_of p t).numbered t.serves
 
-      ready_other : Ready μ.chans q u.need
+      ready_other : Ready mid.chans q u.need
       ready_other = ready_need q u.self u.need u.reply u.is (going_of q u).numbered u.serves
 
-      calm_both : IsCalm μ.chans t.need u.need
+      calm_both : IsCalm mid.chans t.need u.need
       calm_both = calm_need p q t.self u.self t.need u.need apart t.is u.is (going_of p t).uses (going_of q u).uses ready_self ready_other
 
       -- the same step is still there
-      later : Start language (alters other_changes μ.procs) (chans_after q u.need μ.chans) p
+      later : Start language (alters other_changes mid.procs) (chans_after q u.need mid.chans) p
       later = record {
         self = t.self;
-        is = alters_there path_order other_changes μ.procs p off_self ∙ t.is;
+        is = alters_there path_order other_changes mid.procs p off_self ∙ t.is;
         need = t.need;
         goes = t.goes;
         asks = t.asks;
@@ -196,7 +193,7 @@ module _ {Proc : Type 0} (language : Language Proc) where
         serves = still_served t.need t.reply t.serves ready_self ready_other calm_both t.need refl ∙ t.serves;
       }
 
-      spilt_later : spilt t.need (chans_after q u.need μ.chans) ≡ spilt t.need μ.chans
+      spilt_later : spilt t.need (chans_after q u.need mid.chans) ≡ spilt t.need mid.chans
       spilt_later = still_spilt t.need t.reply t.serves ready_self ready_other calm_both t.need refl
 
     -- ---- a process beside a discard
@@ -207,52 +204,52 @@ module _ {Proc : Type 0} (language : Language Proc) where
     open_there x (Some ch) h = (ch, refl)
 
     record Seen (x : PortValue) (p : Place) (need : Need) : Type 0 where
-      served_same : served language.has_ended μ.procs (closed x μ.chans) p need ≡ served language.has_ended μ.procs μ.chans p need
-      even : (z : PortValue) → count z (freed x (get μ.chans (channel_of x))) + count z (spilt need (closed x μ.chans)) ≡ count z (spilt need μ.chans) + count z (freed x (get (chans_after p need μ.chans) (channel_of x)))
-      one_chans : chans_after p need (closed x μ.chans) ≡ closed x (chans_after p need μ.chans)
+      served_same : served language.has_ended mid.procs (closed x mid.chans) p need ≡ served language.has_ended mid.procs mid.chans p need
+      even : (z : PortValue) → count z (freed x (get mid.chans (channel_of x))) + count z (spilt need (closed x mid.chans)) ≡ count z (spilt need mid.chans) + count z (freed x (get (chans_after p need mid.chans) (channel_of x)))
+      one_chans : chans_after p need (closed x mid.chans) ≡ closed x (chans_after p need mid.chans)
 
-    seen_event : (x : PortValue) (p : Place) (c : ChanName) (a : ChannelOp) → (x ≢ port_of c a) → 1 ≤ μ.loose x → Ready μ.chans p (Event c a) → Seen x p (Event c a)
+    seen_event : (x : PortValue) (p : Place) (c : ChanName) (a : ChannelOp) → (x ≢ port_of c a) → 1 ≤ mid.loose x → Ready mid.chans p (Event c a) → Seen x p (Event c a)
     seen_event x p c a off loose r = elim (decide channel_order (channel_of x) c) [
       | yes e ↦
-          let at : get μ.chans (channel_of x) ≡ Some r.0 = ap (get μ.chans) e ∙ r.1 in
-          let later : get (adjust μ.chans c (changed a)) (channel_of x) ≡ Some (changed a r.0) = adjust_at μ.chans c (channel_of x) (changed a) e ∙ ap (option_map (changed a)) at in
-          let gone : get (closed x μ.chans) c ≡ Some (discarded x r.0) = adjust_at μ.chans (channel_of x) c (discarded x) (sym e) ∙ ap (option_map (discarded x)) r.1 in
+          let at : get mid.chans (channel_of x) ≡ Some r.0 = ap (get mid.chans) e ∙ r.1 in
+          let later : get (adjust mid.chans c (changed a)) (channel_of x) ≡ Some (changed a r.0) = adjust_at mid.chans c (channel_of x) (changed a) e ∙ ap (option_map (changed a)) at in
+          let gone : get (closed x mid.chans) c ≡ Some (discarded x r.0) = adjust_at mid.chans (channel_of x) c (discarded x) (sym e) ∙ ap (option_map (discarded x)) r.1 in
           let w : Beside a x r.0 (discarded x r.0) (Some r.0) (Some (changed a r.0)) = beside c a x r.0 off e (subst (λ o. 1 ≤ open_at x o) at (loose_open x loose)) r.2 in
           record {
             served_same = ap (served_at {Proc = Proc} a) gone ∙ ap₂ (λ t g. cond t (Some (record { message = g; children = [] })) None) (w.can ∙ sym r.2) w.same ∙ ap (served_at a) (sym r.1);
             even = λ z. omega (arith, w.even z, ap (λ o. count z (freed x o)) at, ap (λ o. count z (freed x o)) later, ap (λ o. count z (spills_at a o)) gone, ap (λ o. count z (spills_at a o)) r.1);
-            one_chans = adjust_swap channel_order μ.chans c (channel_of x) (changed a) (discarded x) (λ e ch is. beside_swap a x ch);
+            one_chans = adjust_swap channel_order mid.chans c (channel_of x) (changed a) (discarded x) (λ e ch is. beside_swap a x ch);
           }
       | no n ↦
-          let same : get (closed x μ.chans) c ≡ get μ.chans c = adjust_there channel_order μ.chans (channel_of x) (discarded x) c (λ e. n (sym e)) in
+          let same : get (closed x mid.chans) c ≡ get mid.chans c = adjust_there channel_order mid.chans (channel_of x) (discarded x) c (λ e. n (sym e)) in
           record {
             served_same = ap (served_at {Proc = Proc} a) same;
-            even = λ z. omega (arith, ap (λ o. count z (freed x o)) (adjust_there channel_order μ.chans c (changed a) (channel_of x) n), ap (λ o. count z (spills_at a o)) same);
-            one_chans = adjust_swap channel_order μ.chans c (channel_of x) (changed a) (discarded x) (λ e ch is. beside_swap a x ch);
+            even = λ z. omega (arith, ap (λ o. count z (freed x o)) (adjust_there channel_order mid.chans c (changed a) (channel_of x) n), ap (λ o. count z (spills_at a o)) same);
+            one_chans = adjust_swap channel_order mid.chans c (channel_of x) (changed a) (discarded x) (λ e ch is. beside_swap a x ch);
           }
     ]
 
-    seen : (x : PortValue) (p : Place) (y : Proc) (need : Need) → get μ.procs p ≡ Some y → Uses (language.held y) need → 1 ≤ μ.loose x → Ready μ.chans p need → Seen x p need
+    seen : (x : PortValue) (p : Place) (y : Proc) (need : Need) → get mid.procs p ≡ Some y → Uses (language.held y) need → 1 ≤ mid.loose x → Ready mid.chans p need → Seen x p need
     seen x p y Nothing is u l r = record { served_same = refl; even = λ z. omega arith; one_chans = refl }
     seen x p y (Children b n) is u l r = record { served_same = refl; even = λ z. omega arith; one_chans = refl }
     seen x p y (Event c a) is u l r = seen_event x p c a (not_loose p y (port_of c a) x is u l) l r
     seen x p y (New n) is u l r =
-        let h = open_there x (get μ.chans (channel_of x)) (loose_open x l) in
-        let off : channel_of x ≢ (name_of p n) = absent (get μ.chans) (channel_of x) (name_of p n) h.0 h.1 r in
+        let h = open_there x (get mid.chans (channel_of x)) (loose_open x l) in
+        let off : channel_of x ≢ (name_of p n) = absent (get mid.chans) (channel_of x) (name_of p n) h.0 h.1 r in
         record {
           served_same = refl;
-          even = λ z. omega (arith, ap (λ o. count z (freed x o)) (insert_there channel_order μ.chans (name_of p n) fresh (channel_of x) off));
-          one_chans = sym (adjust_past_insert channel_order μ.chans (channel_of x) (name_of p n) (discarded x) fresh off);
+          even = λ z. omega (arith, ap (λ o. count z (freed x o)) (insert_there channel_order mid.chans (name_of p n) fresh (channel_of x) off));
+          one_chans = sym (adjust_past_insert channel_order mid.chans (channel_of x) (name_of p n) (discarded x) fresh off);
         }
 
-    seen_by : (p : Place) (x : PortValue) (t : Starts p) → 1 ≤ μ.loose x → Seen x p t.need
+    seen_by : (p : Place) (x : PortValue) (t : Starts p) → 1 ≤ mid.loose x → Seen x p t.need
     seen_by p x t l = seen x p t.self t.need t.is (going_of p t).uses l (ready_need p t.self t.need t.reply t.is (going_of p t).numbered t.serves)
 
-    beside_discard : (p : Place) (x : PortValue) (t : Starts p) → 1 ≤ μ.loose x → Start language μ.procs (closed x μ.chans) p
+    beside_discard : (p : Place) (x : PortValue) (t : Starts p) → 1 ≤ mid.loose x → Start language mid.procs (closed x mid.chans) p
     beside_discard p x t l = record { self = t.self; is = t.is; need = t.need; goes = t.goes; asks = t.asks; reply = t.reply; serves = (seen_by p x t l).served_same ∙ t.serves }
 
     -- of every language: a part is still there after another
-    pub stay : (a b : Part) → (a ≢ b) → (m : Move language μ a) (n : Move language μ b) → Move language (end language μ b n).0 a
+    pub stay : (a b : Part) → (a ≢ b) → (m : Move language mid a) (n : Move language mid b) → Move language (end language mid b n).0 a
     stay (Run p) (Run q) apart (h, t) (g, u) = (omega (arith, one_place_apart q p (λ e. apart (ap Run (sym e)))), later p q (λ e. apart (ap Run e)) t u)
     stay (Discard x) (Run q) apart l n = omega arith
     stay (Discard x) (Discard y) apart l n = omega (arith, one_apart y x (λ e. apart (ap Discard (sym e))))
@@ -260,9 +257,9 @@ module _ {Proc : Type 0} (language : Language Proc) where
 
     -- ---- where no channel has a second writer
 
-    module _ (single : HasOneWriter μ.chans) where
-      commuting_need : (p q : Place) (x y : Proc) (need other : Need) → (p ≢ q) → get μ.procs p ≡ Some x → get μ.procs q ≡ Some y → Uses (language.held x) need → Uses (language.held y) other
-          → Ready μ.chans p need → Ready μ.chans q other → Commutes μ.chans need other
+    module _ (single : HasOneWriter mid.chans) where
+      commuting_need : (p q : Place) (x y : Proc) (need other : Need) → (p ≢ q) → get mid.procs p ≡ Some x → get mid.procs q ≡ Some y → Uses (language.held x) need → Uses (language.held y) other
+          → Ready mid.chans p need → Ready mid.chans q other → Commutes mid.chans need other
       commuting_need p q x y Nothing other n is_x is_y u v r s = tt
       commuting_need p q x y (New k) other n is_x is_y u v r s = tt
       commuting_need p q x y (Children b k) other n is_x is_y u v r s = tt
@@ -270,16 +267,16 @@ module _ {Proc : Type 0} (language : Language Proc) where
       commuting_need p q x y (Event c a) (New k) n is_x is_y u v r s = tt
       commuting_need p q x y (Event c a) (Children b k) n is_x is_y u v r s = tt
       commuting_need p q x y (Event c a) (Event d b) n is_x is_y u v r s = λ e ch is.
-          let at_d : get μ.chans d ≡ Some ch = ap (get μ.chans) (sym e) ∙ is in
+          let at_d : get mid.chans d ≡ Some ch = ap (get mid.chans) (sym e) ∙ is in
           (crosses c a b ch
           (λ w. not_both p q x y (port_of c a) (port_of d b) n is_x is_y u v (w ∙ ap (λ k. port_of k b) e))
           (λ w l. single c w (subst (λ o. 1 ≤ open_at (Writer c w) o) (sym is) l))
           (open_here p x c a ch is_x is u)
           (subst (λ k. 1 ≤ open_at (port_of k b) (Some ch)) (sym e) (open_here q y d b ch is_y at_d v))
-          (subst (λ z. is_ready a z ≡ true) (same_some r.0 ch (get μ.chans c) r.1 is) r.2)
-          (subst (λ z. is_ready b z ≡ true) (same_some s.0 ch (get μ.chans d) s.1 at_d) s.2)).one_chan
+          (subst (λ z. is_ready a z ≡ true) (same_some r.0 ch (get mid.chans c) r.1 is) r.2)
+          (subst (λ z. is_ready b z ≡ true) (same_some s.0 ch (get mid.chans d) s.1 at_d) s.2)).one_chan
 
-      runs : (p q : Place) (apart : p ≢ q) (m : Move language μ (Run p)) (n : Move language μ (Run q)) → MovesMeet (Move language) (end language) μ (Run p) (Run q) m n
+      runs : (p q : Place) (apart : p ≢ q) (m : Move language mid (Run p)) (n : Move language mid (Run q)) → MovesMeet (Move language) (end language) mid (Run p) (Run q) m n
       unfolding later
       runs p q apart (h, t) (g, u) =
           let off = λ (e : q ≡ p). apart (sym e) in
@@ -287,20 +284,20 @@ module _ {Proc : Type 0} (language : Language Proc) where
             first = (omega (arith, one_place_apart q p off), later p q apart t u);
             second = (omega (arith, one_place_apart p q apart), later q p off u t);
             one_state = λ i. record {
-              procs = alters_swap path_order (changes language.emptied p t.need (out p q apart t u)) (changes language.emptied q u.need (other_out p q apart t u)) μ.procs (apart_both p q apart t u) i;
-              chans = chans_swap μ.chans p q t.need u.need apart (ready_self p q apart t u) (ready_other p q apart t u) (commuting_need p q t.self u.self t.need u.need apart t.is u.is (going_of p t).uses (going_of q u).uses (ready_self p q apart t u) (ready_other p q apart t u)) i;
-              loose = fun_ext {f = λ z. μ.loose z + count z ((u.goes (made q u.need) u.reply).drops ++ spilt u.need μ.chans) + count z ((t.goes (made p t.need) t.reply).drops ++ spilt t.need (chans_after q u.need μ.chans))}
-                  {g = λ z. μ.loose z + count z ((t.goes (made p t.need) t.reply).drops ++ spilt t.need μ.chans) + count z ((u.goes (made q u.need) u.reply).drops ++ spilt u.need (chans_after p t.need μ.chans))}
+              procs = alters_swap path_order (changes language.emptied p t.need (out p q apart t u)) (changes language.emptied q u.need (other_out p q apart t u)) mid.procs (apart_both p q apart t u) i;
+              chans = chans_swap mid.chans p q t.need u.need apart (ready_self p q apart t u) (ready_other p q apart t u) (commuting_need p q t.self u.self t.need u.need apart t.is u.is (going_of p t).uses (going_of q u).uses (ready_self p q apart t u) (ready_other p q apart t u)) i;
+              loose = fun_ext {f = λ z. mid.loose z + count z ((u.goes (made q u.need) u.reply).drops ++ spilt u.need mid.chans) + count z ((t.goes (made p t.need) t.reply).drops ++ spilt t.need (chans_after q u.need mid.chans))}
+                  {g = λ z. mid.loose z + count z ((t.goes (made p t.need) t.reply).drops ++ spilt t.need mid.chans) + count z ((u.goes (made q u.need) u.reply).drops ++ spilt u.need (chans_after p t.need mid.chans))}
                   (λ z. let e₁ = ap (λ s. count z ((t.goes (made p t.need) t.reply).drops ++ s)) (spilt_later p q apart t u) in
                   let e₂ = ap (λ s. count z ((u.goes (made q u.need) u.reply).drops ++ s)) (spilt_later q p off u t) in
                   omega arith) i;
-              remaining = fun_ext {f = λ r. (μ.remaining r - one_place q r) - one_place p r} {g = λ r. (μ.remaining r - one_place p r) - one_place q r} (λ r. omega arith) i;
+              remaining = fun_ext {f = λ r. (mid.remaining r - one_place q r) - one_place p r} {g = λ r. (mid.remaining r - one_place p r) - one_place q r} (λ r. omega arith) i;
             };
             first_cost = refl;
             second_cost = refl;
           }
 
-      run_beside : (p : Place) (x : PortValue) (m : Move language μ (Run p)) (l : 1 ≤ μ.loose x) → MovesMeet (Move language) (end language) μ (Run p) (Discard x) m l
+      run_beside : (p : Place) (x : PortValue) (m : Move language mid (Run p)) (l : 1 ≤ mid.loose x) → MovesMeet (Move language) (end language) mid (Run p) (Discard x) m l
       unfolding beside_discard
       run_beside p x (h, t) l =
           let s = seen_by p x t l in
@@ -309,37 +306,37 @@ module _ {Proc : Type 0} (language : Language Proc) where
             first = (h, beside_discard p x t l);
             second = omega arith;
             one_state = λ i. record {
-              procs = alters (changes language.emptied p t.need (t.goes (made p t.need) t.reply)) μ.procs;
+              procs = alters (changes language.emptied p t.need (t.goes (made p t.need) t.reply)) mid.procs;
               chans = s.one_chans i;
-              loose = fun_ext {f = λ z. (μ.loose z - one x z + count z (freed x (get μ.chans (channel_of x)))) + count z ((t.goes (made p t.need) t.reply).drops ++ spilt t.need (closed x μ.chans))}
-                  {g = λ z. (μ.loose z + count z ((t.goes (made p t.need) t.reply).drops ++ spilt t.need μ.chans)) - one x z + count z (freed x (get (chans_after p t.need μ.chans) (channel_of x)))}
-                  (λ z. omega (arith, one_below μ.loose x z l, s.even z, count-append z (t.goes (made p t.need) t.reply).drops (spilt t.need (closed x μ.chans)), count-append z (t.goes (made p t.need) t.reply).drops (spilt t.need μ.chans))) i;
-              remaining = λ q. μ.remaining q - one_place p q;
+              loose = fun_ext {f = λ z. (mid.loose z - one x z + count z (freed x (get mid.chans (channel_of x)))) + count z ((t.goes (made p t.need) t.reply).drops ++ spilt t.need (closed x mid.chans))}
+                  {g = λ z. (mid.loose z + count z ((t.goes (made p t.need) t.reply).drops ++ spilt t.need mid.chans)) - one x z + count z (freed x (get (chans_after p t.need mid.chans) (channel_of x)))}
+                  (λ z. omega (arith, one_below mid.loose x z l, s.even z, count-append z (t.goes (made p t.need) t.reply).drops (spilt t.need (closed x mid.chans)), count-append z (t.goes (made p t.need) t.reply).drops (spilt t.need mid.chans))) i;
+              remaining = λ q. mid.remaining q - one_place p q;
             };
             first_cost = refl;
             second_cost = refl;
           }
 
-      two_discards : (x y : PortValue) → (x ≢ y) → (m : 1 ≤ μ.loose x) (n : 1 ≤ μ.loose y) → MovesMeet (Move language) (end language) μ (Discard x) (Discard y) m n
+      two_discards : (x y : PortValue) → (x ≢ y) → (m : 1 ≤ mid.loose x) (n : 1 ≤ mid.loose y) → MovesMeet (Move language) (end language) mid (Discard x) (Discard y) m n
       two_discards x y apart m n = record {
         first = omega (arith, one_apart y x (λ e. apart (sym e)));
         second = omega (arith, one_apart x y apart);
         one_state = λ i. record {
-          procs = μ.procs;
-          chans = adjust_swap channel_order μ.chans (channel_of x) (channel_of y) (discarded x) (discarded y) (λ e ch is. discarded_swap x y ch) i;
-          loose = fun_ext {f = λ z. (μ.loose z - one y z + count z (freed y (get μ.chans (channel_of y)))) - one x z + count z (freed x (get (closed y μ.chans) (channel_of x)))}
-              {g = λ z. (μ.loose z - one x z + count z (freed x (get μ.chans (channel_of x)))) - one y z + count z (freed y (get (closed x μ.chans) (channel_of y)))} (λ z.
-              omega (arith, one_below μ.loose x z m, one_below μ.loose y z n, one_once x y z apart, ap (count z) (freed_same μ.chans x y apart), ap (count z) (freed_same μ.chans y x (λ e. apart (sym e))))) i;
-          remaining = μ.remaining;
+          procs = mid.procs;
+          chans = adjust_swap channel_order mid.chans (channel_of x) (channel_of y) (discarded x) (discarded y) (λ e ch is. discarded_swap x y ch) i;
+          loose = fun_ext {f = λ z. (mid.loose z - one y z + count z (freed y (get mid.chans (channel_of y)))) - one x z + count z (freed x (get (closed y mid.chans) (channel_of x)))}
+              {g = λ z. (mid.loose z - one x z + count z (freed x (get mid.chans (channel_of x)))) - one y z + count z (freed y (get (closed x mid.chans) (channel_of y)))} (λ z.
+              omega (arith, one_below mid.loose x z m, one_below mid.loose y z n, one_once x y z apart, ap (count z) (freed_same mid.chans x y apart), ap (count z) (freed_same mid.chans y x (λ e. apart (sym e))))) i;
+          remaining = mid.remaining;
         };
         first_cost = refl;
         second_cost = refl;
       }
 
-      turned : (a b : Part) (m : Move language μ a) (n : Move language μ b) → MovesMeet (Move language) (end language) μ b a n m → MovesMeet (Move language) (end language) μ a b m n
+      turned : (a b : Part) (m : Move language mid a) (n : Move language mid b) → MovesMeet (Move language) (end language) mid b a n m → MovesMeet (Move language) (end language) mid a b m n
       turned a b m n w = record { first = w.second; second = w.first; one_state = sym w.one_state; first_cost = w.second_cost; second_cost = w.first_cost }
 
-      pub meet : (a b : Part) → (a ≢ b) → (m : Move language μ a) (n : Move language μ b) → MovesMeet (Move language) (end language) μ a b m n
+      pub meet : (a b : Part) → (a ≢ b) → (m : Move language mid a) (n : Move language mid b) → MovesMeet (Move language) (end language) mid a b m n
       meet (Run p) (Run q) apart m n = runs p q (λ e. apart (ap Run e)) m n
       meet (Run p) (Discard x) apart m n = run_beside p x m n
       meet (Discard x) (Run p) apart m n = turned _ _ _ _ (run_beside p x n m)

@@ -14,7 +14,7 @@ use Rattle.fm_net.proofs.Keys.{path_order, channel_order}
 use Rattle.fm_net.proofs.Counts.{opened_small}
 use native.Mathlib.Decide.{ℕ_discrete}
 
-channel_there : (z : PortValue) (o : Option Chan) → 1 ≤ open_at z o → (ch : Chan) × (o ≡ Some ch)
+pub channel_there : (z : PortValue) (o : Option Chan) → 1 ≤ open_at z o → (ch : Chan) × (o ≡ Some ch)
 unfolding open_at
 channel_there z None h = absurd (omega arith)
 channel_there z (Some ch) h = (ch, refl)

@@ -45,7 +45,7 @@ module _ {Proc : Type 0} (language : Language Proc) where
   step = machine_step language.ask language.has_ended language.emptied
 
   abbrev ran_option : Midway Proc → Place → Option (Begun Proc) → Option (Midway Proc × ℕ)
-  ran_option μ p = option_map (ran language μ p)
+  ran_option mid p = option_map (ran language mid p)
 
   midway : Procs Proc → Chans → List PortValue → (Place → ℕ) → Midway Proc
   midway procs m ds remaining = record { procs = procs; chans = m; loose = λ z. count z ds; remaining = remaining }
@@ -128,8 +128,8 @@ module _ {Proc : Type 0} (language : Language Proc) where
   nothing_left s remaining none (Run p) = ap (λ n. cond (nat_lt 0 n) (ran_option (at s remaining) p (begun language.ask language.has_ended language.emptied s p)) None) (none p)
   nothing_left s remaining none (Discard x) = ap (λ n. cond (nat_lt 0 n) (Some (without_port language (at s remaining) x, 0)) None) (count-nil x)
 
-  ends_at : (μ : Midway Proc) (s : State Proc) (remaining : Place → ℕ) (cs : List Part) (paid : ℕ) → Leads part μ cs (at s remaining) paid → ((p : Place) → remaining p ≡ 0) → IsEnding part μ cs
-  ends_at μ s remaining cs paid l none = (l.legal, λ a. subst (λ x. part x a ≡ None) (sym l.there) (nothing_left s remaining none a))
+  ends_at : (mid : Midway Proc) (s : State Proc) (remaining : Place → ℕ) (cs : List Part) (paid : ℕ) → Leads part mid cs (at s remaining) paid → ((p : Place) → remaining p ≡ 0) → IsEnding part mid cs
+  ends_at mid s remaining cs paid l none = (l.legal, λ a. subst (λ x. part x a ≡ None) (sym l.there) (nothing_left s remaining none a))
 
   -- ---- the step taken apart
 
@@ -177,8 +177,8 @@ module _ {Proc : Type 0} (language : Language Proc) where
   unfolding both
   none_left_turned p q r = omega arith
 
-  state_of : Midway Proc → State Proc
-  state_of μ = record { procs = μ.procs; chans = μ.chans }
+  abbrev pub state_of : Midway Proc → State Proc
+  state_of mid = record { procs = mid.procs; chans = mid.chans }
 
   abbrev Owned : State Proc → Type 0
   Owned = IsOwned language
@@ -196,35 +196,31 @@ module _ {Proc : Type 0} (language : Language Proc) where
 
   -- with one writer a channel
   abbrev Sole : Midway Proc → Type 0
-  Sole μ = Sound μ × HasOneWriter μ.chans
+  Sole mid = Sound mid × HasOneWriter mid.chans
 
   sole_at : (s : State Proc) (remaining : Place → ℕ) → Owned s → HasOneWriter s.chans → Sole (at s remaining)
   unfolding midway
   sole_at s remaining o single = (sound_at s remaining o, single)
 
-  single_at : (s : State Proc) (remaining : Place → ℕ) → Sole (at s remaining) → HasOneWriter s.chans
-  unfolding midway
-  single_at s remaining g = g.1
-
   module _ (laws : IsLawfulLanguage language) where
-    part_next : (μ : Midway Proc) (a : Part) (m : Move language μ a) → next part μ a ≡ (end language μ a m).0
+    part_next : (mid : Midway Proc) (a : Part) (m : Move language mid a) → next part mid a ≡ (end language mid a m).0
     part_next = next_is part (Move language) (end language) (took language) (takes language)
 
-    part_keeps : (μ : Midway Proc) (a : Part) → Sound μ → Can part μ a → Sound (next part μ a)
-    part_keeps μ a good can =
-        let m = took language μ a can.0 can.1 in
-        subst Sound (sym (part_next μ a m)) (keeps language laws μ good a m)
+    part_keeps : (mid : Midway Proc) (a : Part) → Sound mid → Can part mid a → Sound (next part mid a)
+    part_keeps mid a good can =
+        let m = took language mid a can.0 can.1 in
+        subst Sound (sym (part_next mid a m)) (keeps language laws mid good a m)
 
-    sole_keeps : (μ : Midway Proc) (a : Part) → Sole μ → Can part μ a → Sole (next part μ a)
-    sole_keeps μ a good can =
-        let m = took language μ a can.0 can.1 in
-        (part_keeps μ a good.0 can, subst (λ (ν : Midway Proc). HasOneWriter ν.chans) (sym (part_next μ a m)) (keeps_single language laws μ good.0 good.1 a m))
+    sole_keeps : (mid : Midway Proc) (a : Part) → Sole mid → Can part mid a → Sole (next part mid a)
+    sole_keeps mid a good can =
+        let m = took language mid a can.0 can.1 in
+        (part_keeps mid a good.0 can, subst (λ (after : Midway Proc). HasOneWriter after.chans) (sym (part_next mid a m)) (keeps_single language laws mid good.0 good.1 a m))
 
-    part_stays : (μ : Midway Proc) → Sound μ → Stays part μ
-    part_stays μ good = stays_by_moves part (Move language) (end language) (took language) (takes language) μ (λ a b apart m n. stay language laws μ good a b apart m n)
+    part_stays : (mid : Midway Proc) → Sound mid → Stays part mid
+    part_stays mid good = stays_by_moves part (Move language) (end language) (took language) (takes language) mid (λ a b apart m n. stay language laws mid good a b apart m n)
 
-    part_diamond : (μ : Midway Proc) → Sole μ → Diamond part μ
-    part_diamond μ good = diamond part (Move language) (end language) (took language) (takes language) μ (λ a b apart m n. meet language laws μ good.0 good.1 a b apart m n)
+    part_diamond : (mid : Midway Proc) → Sole mid → Diamond part mid
+    part_diamond mid good = diamond part (Move language) (end language) (took language) (takes language) mid (λ a b apart m n. meet language laws mid good.0 good.1 a b apart m n)
 
     -- ---- steps keep ownership
 
@@ -241,12 +237,33 @@ module _ {Proc : Type 0} (language : Language Proc) where
         subst Owned (sym (whole_next s p m))
         (owned_at (finished m.0).0 (less p (one_place p)) (subst Sound l.there (good_after part Sound part_keeps (parts p m.0) (at s (one_place p)) (sound_at s (one_place p) owned) l.legal)))
 
+    -- what each part keeps, each step does
+    module _ (Fact : State Proc → Type 0) (kept : (mid : Midway Proc) (a : Part) → Sound mid → Fact (state_of mid) → (m : Move language mid a) → Fact (state_of (end language mid a m).0)) where
+      abbrev SoundFact : Midway Proc → Type 0
+      SoundFact mid = Sound mid × Fact (state_of mid)
+
+      fact_keeps : (mid : Midway Proc) (a : Part) → SoundFact mid → Can part mid a → SoundFact (next part mid a)
+      fact_keeps mid a good can =
+          let m = took language mid a can.0 can.1 in
+          (part_keeps mid a good.0 can, subst (λ (after : Midway Proc). Fact (state_of after)) (sym (part_next mid a m)) (kept mid a good.0 good.1 m))
+
+      fact_at : (s : State Proc) (remaining : Place → ℕ) → Owned s → Fact s → SoundFact (at s remaining)
+      unfolding midway
+      fact_at s remaining owned fact = (sound_at s remaining owned, fact)
+
+      at_fact : (s : State Proc) (remaining : Place → ℕ) → SoundFact (at s remaining) → Fact s
+      unfolding midway
+      at_fact s remaining good = good.1
+
+      pub step_keeps_fact : (s : State Proc) (p : Place) → Owned s → Fact s → Can step s p → Fact (next step s p)
+      step_keeps_fact s p owned fact can =
+          let m = whole_took s p can.0 can.1 in
+          let l = one_step s p m in
+          subst Fact (sym (whole_next s p m))
+          (at_fact (finished m.0).0 (less p (one_place p)) (subst SoundFact l.there (good_after part SoundFact fact_keeps (parts p m.0) (at s (one_place p)) (fact_at s (one_place p) owned fact) l.legal)))
+
     pub step_keeps_single : (s : State Proc) (p : Place) → Owned s → HasOneWriter s.chans → Can step s p → HasOneWriter (next step s p).chans
-    step_keeps_single s p owned single can =
-        let m = whole_took s p can.0 can.1 in
-        let l = one_step s p m in
-        subst (λ (t : State Proc). HasOneWriter t.chans) (sym (whole_next s p m))
-        (single_at (finished m.0).0 (less p (one_place p)) (subst Sole l.there (good_after part Sole sole_keeps (parts p m.0) (at s (one_place p)) (sole_at s (one_place p) owned single) l.legal)))
+    step_keeps_single = step_keeps_fact (λ s. HasOneWriter s.chans) (λ mid a good single m. keeps_single language laws mid good single a m)
 
     -- ---- a step of q leaves p its step
 
@@ -276,7 +293,7 @@ module _ {Proc : Type 0} (language : Language Proc) where
         (b.0, b.1, b.2 ∙ sym (ap price after_p.0.1) ∙ after_p.1 ∙ ap price e)
 
     whole_meet : (s : State Proc) → Owned s → HasOneWriter s.chans → (p q : Place) → (p ≢ q) → (m : Whole s p) (n : Whole s q) → MovesMeet Whole whole_end s p q m n
-    unfolding midway state_of
+    unfolding midway
     whole_meet s owned single p q apart m n =
         let remaining = both p q in
         let b = follows s p q remaining owned single apart (both_first p q) (both_second p q) m n in

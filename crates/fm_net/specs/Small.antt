@@ -1,14 +1,16 @@
 -- A small language of processes: ports and numbers in variables, channels, and blocks of children that
 -- give back a value each. It shows that what the laws ask of a language can be met.
 -- Source: this profile.
-use Rattle.std.specs.Prelude.{ℕ, zero, suc, ℤ, Option, Some, None, List, [], ◌∷◌, ◌++◌, Bool, true, false, length}
+use Rattle.std.specs.Prelude.{◌≡◌, ℕ, zero, suc, ℤ, Option, Some, None, List, [], ◌∷◌, ◌++◌, Bool, true, false, length}
+use Rattle.std.specs.FinMap.{get}
 use Rattle.fm_base.specs.declared.path.ChanName.{ChanName}
 use Rattle.fm_base.specs.declared.port.PortValue.{PortValue}
 use Rattle.fm_base.specs.declared.port.PortValue.TheVariants.{Writer, Reader}
-use Rattle.fm_base.specs.Channels.{Item, Words, Ports, Message, Push, Pop, item_ports, message_ports}
+use Rattle.fm_base.specs.Channels.{Chan, Item, Words, Ports, Message, Push, Pop, item_ports, message_ports}
 use Rattle.fm_net.specs.Language.{Language}
 use Rattle.fm_net.specs.Owned.{main_alone}
-use Rattle.fm_net.specs.Machine.{Nothing, Event, New, Children, Onward, Ask, Stop, Go, State}
+use Rattle.fm_net.specs.Typed.{AllIn}
+use Rattle.fm_net.specs.Machine.{Place, Nothing, Event, New, Children, Onward, Ask, Stop, Go, State}
 
 -- what a process does next. Variables go by number. A block starts a child for each pair: its unit, and
 -- the variable whose value it is given
@@ -178,3 +180,15 @@ language us = record { ask = ask us; has_ended = has_ended; emptied = emptied; h
 -- main alone, with the first unit
 abbrev pub first_state : List (List Instr) → State Proc
 first_state us = main_alone (starting (unit_at us 0) [])
+
+-- each message that waits is one item
+abbrev pub HasOneItemMessages : State Proc → Type 0
+HasOneItemMessages s = (c : ChanName) (ch : Chan) → get s.chans c ≡ Some ch → AllIn (λ m. length m ≡ 1) ch.queue
+
+-- a program in which main makes a channel, sends a value over it and receives it
+abbrev pub sample : List (List Instr)
+sample = (Channel 0 1 ∷ Send 0 2 ∷ Receive 1 2 ∷ []) ∷ []
+
+-- main's three steps
+abbrev pub sample_choices : List Place
+sample_choices = [] ∷ [] ∷ [] ∷ []

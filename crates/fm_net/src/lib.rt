@@ -6,20 +6,62 @@
 //! that accounts for its ports (`IsLawfulLanguage`) has these laws: each open port stands in one place
 //! (`IsOwned`), no step takes another process its step, and where each channel has one writer
 //! (`HasOneWriter`), all schedules lead to one outcome at one cost. The definitions stand in `specs/`.
-//! Each function here has an empty body: its contract is a law.
+//! Each function here has an empty body: its contract is a law. That what channels and processes owe to
+//! the types of channels is kept by each step is a lemma of `proofs/Typed.antt`, since a contract can't
+//! quantify over facts.
 #![tactic(auto)]
 
-ghost use Rattle.std.specs.Prelude.{◌≡◌, ◌≢◌, ◌⊎◌, ◌≤◌, ℕ, Option, Some, List, []};
-ghost use Rattle.std.specs.FinMap.{get, empty};
+ghost use Rattle.std.specs.Prelude.{◌≡◌, ◌≢◌, ◌⊎◌, ◌≤◌, ◌++◌, ℕ, Option, Some, None, List, [], true, false};
+ghost use Rattle.std.specs.FinMap.{get, insert, empty};
 ghost use Rattle.fm_base.specs.declared.path.ChanName.{ChanName};
 ghost use Rattle.fm_base.specs.declared.port.PortValue.{PortValue};
-ghost use Rattle.fm_base.specs.Channels.{Chan, ChannelOp};
+ghost use Rattle.fm_base.specs.Channels.{Chan, ChannelOp, is_ready, changed, gives, spills, fresh, all_shed};
 ghost use Rattle.fm_sched.specs.Schedule.{Can, next, IsEnding, Stays, Diamond, Throughout, Settles};
-ghost use Rattle.fm_net.specs.Machine.{Place, State, Event, Reply, Onward, Go};
+ghost use Rattle.fm_net.specs.Machine.{Place, State, Need, Nothing, Event, New, Reply, Onward, Stop, Go, made, served, going, finished};
 ghost use Rattle.fm_net.specs.Language.{Language, language_step};
-ghost use Rattle.fm_net.specs.Owned.{queued, opened, IsOwned, HasOneWriter, main_alone};
+ghost use Rattle.fm_net.specs.Owned.{queued, opened, name_of, IsOwned, HasOneWriter, main_alone};
 ghost use Rattle.fm_net.specs.Lawful.{holds, IsLawfulLanguage};
-ghost use Rattle.fm_net.specs.Small.{Instr, language as small, first_state};
+ghost use Rattle.fm_net.specs.Small.{Instr, language as small, first_state, HasOneItemMessages, sample, sample_choices};
+
+/// The step of the process at a place, by what it asks. Where there is no process, where it asks for
+/// nothing more, and where what it needs isn't served, there is none. Where it starts no child and
+/// joins none, it alone changes, and with it the one channel that it touches or makes; then the ports
+/// that it lets go are discarded.
+pub fn one_step<P>()
+    ensures absent { (language : Language P) (s : State P) (p : Place) → get s.procs p ≡ None →
+        language_step language s p ≡ None }
+    ensures stopped { (language : Language P) (s : State P) (p : Place) (x : P) → get s.procs p ≡ Some x →
+        language.ask x ≡ Stop → language_step language s p ≡ None }
+    ensures waits { (language : Language P) (s : State P) (p : Place) (x : P) → get s.procs p ≡ Some x →
+        (need : Need) (f : ChanName → Reply P → Onward P) → language.ask x ≡ Go need f →
+        served language.has_ended s.procs s.chans p need ≡ None → language_step language s p ≡ None }
+    ensures served { (language : Language P) (s : State P) (p : Place) (x : P) → get s.procs p ≡ Some x →
+        (need : Need) (f : ChanName → Reply P → Onward P) → language.ask x ≡ Go need f → (r : Reply P) →
+        served language.has_ended s.procs s.chans p need ≡ Some r →
+        language_step language s p
+        ≡ Some (finished (going language.emptied s.procs s.chans p need (f (made p need) r))) }
+    ensures local { (language : Language P) (s : State P) (p : Place) (x : P) → get s.procs p ≡ Some x →
+        (f : ChanName → Reply P → Onward P) (o : Onward P) → language.ask x ≡ Go Nothing f →
+        f (name_of p 0) (record { message = None; children = [] }) ≡ o → o.starts ≡ [] →
+        language_step language s p
+        ≡ Some (record { procs = insert s.procs p o.self; chans = all_shed o.drops s.chans }, o.cost) }
+    ensures channel { (language : Language P) (s : State P) (p : Place) (x : P) → get s.procs p ≡ Some x →
+        (n : ℕ) (f : ChanName → Reply P → Onward P) (o : Onward P) → language.ask x ≡ Go (New n) f →
+        f (name_of p n) (record { message = None; children = [] }) ≡ o → o.starts ≡ [] →
+        language_step language s p
+        ≡ Some (record { procs = insert s.procs p o.self; chans = all_shed o.drops (insert s.chans (name_of p n) fresh) }, o.cost) }
+    ensures event { (language : Language P) (s : State P) (p : Place) (x : P) → get s.procs p ≡ Some x →
+        (c : ChanName) (a : ChannelOp) (f : ChanName → Reply P → Onward P) →
+        language.ask x ≡ Go (Event c a) f → (ch : Chan) → get s.chans c ≡ Some ch → (o : Onward P) →
+        f (name_of p 0) (record { message = gives a ch; children = [] }) ≡ o → o.starts ≡ [] →
+        is_ready a ch ≡ true →
+        language_step language s p
+        ≡ Some (record { procs = insert s.procs p o.self; chans = all_shed (o.drops ++ spills a ch) (insert s.chans c (changed a ch)) }, o.cost) }
+    ensures event_waits { (language : Language P) (s : State P) (p : Place) (x : P) → get s.procs p ≡ Some x →
+        (c : ChanName) (a : ChannelOp) (f : ChanName → Reply P → Onward P) →
+        language.ask x ≡ Go (Event c a) f → (ch : Chan) → get s.chans c ≡ Some ch →
+        is_ready a ch ≡ false → language_step language s p ≡ None }
+{}
 
 /// Ownership of ports holds where main is alone with no port, is kept by each step, and so holds
 /// throughout.
@@ -97,13 +139,17 @@ pub fn one_outcome<P>()
 {}
 
 /// What the laws ask for can be met: a small language with channels, ports in messages and blocks of
-/// children is lawful, and has one outcome from its first state, whatever its units are.
+/// children is lawful, and has one outcome from its first state, whatever its units are. Its messages are
+/// of one item each, and a sample program ends.
 pub fn small_language()
     ensures lawful { (units : List (List Instr)) → IsLawfulLanguage (small units) }
     ensures owned { (units : List (List Instr)) →
         Throughout (language_step (small units)) (IsOwned (small units)) (first_state units) }
+    ensures typed { (units : List (List Instr)) →
+        Throughout (language_step (small units)) HasOneItemMessages (first_state units) }
     ensures commutes { (units : List (List Instr)) →
         Throughout (language_step (small units)) (Diamond (language_step (small units))) (first_state units) }
+    ensures sample_ends { IsEnding (language_step (small sample)) (first_state sample) sample_choices }
     ensures settles { (units : List (List Instr)) (cs : List Place) →
         IsEnding (language_step (small units)) (first_state units) cs →
         Settles (language_step (small units)) (first_state units) cs }
