@@ -1,0 +1,4 @@
+//! Reads statements from their tokens.
+#![tactic(auto)]
+
+mod mark;
