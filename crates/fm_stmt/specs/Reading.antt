@@ -178,6 +178,9 @@ before_read g m ts = g ts >>= λ a. mark_at m a.1 >>= λ rest. Some (a.0, rest)
 abbrev pub before : {X : Type 0} → Part X → Mark → Part X
 before g m = record { form = forms.before g.form (token_of m); read = before_read g.read m; stop = any_token }
 
+abbrev pub parens_read : {X : Type 0} → (List Token → Read X) → List Token → Read X
+parens_read g = behind_read mark.Open (before_read g mark.Close)
+
 abbrev pub parens : {X : Type 0} → Part X → Part X
 parens g = behind mark.Open (before g mark.Close)
 
@@ -262,6 +265,11 @@ items_read f (suc n) (t ∷ ts) =
 abbrev pub more_read : {X : Type 0} → (List Token → Read X) → List Token → Read (List X)
 more_read g ts = items_read g (length ts) ts
 
+-- with other items before it
+abbrev pub with_front : {X : Type 0} → List X → Read (List X) → Read (List X)
+with_front xs None = None
+with_front xs (Some b) = Some (xs ++ b.0, b.1)
+
 abbrev pub more : {X : Type 0} → Part X → Part (List X)
 more g = record { form = forms.more g.form; read = more_read g.read; stop = λ t. not (is_comma t) && g.stop t }
 
@@ -288,7 +296,7 @@ abbrev pub listed : {X : Type 0} → Part X → Part (List X)
 listed g = record { form = forms.listed g.form; read = listed_read g.read; stop = is_close }
 
 abbrev pub bracketed_read : {X : Type 0} → (List Token → Read X) → List Token → Read (List X)
-bracketed_read g = or_nothing is_open (behind_read mark.Open (before_read (some_read g) mark.Close))
+bracketed_read g = or_nothing is_open (parens_read (some_read g))
 
 abbrev pub bracketed : {X : Type 0} → Part X → Part (List X)
 bracketed g = record { form = forms.bracketed g.form; read = bracketed_read g.read; stop = λ t. not (is_open t) }

@@ -1,4 +1,6 @@
 //! Reads statements from their tokens.
 #![tactic(auto)]
 
+mod list;
 mod mark;
+mod reader;
