@@ -1,3 +1,4 @@
 pub mod Exact
 pub mod ExactLists
 pub mod MoreLaws
+pub mod ExactParts
