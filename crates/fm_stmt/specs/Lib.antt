@@ -1,3 +1,5 @@
 pub mod Reading
 pub mod Gives
 pub mod Parts
+pub mod Fields
+pub mod Statements

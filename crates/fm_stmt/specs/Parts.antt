@@ -149,6 +149,10 @@ extra_of (inr v) = extra.Iostat v
 abbrev pub extra_part : Part Extra
 extra_part = over forms.extra_parts extra_of (either (is_word word.End) (assigned word.End label) (assigned word.Iostat var_part))
 
+abbrev pub is_end : Extra → Bool
+is_end (extra.End l) = true
+is_end (extra.Iostat v) = false
+
 -- {, extra}, each at most once
 abbrev pub are_each_once : List Extra → Bool
 are_each_once es = nat_le (forms.ends_in es) 1 && nat_le (forms.iostats_in es) 1

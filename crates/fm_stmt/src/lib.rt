@@ -1,6 +1,8 @@
 //! Reads statements from their tokens.
 #![tactic(auto)]
 
+mod fields;
 mod list;
 mod mark;
+mod parts;
 mod reader;
