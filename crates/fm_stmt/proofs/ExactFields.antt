@@ -1,6 +1,6 @@
 -- What is read is spelled so, and what is spelled so is read: types of ports.
-use Rattle.std.proofs.Common.{◌≡◌, ℕ, suc, zero, ◌+◌, ◌≤◌, Bool, true, false, not, cond, Option, Some, None, List, [], ◌∷◌, ◌++◌, length, refl, sym, ◌∙◌, ap, subst, append_assoc, length-append, codes, arith}
-use Rattle.std.proofs.lemmas.List.{append-nil}
+use Rattle.std.proofs.Common.{◌≡◌, ℕ, suc, zero, ◌+◌, ◌≤◌, Bool, true, false, not, cond, Option, Some, None, List, [], ◌∷◌, ◌++◌, length, take, drop, refl, sym, ◌∙◌, ap, subst, append_assoc, length-append, codes, arith}
+use Rattle.std.proofs.lemmas.List.{append-nil, take-append-drop}
 use Rattle.std.proofs.lemmas.Bool.{eqb-true}
 use Rattle.std.proofs.Math.Dec.{eqb}
 use Rattle.std.specs.Cmp.Lexicographic.{same_text}
@@ -125,11 +125,11 @@ exact_bounds (Some n) = record {
 }
 
 text_behind : (k n rest : List ℕ) → behind_text k n ≡ Some rest → n ≡ k ++ rest
-text_behind [] n rest e = cc
-text_behind (k ∷ ks) [] rest e = cc
-text_behind (k ∷ ks) (b ∷ bs) rest e =
-    (elim (eqb k b) as (λ v. eqb k b ≡ v → cond v (behind_text ks bs) None ≡ Some rest → b ∷ bs ≡ k ∷ (ks ++ rest)) [
-      | true ↦ λ h f. let q = text_behind ks bs rest f in let r = eqb-true k b h in cc
+text_behind k n rest e =
+    (elim (is_text (take (length k) n) k) as (λ v. is_text (take (length k) n) k ≡ v → cond v (Some (drop (length k) n)) None ≡ Some rest → n ≡ k ++ rest) [
+      | true ↦ λ h f.
+          let q : drop (length k) n ≡ rest = cc f in
+          sym (take-append-drop (length k) n) ∙ ap (λ (r : List ℕ). r ++ drop (length k) n) (same_text (take (length k) n) k (sym h)) ∙ ap (λ (r : List ℕ). k ++ r) q
       | false ↦ λ h f. cc
     ]) refl e
 

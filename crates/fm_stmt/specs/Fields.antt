@@ -1,6 +1,6 @@
 -- How the types of ports are read: the fields of a message, some of which are ports themselves.
 -- Source: the Fortran M report, and this profile for the names of fields.
-use Rattle.std.specs.Prelude.{ℕ, suc, zero, Bool, true, false, not, ◌&&◌, ◌==◌, if◌then◌else◌, Option, Some, None, List, [], ◌∷◌, ◌++◌, length}
+use Rattle.std.specs.Prelude.{ℕ, suc, zero, Bool, true, false, not, ◌&&◌, ◌==◌, if◌then◌else◌, Option, Some, None, List, [], ◌∷◌, ◌++◌, length, take, drop}
 use Rattle.fm_base.specs.declared.token.Token.{Token}
 use Rattle.fm_base.specs.declared.token.Token.TheVariants as token
 use Rattle.fm_tree.specs.PortFields.{PortFields, FieldKind, NoFields, FieldThen, Integer, Logical, In, Out}
@@ -18,9 +18,7 @@ use Rattle.fm_stmt.specs.Parts.{bound_part}
 
 -- what stands behind a first text
 abbrev pub behind_text : List ℕ → List ℕ → Option (List ℕ)
-behind_text [] n = Some n
-behind_text (k ∷ ks) [] = None
-behind_text (k ∷ ks) (b ∷ bs) = if k == b then behind_text ks bs else None
+behind_text k n = if is_text (take (length k) n) k then Some (drop (length k) n) else None
 
 -- the name behind a keyword in one word with it, if something stands there
 abbrev pub name_behind : List ℕ → Option (Option (List ℕ))

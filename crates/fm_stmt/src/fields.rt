@@ -1,9 +1,10 @@
 //! Types of ports: the fields of a message, some of which are ports themselves.
 
 ghost use Rattle.std.specs.Prelude.{◌≡◌, ◌++◌, ◌∷◌, [], length, MatchOption, None, Some};
+ghost use Rattle.std.specs.List.{list_all};
 ghost use Rattle.fm_tree.specs.PortReading.{fields_of};
 ghost use Rattle.fm_stmt.specs.Gives.{Gives};
-ghost use Rattle.fm_stmt.specs.Reading.{over_read, parens_read, perhaps_read, name_at, starts, with_front, more_read};
+ghost use Rattle.fm_stmt.specs.Reading.{listed_read, over_read, some_read, perhaps_read, name_at, starts, with_front, more_read};
 ghost use Rattle.fm_stmt.specs.Fields.{behind_text, bounds_read, field_read, fields_read, head_read, is_named, name_behind, port_read, port_type_part, scalar_head};
 ghost use Rattle.fm_tree.specs.Parts.{is_letter, is_name_byte, is_name_text};
 
@@ -27,12 +28,18 @@ fn is_name_byte(byte: u8) -> bool
     is_letter(byte) || (48 <= byte && byte <= 57) || byte == 95
 }
 
+fn are_name_bytes(text: &[u8]) -> bool
+    ensures { result ≡ list_all is_name_byte text.now }
+{
+    text.iter().all(|byte| is_name_byte(*byte))
+}
+
 fn is_name_text(text: &[u8]) -> bool
     ensures { result ≡ is_name_text text.now }
 {
-    match text.split_first() {
-        None => false,
-        Some((first, rest)) => is_letter(*first) && rest.iter().all(|byte| is_name_byte(*byte)),
+    match text {
+        [] => false,
+        [first, rest @ ..] => is_letter(*first) && are_name_bytes(rest),
     }
 }
 
@@ -182,6 +189,39 @@ fn grow(
     Ok((fields, rest))
 }
 
+// One field or more.
+#[cycle(fields)]
+fn some_fields(
+    alloc: Global,
+    depth: usize,
+    tokens: &[Token],
+) -> Result<(Vec<Field>, &[Token]), ReadFail>
+    ensures { Gives (λ p. (p.0.items, p.1.now)) result (some_read (field_read (fields_read depth)) tokens.now) }
+{
+    let (first, rest) = a_field(alloc, depth, tokens)?;
+    let mut fields = Vec::new(alloc);
+    fields.push(first)?;
+    grow(alloc, depth, fields, rest)
+}
+
+// Fields, perhaps none.
+#[cycle(fields)]
+fn listed_fields(
+    alloc: Global,
+    depth: usize,
+    tokens: &[Token],
+) -> Result<(PortType, &[Token]), ReadFail>
+    ensures { Gives (λ p. (p.0, p.1.now)) result (over_read fields_of (listed_read (field_read (fields_read depth))) tokens.now) }
+{
+    if goes_on(tokens) {
+        let (fields, rest) = some_fields(alloc, depth, tokens)?;
+        Ok((PortType { fields }, rest))
+    } else {
+        let fields = Vec::new(alloc);
+        Ok((PortType { fields }, tokens))
+    }
+}
+
 // The fields of a message, of ports in ports up to a depth.
 #[cycle(fields)]
 fn fields(
@@ -194,14 +234,7 @@ fn fields(
     if depth == 0 {
         return Err(ReadFail::Bad);
     }
-    let mut fields = Vec::new(alloc);
-    if !goes_on(tokens) {
-        return Ok((PortType { fields }, tokens));
-    }
-    let (first, rest) = a_field(alloc, depth - 1, tokens)?;
-    fields.push(first)?;
-    let (fields, rest) = grow(alloc, depth - 1, fields, rest)?;
-    Ok((PortType { fields }, rest))
+    listed_fields(alloc, depth - 1, tokens)
 }
 
 /// `( [list(field)] )`.
