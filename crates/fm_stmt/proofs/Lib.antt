@@ -5,3 +5,4 @@ pub mod ExactParts
 pub mod Extras
 pub mod ExactFields
 pub mod ExactStatements
+pub mod Deeper

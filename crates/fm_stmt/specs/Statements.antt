@@ -80,13 +80,21 @@ print_part = behind Star (more item_part)
 abbrev pub write_part : Part (WriteUnit × List Item)
 write_part = pair (parens (before (before unit_part Comma) Star)) (listed item_part)
 
+-- IN = var , OUT = var, also OUT first
+abbrev pub two_ports_part : Part (Bool × (Var × Var))
+two_ports_part = swapped (is_word word.In) (assigned word.In var_part) (assigned word.Out var_part)
+
 -- CHANNEL ( IN = var , OUT = var ), also OUT first
 abbrev pub channel_part : Part (Bool × (Var × Var))
-channel_part = parens (swapped (is_word word.In) (assigned word.In var_part) (assigned word.Out var_part))
+channel_part = parens two_ports_part
+
+-- OUT = var
+abbrev pub out_part : Part Var
+out_part = assigned word.Out var_part
 
 -- MERGER ( IN = var , list(OUT = var) )
 abbrev pub merger_part : Part (Var × List Var)
-merger_part = parens (pair (assigned word.In var_part) (behind Comma (some_of (assigned word.Out var_part))))
+merger_part = parens (pair (assigned word.In var_part) (behind Comma (some_of out_part)))
 
 -- SEND ( [PORT =] var ) [list(expr)]
 abbrev pub send_part : Part ((Bool × Var) × List Tree)

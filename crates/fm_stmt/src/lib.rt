@@ -6,3 +6,5 @@ mod list;
 mod mark;
 mod parts;
 mod reader;
+mod simple;
+mod statements;
