@@ -1,5 +1,5 @@
 -- A reader that goes over the tokens once and keeps what stands open on a stack.
-use Rattle.std.specs.Prelude.{ℕ, ◌+◌, Bool, true, false, Option, Some, None, List, [], ◌∷◌, ◌++◌, map, reverse, nat_lt, nat_le, if◌then◌else◌}
+use Rattle.std.specs.Prelude.{ℕ, ◌+◌, Bool, true, false, Option, Some, None, List, [], ◌∷◌, ◌++◌, reverse, nat_lt, nat_le, if◌then◌else◌}
 use Rattle.fm_base.specs.declared.token.Op.{Op}
 use Rattle.fm_base.specs.declared.token.Op.TheVariants as ops
 use Rattle.fm_base.specs.declared.token.Token.{Token}

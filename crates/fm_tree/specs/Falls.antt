@@ -1,5 +1,5 @@
 -- Each operand of an expression has fewer nodes than the expression.
-use Rattle.std.specs.Prelude.{ℕ, ◌≤◌, ◌+◌, max, List, [], ◌∷◌}
+use Rattle.std.specs.Prelude.{◌≤◌, ◌+◌, max, List, [], ◌∷◌}
 use Rattle.std.proofs.Common.{arith}
 use denote.Param.Weighed.{most}
 use Rattle.fm_tree.specs.Tree.{Tree, node_count, node_counts, trees_from}

@@ -2,7 +2,7 @@
 -- Source: ANSI X3.9-1978, sections 5.1, 8.4, 8.6, 11.10 and 12.8.2, and the Fortran M report.
 use Rattle.std.proofs.Common.{inl, inr}
 use Rattle.std.specs.List.{list_all}
-use Rattle.std.specs.Prelude.{ℕ, ◌≡◌, ◌≤◌, ◌+◌, Bool, true, false, ◌&&◌, ◌||◌, ◌==◌, nat_le, IsTrue, Option, Some, None, ◌⊎◌, List, [], ◌∷◌, ◌++◌, codes, pos}
+use Rattle.std.specs.Prelude.{ℕ, ◌≡◌, ◌≤◌, ◌+◌, Bool, false, ◌&&◌, ◌||◌, ◌==◌, nat_le, IsTrue, Option, Some, None, ◌⊎◌, List, [], ◌∷◌, ◌++◌, codes, pos}
 use Rattle.fm_base.specs.declared.name.Label.{Label}
 use Rattle.fm_base.specs.declared.token.Token.{Token}
 use Rattle.fm_base.specs.declared.token.Token.TheVariants as token
@@ -202,16 +202,21 @@ IsEachOnce es = (ends_in es ≤ 1) × (iostats_in es ≤ 1)
 abbrev pub extras_form : Form (List Extra)
 extras_form = such_that (more extra_form) IsEachOnce
 
--- LOCATION ( list(expr) ) or SUBMACHINE ( expr : expr )
+-- LOCATION ( list(expr) )
+abbrev pub location_form : Form (List Tree)
+location_form = behind_word (codes "LOCATION") (parens (some_of expr))
+
+-- SUBMACHINE ( expr : expr )
+abbrev pub submachine_form : Form (Tree × Tree)
+submachine_form = behind_word (codes "SUBMACHINE") (parens (pair expr (behind token.Colon expr)))
+
+-- one of the two
 abbrev pub where_parts : Where → List Tree ⊎ (Tree × Tree)
 where_parts (place.Location es) = inl es
 where_parts (place.Submachine a b) = inr (a, b)
 
 abbrev pub where_form : Form Where
-where_form =
-    over where_parts
-    (either (behind_word (codes "LOCATION") (parens (some_of expr)))
-    (behind_word (codes "SUBMACHINE") (parens (pair expr (behind token.Colon expr)))))
+where_form = over where_parts (either location_form submachine_form)
 
 -- what stands behind the opening parenthesis in `name ( [list(expr)] ) [where]`
 abbrev pub call_parts : CallPart → List Tree × Option Where

@@ -1,5 +1,5 @@
 -- The type of a port in a field has fewer fields than the type with the field.
-use Rattle.std.specs.Prelude.{ℕ, ◌≤◌, ◌+◌, max, List, [], ◌∷◌}
+use Rattle.std.specs.Prelude.{◌≤◌, max, List, [], ◌∷◌}
 use Rattle.std.proofs.Common.{arith}
 use denote.Param.Weighed.{most}
 use Rattle.fm_tree.specs.PortFields.{fields_count, kind_count}

@@ -1,6 +1,6 @@
 -- The type of a port as plain data.
 -- Source: the Fortran M report, and this profile for the names of fields.
-use Rattle.std.specs.Prelude.{ℕ, Option, List, [], ◌∷◌, ◌+◌}
+use Rattle.std.specs.Prelude.{ℕ, Option, List, ◌+◌}
 use Rattle.fm_tree.specs.declared.port_type.Bound.{Bound}
 
 -- the fields of a message, and the kind of one

@@ -1,5 +1,4 @@
 -- An expression in memory as a plain tree.
-use Rattle.std.specs.Prelude.{List, [], ◌∷◌}
 use Rattle.fm_tree.specs.Tree.{Tree, Number, Truth, Named, Ref, Paren, Signed, Not, Binary, trees_from}
 use Rattle.fm_tree.specs.declared.expression.ExprNode.{ExprNode}
 use Rattle.fm_tree.specs.declared.expression.ExprNode.TheVariants as node

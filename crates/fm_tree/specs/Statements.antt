@@ -1,7 +1,6 @@
 -- The forms of statements: the one spelling of each, and its shape.
 -- Source: ANSI X3.9-1978, sections 8, 10 to 13 and 15, the Fortran M report for processes and channels, MIL-STD-1753 for DO WHILE and ENDDO.
-use Rattle.std.specs.Prelude.{ℕ, Bool, Option, Some, None, List, [], ◌∷◌, ◌++◌, codes}
-use Rattle.fm_base.specs.declared.name.Label.{Label}
+use Rattle.std.specs.Prelude.{ℕ, Bool, Option, List, [], ◌∷◌, codes}
 use Rattle.fm_base.specs.declared.token.Class.{Class}
 use Rattle.fm_base.specs.declared.token.Class.TheVariants as class
 use Rattle.fm_base.specs.declared.token.Token.{Token}

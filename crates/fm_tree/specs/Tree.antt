@@ -1,6 +1,6 @@
 -- An expression as plain data.
 -- Source: ANSI X3.9-1978, section 6.
-use Rattle.std.specs.Prelude.{ℕ, ℤ, Bool, List, [], ◌∷◌, ◌+◌, ◌++◌}
+use Rattle.std.specs.Prelude.{ℕ, ℤ, Bool, List, [], ◌∷◌, ◌+◌}
 use Rattle.fm_base.specs.declared.token.Op.{Op}
 
 -- an expression without where it lies in memory, and a list of them
@@ -27,7 +27,7 @@ abbrev pub list_of : Trees → List Tree
 list_of NoTrees = []
 list_of (More t ts) = t ∷ list_of ts
 
--- the number of nodes
+-- the number of nodes, of an expression and of a list, with one for each place of the list
 abbrev mutual
   pub node_count : Tree → ℕ
   node_count (Number n) = 1
@@ -41,4 +41,4 @@ abbrev mutual
 
   pub node_counts : Trees → ℕ
   node_counts NoTrees = 0
-  node_counts (More t ts) = node_count t + node_counts ts
+  node_counts (More t ts) = node_count t + node_counts ts + 1

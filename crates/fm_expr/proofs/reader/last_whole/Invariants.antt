@@ -1,4 +1,4 @@
-use Rattle.std.proofs.Common.{◌≡◌, vec_len, option_map}
+use Rattle.std.proofs.Common.{◌≡◌, vec_len}
 use Rattle.fm_expr.specs.Reading.{stack_of, best}
 use Rattle.fm_expr.proofs.reader.last_whole.Given as goal
 

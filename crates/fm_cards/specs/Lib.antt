@@ -1,0 +1,4 @@
+pub mod Lines
+pub mod Cards
+pub mod Broken
+pub mod Scan

@@ -1,0 +1,4 @@
+pub mod Shedding
+pub mod Maps
+pub mod Packing
+pub mod Order

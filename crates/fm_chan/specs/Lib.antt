@@ -1,0 +1,5 @@
+pub mod Items
+pub mod Events
+pub mod Rest
+pub mod Bodies
+pub mod Received

@@ -1,0 +1,32 @@
+//! Messages.
+
+use crate::port::Port;
+use fm_base::Seq;
+use std::marker::Model;
+
+/// A part of a message.
+#[derive(Debug, Drop)]
+pub enum Item {
+    /// Words, where a logical is 0 or 1.
+    Words(Seq<i64>),
+    /// Ports, and NULLs.
+    Ports(Seq<Option<Port>>),
+}
+
+/// What one SEND puts into a channel. Contracts see it as the list of its items as plain data.
+#[derive(Debug, Drop)]
+pub struct Message {
+    /// The items, from left to right.
+    pub items: Seq<Item>,
+}
+
+impl Model for Message {
+    ghost use Rattle.fm_base.specs.Channels as base;
+    ghost use Rattle.std.specs.Prelude.{map};
+
+    ghost Value = { base.Message };
+
+    ghost use Rattle.fm_chan.specs.Items.{plain_item};
+
+    ghost view = { λ m. map plain_item m.items };
+}

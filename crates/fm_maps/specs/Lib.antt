@@ -1,0 +1,4 @@
+pub mod Keys
+pub mod Changes
+pub mod Sums
+pub mod Facts

@@ -1,0 +1,6 @@
+pub mod Runs
+pub mod Along
+pub mod Fronts
+pub mod Moves
+pub mod Simulations
+pub mod Counters

@@ -1,0 +1,3 @@
+pub mod Schedule
+pub mod Simulation
+pub mod Counters

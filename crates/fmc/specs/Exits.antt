@@ -1,0 +1,83 @@
+-- Exits: their statuses, and which of them come when.
+-- Source: this profile.
+use Rattle.std.specs.Prelude.{ℕ, Bool, true, false}
+use Rattle.fmc.specs.declared.answer.Exit.{Exit}
+use Rattle.fmc.specs.declared.answer.Exit.TheVariants.{Done, Faulted, Deadlocked, Refused, Spent, Usage, ReadFault, WriteFault, NoMemory, TooLong, Malformed, Illegal, Unfinished}
+
+abbrev pub status_of : Exit → ℕ
+status_of Done = 0
+status_of Faulted = 1
+status_of Deadlocked = 2
+status_of Refused = 3
+status_of Spent = 4
+status_of Usage = 5
+status_of ReadFault = 6
+status_of WriteFault = 7
+status_of NoMemory = 8
+status_of TooLong = 9
+status_of Malformed = 10
+status_of Illegal = 11
+status_of Unfinished = 12
+
+abbrev pub is_usage : Exit → Bool
+is_usage Usage = true
+is_usage Done = false
+is_usage Faulted = false
+is_usage Deadlocked = false
+is_usage Refused = false
+is_usage Spent = false
+is_usage ReadFault = false
+is_usage WriteFault = false
+is_usage NoMemory = false
+is_usage TooLong = false
+is_usage Malformed = false
+is_usage Illegal = false
+is_usage Unfinished = false
+
+-- an exit of a source that was read to its end
+abbrev pub is_read : Exit → Bool
+is_read Done = true
+is_read Faulted = true
+is_read Deadlocked = true
+is_read Refused = true
+is_read Spent = true
+is_read Malformed = true
+is_read Illegal = true
+is_read Unfinished = true
+is_read Usage = false
+is_read ReadFault = false
+is_read WriteFault = false
+is_read NoMemory = false
+is_read TooLong = false
+
+-- an exit of a run that ended
+abbrev pub is_end : Exit → Bool
+is_end Done = true
+is_end Faulted = true
+is_end Deadlocked = true
+is_end Refused = false
+is_end Spent = false
+is_end Usage = false
+is_end ReadFault = false
+is_end WriteFault = false
+is_end NoMemory = false
+is_end TooLong = false
+is_end Malformed = false
+is_end Illegal = false
+is_end Unfinished = false
+
+-- an exit that the bytes decide, or want of memory
+abbrev pub is_decided : Exit → Bool
+is_decided Done = true
+is_decided Faulted = true
+is_decided Deadlocked = true
+is_decided Refused = true
+is_decided Spent = true
+is_decided NoMemory = true
+is_decided Usage = false
+is_decided ReadFault = false
+is_decided WriteFault = false
+is_decided TooLong = false
+is_decided Malformed = false
+is_decided Illegal = false
+is_decided Unfinished = false

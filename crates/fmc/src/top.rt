@@ -1,0 +1,117 @@
+//! The top call.
+
+ghost use Rattle.std.specs.Prelude.{◌≡◌, ◌≢◌, ◌≤◌, ◌<◌, ◌⊎◌, ℕ, true, false, List, map, length, IfSome, Some, None, is_none, is_some};
+ghost use Rattle.std.specs.Io.KnownBytes.{Appends, IsAtEnd};
+ghost use Rattle.fm_base.specs.declared.rule.Refusal.{Refusal};
+ghost use Rattle.fm_io.specs.Causes.{Rose};
+ghost use Rattle.fm_io.specs.Streams.{WritesFront};
+ghost use Rattle.fmc.specs.Words.{command_of};
+ghost use Rattle.fmc.specs.Exits.{is_usage, is_read};
+ghost use Rattle.fmc.specs.Verdict.{IsVerdictOn};
+ghost use Rattle.fmc.specs.Answer.{Answers, Says, SaysOf, HasHistory, IsCompleted, IsRefusedExit, IsTooLongExit, IsCommand, OneVerdict, source_limit};
+ghost use Rattle.fmc.specs.Reply.{bytes_of, places_in};
+
+use crate::answer::{Exit, Ran, Reply, Text};
+use crate::response::{reply, unplayed};
+use crate::words::{Command, command_of};
+use fm_io::{ReadFail, Sink, Source, WriteFail, read_all, write_all};
+use std::alloc::Global;
+
+const LIMIT: usize = 1_000_000;
+
+const USAGE: &[u8] = b"usage: fmc run or trace or replay or check or list or make N or demo N\n";
+
+fn respond_to<S: Source>(alloc: Global, command: Command, source: &mut S) -> Reply
+    ensures reply { IfSome (S.left source.old) (λ b. Says command b result.ran.exit result.ran.history.items (places_in result.ran) (bytes_of result.text)) }
+    ensures no_usage { is_usage result.ran.exit ≡ false }
+    ensures no_write { result.ran.exit ≢ Exit.WriteFault }
+    ensures read_fault { result.ran.exit ≡ Exit.ReadFault → Rose (S.faults source.old) (S.faults source.new) }
+    ensures read { is_read result.ran.exit ≡ true → IsAtEnd (S.left source.new) }
+    ensures later { S.faults source.old ≤ S.faults source.new }
+{
+    match read_all(alloc, source, LIMIT) {
+        Ok(bytes) => reply(alloc, command, &bytes),
+        Err(ReadFail::Fault) => { unplayed(alloc, Exit::ReadFault, Text::Fixed(b"read fault\n")) }
+        Err(ReadFail::TooLong) => {
+            unplayed(alloc, Exit::TooLong, Text::Fixed(b"source too long\n"))
+        }
+        Err(ReadFail::NoMemory) => { unplayed(alloc, Exit::NoMemory, Text::Fixed(b"no memory\n")) }
+    }
+}
+
+fn respond<S: Source>(alloc: Global, words: &[&str], source: &mut S) -> Reply
+    ensures reply { IfSome (S.left source.old) (λ b. SaysOf (command_of (map (λ w. w.now) words.now)) b result.ran.exit result.ran.history.items (places_in result.ran) (bytes_of result.text)) }
+    ensures words { is_usage result.ran.exit ≡ is_none (command_of (map (λ w. w.now) words.now)) }
+    ensures no_write { result.ran.exit ≢ Exit.WriteFault }
+    ensures read_fault { result.ran.exit ≡ Exit.ReadFault → Rose (S.faults source.old) (S.faults source.new) }
+    ensures read { is_read result.ran.exit ≡ true → IsAtEnd (S.left source.new) }
+    ensures later { S.faults source.old ≤ S.faults source.new }
+{
+    match command_of(words) {
+        Some(command) => respond_to(alloc, command, source),
+        None => unplayed(alloc, Exit::Usage, Text::Fixed(USAGE)),
+    }
+}
+
+fn finish<K: Sink>(sink: &mut K, reply: Reply) -> Ran
+    requires { reply.ran.exit ≢ Exit.WriteFault }
+    ensures whole { result.exit ≢ Exit.WriteFault → (result.exit ≡ reply.ran.exit) × Appends (K.written sink.old) (K.written sink.new) (bytes_of reply.text) }
+    ensures cut { result.exit ≡ Exit.WriteFault → Rose (K.faults sink.old) (K.faults sink.new) × WritesFront (K.written sink.old) (K.written sink.new) (bytes_of reply.text) }
+    ensures history { result.history ≡ reply.ran.history }
+    ensures paths { result.paths ≡ reply.ran.paths }
+    ensures later { K.faults sink.old ≤ K.faults sink.new }
+{
+    let Reply { ran, text } = reply;
+    let written = match &text {
+        Text::Fixed(bytes) => write_all(sink, bytes),
+        Text::Made(bytes) => write_all(sink, bytes.as_slice()),
+    };
+    let Ran {
+        exit,
+        history,
+        paths,
+    } = ran;
+    let exit = match written {
+        Ok(()) => exit,
+        Err(WriteFail) => Exit::WriteFault,
+    };
+    Ran {
+        exit,
+        history,
+        paths,
+    }
+}
+
+/// Reads a source, does what the words say, and writes one text. The order of work is: words, reading,
+/// checking, running, writing; the first refusal in this order is the answer. The words are those
+/// after the program's name; the answer's exit, schedule and text are those of the bytes that the
+/// source had left.
+pub fn fmc<S: Source, K: Sink>(alloc: Global, words: &[&str], source: &mut S, sink: &mut K) -> Ran
+    // Exit, schedule and text are those of the bytes: the whole text was written, or a front of one.
+    ensures answers { IfSome (S.left source.old) (λ b.
+        Answers (map (λ w. w.now) words.now) b result.exit result.history.items (places_in result) (K.written sink.old) (K.written sink.new)) }
+    // The kept schedule is one of the source's program, whatever the exit.
+    ensures history { IfSome (S.left source.old) (λ b. HasHistory b result.history.items (places_in result)) }
+    ensures usage { result.exit ≢ Exit.WriteFault → is_usage result.exit ≡ is_none (command_of (map (λ w. w.now) words.now)) }
+
+    // A fault is told only where the source or the sink failed in this call.
+    ensures read_fault { result.exit ≡ Exit.ReadFault → Rose (S.faults source.old) (S.faults source.new) }
+    ensures write_fault { result.exit ≡ Exit.WriteFault → Rose (K.faults sink.old) (K.faults sink.new) }
+    ensures all_read { is_read result.exit ≡ true → IsAtEnd (S.left source.new) }
+
+    // Nothing but the bytes and the memory decides, where nothing fails.
+    ensures complete { IsCommand (map (λ w. w.now) words.now) → ¬ Rose (S.faults source.old) (S.faults source.new) → ¬ Rose (K.faults sink.old) (K.faults sink.new)
+        → IfSome (S.left source.old) (λ b. length b ≤ source_limit → IsVerdictOn b None → IsCompleted result.exit) }
+    ensures refused { IsCommand (map (λ w. w.now) words.now) → ¬ Rose (S.faults source.old) (S.faults source.new) → ¬ Rose (K.faults sink.old) (K.faults sink.new)
+        → IfSome (S.left source.old) (λ b. length b ≤ source_limit → (v : Refusal) → IsVerdictOn b (Some v) → IsRefusedExit result.exit) }
+    ensures too_long { IsCommand (map (λ w. w.now) words.now) → ¬ Rose (S.faults source.old) (S.faults source.new) → ¬ Rose (K.faults sink.old) (K.faults sink.new)
+        → IfSome (S.left source.old) (λ b. source_limit < length b → IsTooLongExit result.exit) }
+{
+    let reply = respond(alloc, words, source);
+    finish(sink, reply)
+}
+
+/// A source has one list of statements, and so one verdict.
+pub fn one_verdict()
+    ensures { OneVerdict }
+{}
