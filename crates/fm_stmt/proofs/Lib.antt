@@ -6,3 +6,4 @@ pub mod Extras
 pub mod ExactFields
 pub mod ExactStatements
 pub mod Deeper
+pub mod Long

@@ -3,3 +3,5 @@ pub mod Gives
 pub mod Parts
 pub mod Fields
 pub mod Statements
+pub mod Names
+pub mod Checked

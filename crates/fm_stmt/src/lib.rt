@@ -1,9 +1,11 @@
 //! Reads statements from their tokens.
 #![tactic(auto)]
 
+mod checked;
 mod fields;
 mod list;
 mod mark;
+mod names;
 mod parts;
 mod reader;
 mod simple;
