@@ -7,3 +7,4 @@ pub mod ExactFields
 pub mod ExactStatements
 pub mod Deeper
 pub mod Long
+pub mod CardLaws

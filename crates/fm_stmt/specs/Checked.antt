@@ -1,12 +1,11 @@
 -- The statement of a card, and the rules that a card may break.
 -- Source: ANSI X3.9-1978, sections 2.2, 3.3 and 4.3; this profile for the greatest number and the length of names.
-use Rattle.std.specs.Prelude.{◌≡◌, ◌≤◌, ℕ, pos, Bool, true, false, if◌then◌else◌, Option, Some, None, List, map, Contains}
+use Rattle.std.specs.Prelude.{◌≡◌, ℕ, pos, Bool, true, false, if◌then◌else◌, Option, Some, None, List, map, Contains}
 use Rattle.fm_base.specs.declared.rule.Refusal.{Refusal}
 use Rattle.fm_base.specs.declared.rule.Rule.{Rule}
 use Rattle.fm_base.specs.declared.rule.Rule.TheVariants as rule
 use Rattle.fm_base.specs.declared.token.Token.{Token}
 use Rattle.fm_base.specs.declared.token.Token.TheVariants as token
-use Rattle.fm_base.specs.Rules.{number_of}
 use Rattle.fm_base.specs.Verdict.{IsOfPhase}
 use Rattle.std.specs.List.{list_any}
 use Rattle.fm_cards.specs.declared.card.Card.{Card}
@@ -64,11 +63,6 @@ pub record IsStatementOf (card : Card) (p : Placed) : Type 0 where
   pub label : p.label ≡ card.label
   pub tree : IsTreeOf card.text p.stmt
 
--- broken, and none with a lower number is
-pub record IsFirst (text : List ℕ) (r : Rule) : Type 0 where
-  pub broken : BreaksRule text r
-  pub first : (q : Rule) → BreaksRule text q → number_of r ≤ number_of q
-
 abbrev pub has_big : List Token → Bool
 has_big ts = list_any is_big ts
 
@@ -90,12 +84,11 @@ OneStatement = (card : Card) (a b : Placed) → IsStatementOf card a → IsState
 abbrev pub AllOfPhaseOne : Type 0
 AllOfPhaseOne = (card : Card) → IsOfPhase 1 (IsBroken card)
 
--- of a text and its tree: nothing is broken
-pub record IsGood (text : List ℕ) (s : Stmt) : Type 0 where
-  pub tree : IsTreeOf text s
-  pub small : (ts : List Token) → IsTokens text ts → has_big ts ≡ false
-  pub short : has_long (names_of s) ≡ false
-
 -- the tokens of a text as they are read, and whether a number is over the greatest
 abbrev pub HasCut : List ℕ → List Token → Bool → Type 0
 HasCut text ts big = (cut : List Token) × (IsTokens text cut × (ts ≡ known cut) × (big ≡ has_big cut))
+
+-- the tree of a text, and whether a number is over the greatest
+pub record IsRead (text : List ℕ) (s : Stmt) (big : Bool) : Type 0 where
+  pub tree : IsTreeOf text s
+  pub big_is : (ts : List Token) → IsTokens text ts → has_big ts ≡ big
