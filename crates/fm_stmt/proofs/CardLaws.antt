@@ -1,16 +1,23 @@
 -- What a card may break, and what it does not.
-use Rattle.std.proofs.Common.{◌≡◌, ◌≢◌, ℕ, suc, zero, ◌<◌, ◌≤◌, Bool, true, false, Option, Some, None, List, [], ◌∷◌, length, slice_index_or, Contains, refl, sym, ◌∙◌, ap, subst, arith}
+use Rattle.std.proofs.Common.{◌≡◌, ◌≢◌, ℕ, suc, zero, ◌<◌, ◌≤◌, Bool, true, false, Option, Some, None, Result, Ok, Err, MatchOption, List, [], ◌∷◌, length, slice_index_or, Contains, refl, sym, ◌∙◌, ap, subst, arith}
+use Rattle.fm_base.specs.declared.name.Label.{Label}
+use Rattle.fm_base.specs.declared.name.Line.{Line}
+use Rattle.fm_base.specs.declared.rule.CheckFail.{CheckFail}
+use Rattle.fm_base.specs.declared.rule.CheckFail.TheVariants.{Refused}
 use Rattle.fm_base.specs.declared.rule.Refusal.{Refusal}
 use Rattle.fm_base.specs.declared.rule.Rule.{Rule}
 use Rattle.fm_base.specs.declared.rule.Rule.TheVariants as rule
 use Rattle.fm_base.specs.declared.token.Token.{Token}
 use Rattle.fm_base.specs.declared.token.Token.TheVariants as token
 use Rattle.fm_base.specs.Rules.{number_of, phase_of}
-use Rattle.fm_base.specs.Verdict.{IsLeast, IsClean, IsUpTo}
+use Rattle.fm_base.specs.Verdict.{IsLeast, IsClean, IsRefusal}
 use Rattle.fm_cards.specs.declared.card.Card.{Card}
 use Rattle.fm_token.specs.Statements.{IsTokens}
 use Rattle.fm_tree.specs.declared.program_unit.Placed.{Placed}
 use Rattle.fm_tree.specs.declared.statement.Stmt.{Stmt}
+use Rattle.fm_stmt.specs.declared.reader.ReadFail.{ReadFail}
+use Rattle.fm_stmt.specs.declared.reader.ReadFail.TheVariants.{Bad, NoMemory}
+use Rattle.fm_stmt.specs.Gives.{Fails}
 use Rattle.fm_stmt.specs.Statements.{statement_at}
 use Rattle.fm_stmt.specs.Names.{names_of, has_long}
 use Rattle.fm_stmt.specs.Checked.{IsTreeOf, HasCut, IsRead, IsBroken, BreaksRule, IsStatementOf, OneTree, OneStatement, AllOfPhaseOne, is_big, has_big, known, rule_of}
@@ -130,7 +137,7 @@ rule_least card s false false h l r e = cc e
 pub none_broken : OneCut → (card : Card) (s : Stmt) (big long : Bool) → IsRead card.text s big → has_long (names_of s) ≡ long → rule_of big long ≡ None → IsClean (IsBroken card)
 none_broken u card s true long h l e = cc e
 none_broken u card s false true h l e = cc e
-none_broken u card s false false h l e q b = none q.rule b.1
+none_broken u card s false false h l e = λ q b. none q.rule b.1
   where
     none : (r : Rule) → ¬ BreaksRule card.text r
     none rule.E10 c = c s h.tree
@@ -143,7 +150,23 @@ none_broken u card s false false h l e q b = none q.rule b.1
 
 pub one_statement_law : OneCut → OneStatement
 one_statement_law u card a b v w =
-    let line = v.line ∙ sym w.line in
-    let label = v.label ∙ sym w.label in
     let tree = same_tree u card.text a.stmt b.stmt v.tree w.tree in
-    cc (line, label, tree)
+    let P : Line → Option Label → Stmt → Placed = λ line label stmt. record { line = line; label = label; stmt = stmt } in
+    ap (λ (l : Line). P l a.label a.stmt) (v.line ∙ sym w.line) ∙ ap (λ (l : Option Label). P b.line l a.stmt) (v.label ∙ sym w.label) ∙ ap (P b.line b.label) tree
+
+-- what was let through breaks no rule, and what was refused breaks that one
+
+pub let_through : {T : Type 0} (line : Line) (o : Option Rule) (x v : T) → MatchOption o (◌≡◌ {A = Result T CheckFail} (Ok x) (Ok v)) (λ r. ◌≡◌ {A = Result T CheckFail} (Ok x) (Err (Refused (record { line = line; rule = r })))) → o ≡ None
+let_through line None x v e = refl
+let_through line (Some r) x v e = cc e
+
+pub refused_by : {T : Type 0} (card : Card) (s : Stmt) (big : Bool) → IsRead card.text s big → (o : Option Rule) → o ≡ rule_of big (has_long (names_of s)) → (fail : CheckFail) (v : T)
+    → MatchOption o (◌≡◌ {A = Result T CheckFail} (Err fail) (Ok v)) (λ r. ◌≡◌ {A = Result T CheckFail} (Err fail) (Err (Refused (record { line = card.line; rule = r })))) → IsRefusal (IsBroken card) fail
+refused_by card s big h None e fail v m = cc m
+refused_by card s big h (Some r) e fail v m =
+    let q : Refused (record { line = card.line; rule = r }) ≡ fail = cc m in
+    subst (IsRefusal (IsBroken card)) q (rule_least card s big (has_long (names_of s)) h refl r (sym e))
+
+pub nothing_read : {Y : Type 0} (e : ReadFail) (o : Option Y) → Fails e o → e ≡ Bad → o ≡ None
+nothing_read Bad o f b = f
+nothing_read NoMemory o f b = cc b

@@ -10,3 +10,5 @@ mod parts;
 mod reader;
 mod simple;
 mod statements;
+
+pub use checked::{all_of_phase_one, one_statement, one_tree, statement};
