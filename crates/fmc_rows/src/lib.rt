@@ -6,4 +6,6 @@ mod base;
 #[cfg(test)]
 mod faults;
 #[cfg(test)]
+mod grammar;
+#[cfg(test)]
 mod programs;

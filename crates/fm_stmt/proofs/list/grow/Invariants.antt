@@ -1,0 +1,8 @@
+use Rattle.std.proofs.Common.{◌≡◌, ◌-◌, length}
+use Rattle.fm_stmt.specs.Reading.{items_read, more_read, with_front}
+use Rattle.fm_stmt.proofs.list.grow.Given as goal
+
+-- what has been read, before what the rest gives, is what the whole gives
+abbrev pub invariant-items : goal.invariant-items
+invariant-items g l =
+    (with_front l.items.items (items_read g.F.Form.reads (l.end - l.counter) l.rest) ≡ with_front l.initial.items.items (more_read g.F.Form.reads l.tokens)) × (l.end ≡ length l.tokens)

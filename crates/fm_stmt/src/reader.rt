@@ -1,0 +1,175 @@
+//! Single parts of statements, read from the front of the tokens.
+
+ghost use Rattle.std.specs.Prelude.{◌≡◌, [], ◌∷◌, MatchOption, Some, None};
+ghost use Rattle.fm_stmt.specs.Gives.{Gives};
+ghost use Rattle.fm_stmt.specs.Reading.{is, assigned_at, constant_at, expr_read, flag_read, label_at, mark_at, name_at, nothing_left, starts, is_open, opens};
+
+use crate::mark::{is_close, is_mark, Mark, Word};
+use fm_base::{Label, Name, NoMemory, Seq, Token};
+use fm_expr::{expr, ExprFail};
+use fm_tree::Expr;
+use std::alloc::{AllocError, AllocFailed, Global};
+
+/// Why a part was not read.
+#[derive(Clone, Copy, Debug, PartialEq, Eq)]
+pub enum ReadFail {
+    /// The tokens do not begin with the part.
+    Bad,
+    NoMemory,
+}
+
+impl From<NoMemory> for ReadFail {
+    ghost use Rattle.fm_stmt.specs.declared.reader.ReadFail.TheVariants as fails;
+
+    ghost from_gives = { λ _ e. e ≡ fails.NoMemory };
+
+    fn from(_error: NoMemory) -> ReadFail {
+        ReadFail::NoMemory
+    }
+}
+
+impl From<AllocError> for ReadFail {
+    ghost use Rattle.fm_stmt.specs.declared.reader.ReadFail.TheVariants as fails;
+
+    ghost from_gives = { λ _ e. e ≡ fails.NoMemory };
+
+    fn from(_error: AllocError) -> ReadFail {
+        ReadFail::NoMemory
+    }
+}
+
+impl<T: Drop> From<AllocFailed<T>> for ReadFail {
+    ghost use Rattle.fm_stmt.specs.declared.reader.ReadFail.TheVariants as fails;
+
+    ghost from_gives = { λ _ e. e ≡ fails.NoMemory };
+
+    fn from(_failed: AllocFailed<T>) -> ReadFail {
+        ReadFail::NoMemory
+    }
+}
+
+/// The first token, and those behind it.
+pub fn front(tokens: &[Token]) -> Option<(&Token, &[Token])>
+    ensures { MatchOption result (tokens.now ≡ []) (λ p. tokens.now ≡ p.0.now ∷ p.1.now) }
+{
+    tokens.split_first()
+}
+
+/// A name.
+pub fn a_name(alloc: Global, tokens: &[Token]) -> Result<(Name, &[Token]), ReadFail>
+    ensures { Gives (λ p. (p.0, p.1.now)) result (name_at tokens.now) }
+{
+    match tokens.split_first() {
+        Some((Token::Named(name), rest)) => Ok((name.copy(alloc)?, rest)),
+        _ => Err(ReadFail::Bad),
+    }
+}
+
+/// A label, from 1 to 99999.
+pub fn a_label(tokens: &[Token]) -> Result<(Label, &[Token]), ReadFail>
+    ensures { Gives (λ p. (p.0, p.1.now)) result (label_at tokens.now) }
+{
+    match tokens.split_first() {
+        Some((Token::Number(n), rest)) if 1 <= *n && *n <= 99_999 => {
+            Ok((Label(*n as u32), rest))
+        }
+        _ => Err(ReadFail::Bad),
+    }
+}
+
+/// A character constant.
+pub fn a_constant(alloc: Global, tokens: &[Token]) -> Result<(Seq<u8>, &[Token]), ReadFail>
+    ensures { Gives (λ p. (p.0, p.1.now)) result (constant_at tokens.now) }
+{
+    match tokens.split_first() {
+        Some((Token::Constant(bytes), rest)) => {
+            Ok((Seq::from_slice(alloc, bytes.as_slice())?, rest))
+        }
+        _ => Err(ReadFail::Bad),
+    }
+}
+
+/// An expression.
+pub fn an_expr(alloc: Global, tokens: &[Token]) -> Result<(Expr, &[Token]), ReadFail>
+    ensures { Gives (λ p. (p.0, p.1.now)) result (expr_read tokens.now) }
+{
+    match expr(alloc, tokens) {
+        Ok((tree, n)) => {
+            let (_, rest) = tokens.split_at(n);
+            Ok((tree, rest))
+        }
+        Err(ExprFail::Bad) => Err(ReadFail::Bad),
+        Err(ExprFail::NoMemory) => Err(ReadFail::NoMemory),
+    }
+}
+
+/// What stands behind a fixed token, where that comes.
+pub fn behind_mark(mark: Mark, tokens: &[Token]) -> Option<&[Token]>
+    ensures { MatchOption result (mark_at mark tokens.now ≡ None) (λ rest. mark_at mark tokens.now ≡ Some rest.now) }
+{
+    match tokens.split_first() {
+        Some((token, rest)) if is_mark(mark, token) => Some(rest),
+        _ => None,
+    }
+}
+
+/// A fixed token.
+pub fn a_mark(mark: Mark, tokens: &[Token]) -> Result<&[Token], ReadFail>
+    ensures { Gives (λ p. p.now) result (mark_at mark tokens.now) }
+{
+    match behind_mark(mark, tokens) {
+        Some(rest) => Ok(rest),
+        None => Err(ReadFail::Bad),
+    }
+}
+
+/// Whether a fixed token comes.
+pub fn a_flag(mark: Mark, tokens: &[Token]) -> (bool, &[Token])
+    ensures { flag_read mark tokens.now ≡ Some (result.0, result.1.now) }
+{
+    match tokens.split_first() {
+        Some((token, rest)) if is_mark(mark, token) => (true, rest),
+        _ => (false, tokens),
+    }
+}
+
+/// What stands behind the word and an equals sign.
+pub fn assigned_behind(word: Word, tokens: &[Token]) -> Option<&[Token]>
+    ensures { MatchOption result (assigned_at word tokens.now ≡ None) (λ rest. assigned_at word tokens.now ≡ Some rest.now) }
+{
+    match behind_mark(Mark::Word(word), tokens) {
+        Some(rest) => behind_mark(Mark::Equals, rest),
+        None => None,
+    }
+}
+
+/// Whether the first token is the fixed one.
+pub fn starts_with(mark: Mark, tokens: &[Token]) -> bool
+    ensures { result ≡ starts (is mark) tokens.now }
+{
+    match tokens.split_first() {
+        Some((token, _)) => is_mark(mark, token),
+        None => false,
+    }
+}
+
+/// Whether a list goes on: neither the end nor a closing parenthesis comes.
+pub fn goes_on(tokens: &[Token]) -> bool
+    ensures { result ≡ starts opens tokens.now }
+{
+    match tokens.split_first() {
+        Some((token, _)) => !is_close(token),
+        None => false,
+    }
+}
+
+/// Whether nothing is left.
+pub fn at_end(tokens: &[Token]) -> Result<(), ReadFail>
+    ensures { Gives (λ p. p) result (nothing_left tokens.now) }
+{
+    if tokens.is_empty() {
+        Ok(())
+    } else {
+        Err(ReadFail::Bad)
+    }
+}

@@ -1,0 +1,265 @@
+//! Statements that may stand behind a logical IF.
+
+ghost use Rattle.fm_stmt.specs.Gives.{Gives};
+ghost use Rattle.fm_stmt.specs.Reading.{parens_read};
+ghost use Rattle.fm_stmt.specs.Parts.{port_part};
+ghost use Rattle.fm_stmt.specs.Statements.{all, assignment_part, keyed_simple, simple_at, two_ports_part};
+ghost use Rattle.fm_tree.specs.declared.statement.Simple.TheVariants as simple;
+
+use crate::list::{Form, listed, maybe_listed, more, some};
+use crate::mark::{Mark, Word};
+use crate::parts::{
+    ExprForm, ItemForm, VarForm, a_port, a_unit, assigned, extras,
+};
+use crate::reader::{ReadFail, a_label, a_mark, a_name, an_expr, at_end, starts_with};
+use fm_base::{Class, Token};
+use fm_tree::{Simple, Var};
+use std::alloc::Global;
+
+// var = expr
+fn an_assignment(alloc: Global, tokens: &[Token]) -> Result<Simple, ReadFail>
+    ensures { Gives (λ s. s) result (all (λ p. simple.Assignment p.0 p.1) assignment_part tokens.now) }
+{
+    let (target, rest) = VarForm::read_one(alloc, tokens)?;
+    let rest = a_mark(Mark::Equals, rest)?;
+    let (value, rest) = an_expr(alloc, rest)?;
+    at_end(rest)?;
+    Ok(Simple::Assignment(target, value))
+}
+
+// label
+fn a_goto(tokens: &[Token]) -> Result<Simple, ReadFail>
+    ensures { Gives (λ s. s) result (keyed_simple Class.Goto tokens.now) }
+{
+    let (label, rest) = a_label(tokens)?;
+    at_end(rest)?;
+    Ok(Simple::Goto(label))
+}
+
+fn a_continue(tokens: &[Token]) -> Result<Simple, ReadFail>
+    ensures { Gives (λ s. s) result (keyed_simple Class.Continue tokens.now) }
+{
+    at_end(tokens)?;
+    Ok(Simple::Continue)
+}
+
+fn a_return(tokens: &[Token]) -> Result<Simple, ReadFail>
+    ensures { Gives (λ s. s) result (keyed_simple Class.Return tokens.now) }
+{
+    at_end(tokens)?;
+    Ok(Simple::Return)
+}
+
+fn a_stop(tokens: &[Token]) -> Result<Simple, ReadFail>
+    ensures { Gives (λ s. s) result (keyed_simple Class.Stop tokens.now) }
+{
+    at_end(tokens)?;
+    Ok(Simple::Stop)
+}
+
+// name [( [list(expr)] )]
+fn a_call(alloc: Global, tokens: &[Token]) -> Result<Simple, ReadFail>
+    ensures { Gives (λ s. s) result (keyed_simple Class.Call tokens.now) }
+{
+    let (name, rest) = a_name(alloc, tokens)?;
+    let (arguments, rest) = maybe_listed::<ExprForm>(alloc, rest)?;
+    at_end(rest)?;
+    Ok(Simple::Call(name, arguments))
+}
+
+// * [, list(item)]
+fn a_print(alloc: Global, tokens: &[Token]) -> Result<Simple, ReadFail>
+    ensures { Gives (λ s. s) result (keyed_simple Class.Print tokens.now) }
+{
+    let rest = a_mark(Mark::Star, tokens)?;
+    let (items, rest) = more::<ItemForm>(alloc, rest)?;
+    at_end(rest)?;
+    Ok(Simple::Print(items))
+}
+
+// ( unit , * ) [list(item)]
+fn a_write(alloc: Global, tokens: &[Token]) -> Result<Simple, ReadFail>
+    ensures { Gives (λ s. s) result (keyed_simple Class.Write tokens.now) }
+{
+    let rest = a_mark(Mark::Open, tokens)?;
+    let (unit, rest) = a_unit(rest)?;
+    let rest = a_mark(Mark::Comma, rest)?;
+    let rest = a_mark(Mark::Star, rest)?;
+    let rest = a_mark(Mark::Close, rest)?;
+    let (items, rest) = listed::<ItemForm>(alloc, rest)?;
+    at_end(rest)?;
+    Ok(Simple::Write(unit, items))
+}
+
+// IN = var , OUT = var, also OUT first
+fn two_ports(
+    alloc: Global,
+    tokens: &[Token],
+) -> Result<((bool, (Var, Var)), &[Token]), ReadFail>
+    ensures { Gives (λ p. (p.0, p.1.now)) result (two_ports_part.read tokens.now) }
+{
+    if starts_with(Mark::Word(Word::In), tokens) {
+        let (inport, rest) = assigned::<VarForm>(alloc, Word::In, tokens)?;
+        let rest = a_mark(Mark::Comma, rest)?;
+        let (outport, rest) = assigned::<VarForm>(alloc, Word::Out, rest)?;
+        Ok(((true, (inport, outport)), rest))
+    } else {
+        let (outport, rest) = assigned::<VarForm>(alloc, Word::Out, tokens)?;
+        let rest = a_mark(Mark::Comma, rest)?;
+        let (inport, rest) = assigned::<VarForm>(alloc, Word::In, rest)?;
+        Ok(((false, (inport, outport)), rest))
+    }
+}
+
+// ( IN = var , OUT = var ), also OUT first
+fn a_channel(alloc: Global, tokens: &[Token]) -> Result<Simple, ReadFail>
+    ensures { Gives (λ s. s) result (keyed_simple Class.Channel tokens.now) }
+{
+    let rest = a_mark(Mark::Open, tokens)?;
+    let ((in_first, (inport, outport)), rest) = two_ports(alloc, rest)?;
+    let rest = a_mark(Mark::Close, rest)?;
+    at_end(rest)?;
+    Ok(Simple::Channel {
+        in_first,
+        inport,
+        outport,
+    })
+}
+
+// `OUT = var`.
+struct OutForm;
+
+impl Form for OutForm {
+    type Item = Var;
+
+    ghost use Rattle.fm_stmt.specs.Statements.{out_part};
+
+    ghost reads = { out_part.read };
+
+    fn read_one(alloc: Global, tokens: &[Token]) -> Result<(Var, &[Token]), ReadFail> {
+        assigned::<VarForm>(alloc, Word::Out, tokens)
+    }
+}
+
+// ( IN = var , list(OUT = var) )
+fn a_merger(alloc: Global, tokens: &[Token]) -> Result<Simple, ReadFail>
+    ensures { Gives (λ s. s) result (keyed_simple Class.Merger tokens.now) }
+{
+    let rest = a_mark(Mark::Open, tokens)?;
+    let (inport, rest) = assigned::<VarForm>(alloc, Word::In, rest)?;
+    let rest = a_mark(Mark::Comma, rest)?;
+    let (outports, rest) = some::<OutForm>(alloc, rest)?;
+    let rest = a_mark(Mark::Close, rest)?;
+    at_end(rest)?;
+    Ok(Simple::Merger(inport, outports))
+}
+
+// ( [PORT =] var )
+fn a_port_in_parens(alloc: Global, tokens: &[Token]) -> Result<((bool, Var), &[Token]), ReadFail>
+    ensures { Gives (λ p. (p.0, p.1.now)) result (parens_read port_part.read tokens.now) }
+{
+    let rest = a_mark(Mark::Open, tokens)?;
+    let (port, rest) = a_port(alloc, rest)?;
+    let rest = a_mark(Mark::Close, rest)?;
+    Ok((port, rest))
+}
+
+// ( [PORT =] var ) [list(expr)]
+fn a_send(alloc: Global, tokens: &[Token]) -> Result<Simple, ReadFail>
+    ensures { Gives (λ s. s) result (keyed_simple Class.Send tokens.now) }
+{
+    let ((named, port), rest) = a_port_in_parens(alloc, tokens)?;
+    let (items, rest) = listed::<ExprForm>(alloc, rest)?;
+    at_end(rest)?;
+    Ok(Simple::Send { named, port, items })
+}
+
+// ( [PORT =] var {, extra} ) [list(var)]
+fn a_receive(alloc: Global, tokens: &[Token]) -> Result<Simple, ReadFail>
+    ensures { Gives (λ s. s) result (keyed_simple Class.Receive tokens.now) }
+{
+    let rest = a_mark(Mark::Open, tokens)?;
+    let ((named, port), rest) = a_port(alloc, rest)?;
+    let (extras, rest) = extras(alloc, rest)?;
+    let rest = a_mark(Mark::Close, rest)?;
+    let (items, rest) = listed::<VarForm>(alloc, rest)?;
+    at_end(rest)?;
+    Ok(Simple::Receive {
+        named,
+        port,
+        extras,
+        items,
+    })
+}
+
+// ( [PORT =] var )
+fn an_end_channel(alloc: Global, tokens: &[Token]) -> Result<Simple, ReadFail>
+    ensures { Gives (λ s. s) result (keyed_simple Class.EndChannel tokens.now) }
+{
+    let ((named, port), rest) = a_port_in_parens(alloc, tokens)?;
+    at_end(rest)?;
+    Ok(Simple::EndChannel { named, port })
+}
+
+// ( FROM = var , TO = var )
+fn a_move_port(alloc: Global, tokens: &[Token]) -> Result<Simple, ReadFail>
+    ensures { Gives (λ s. s) result (keyed_simple Class.MovePort tokens.now) }
+{
+    let rest = a_mark(Mark::Open, tokens)?;
+    let (from, rest) = assigned::<VarForm>(alloc, Word::From, rest)?;
+    let rest = a_mark(Mark::Comma, rest)?;
+    let (to, rest) = assigned::<VarForm>(alloc, Word::To, rest)?;
+    let rest = a_mark(Mark::Close, rest)?;
+    at_end(rest)?;
+    Ok(Simple::MovePort { from, to })
+}
+
+// ( [PORT =] var , EMPTY = var )
+fn a_probe(alloc: Global, tokens: &[Token]) -> Result<Simple, ReadFail>
+    ensures { Gives (λ s. s) result (keyed_simple Class.Probe tokens.now) }
+{
+    let rest = a_mark(Mark::Open, tokens)?;
+    let ((named, port), rest) = a_port(alloc, rest)?;
+    let rest = a_mark(Mark::Comma, rest)?;
+    let (empty, rest) = assigned::<VarForm>(alloc, Word::Empty, rest)?;
+    let rest = a_mark(Mark::Close, rest)?;
+    at_end(rest)?;
+    Ok(Simple::Probe { named, port, empty })
+}
+
+/// What stands behind the keyword of a class, all of the tokens.
+pub fn keyed_simple(
+    alloc: Global,
+    class: Class,
+    tokens: &[Token],
+) -> Result<Simple, ReadFail>
+    ensures { Gives (λ s. s) result (keyed_simple class tokens.now) }
+{
+    match class {
+        Class::Goto => a_goto(tokens),
+        Class::Continue => a_continue(tokens),
+        Class::Return => a_return(tokens),
+        Class::Stop => a_stop(tokens),
+        Class::Call => a_call(alloc, tokens),
+        Class::Print => a_print(alloc, tokens),
+        Class::Write => a_write(alloc, tokens),
+        Class::Channel => a_channel(alloc, tokens),
+        Class::Merger => a_merger(alloc, tokens),
+        Class::Send => a_send(alloc, tokens),
+        Class::Receive => a_receive(alloc, tokens),
+        Class::EndChannel => an_end_channel(alloc, tokens),
+        Class::MovePort => a_move_port(alloc, tokens),
+        Class::Probe => a_probe(alloc, tokens),
+        _ => Err(ReadFail::Bad),
+    }
+}
+
+/// A statement that may stand behind a logical IF, all of the tokens.
+pub fn simple(alloc: Global, tokens: &[Token]) -> Result<Simple, ReadFail>
+    ensures { Gives (λ s. s) result (simple_at tokens.now) }
+{
+    match tokens.split_first() {
+        Some((Token::Key(class), rest)) => keyed_simple(alloc, *class, rest),
+        _ => an_assignment(alloc, tokens),
+    }
+}

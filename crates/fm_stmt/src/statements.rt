@@ -1,0 +1,398 @@
+//! The forms of statements.
+
+ghost use Rattle.fm_stmt.specs.Gives.{Gives};
+ghost use Rattle.fm_stmt.specs.Reading.{expr_read, maybe_read, parens_read, whole};
+ghost use Rattle.fm_stmt.specs.Parts.{call_part_part, loop_part};
+ghost use Rattle.fm_stmt.specs.Statements.{keyed_simple, made, declaration_part, function_part, heading_part, keyed_statement, ports_part, statement_at, then_part};
+ghost use Rattle.fm_tree.specs.declared.statement.Stmt.TheVariants as stmt;
+
+use crate::fields::a_port_type;
+use crate::list::{listed, maybe_listed, some, some_in_parens};
+use crate::mark::{Mark, Word};
+use crate::parts::{
+    ArrayForm, DeclForm, DefinedForm, ExprForm, NameForm, a_call_part, a_loop_head, a_way,
+};
+use crate::reader::{ReadFail, a_mark, a_name, an_expr, at_end, starts_with};
+use crate::simple::{keyed_simple, simple};
+use fm_base::{Class, Name, Seq, Token};
+use fm_tree::{CallPart, Decl, Expr, LoopHead, PortType, Stmt, Way};
+use std::alloc::Global;
+
+// name
+fn a_program(alloc: Global, tokens: &[Token]) -> Result<Stmt, ReadFail>
+    ensures { Gives (λ s. s) result (keyed_statement Class.Program tokens.now) }
+{
+    let (name, rest) = a_name(alloc, tokens)?;
+    at_end(rest)?;
+    Ok(Stmt::Program(name))
+}
+
+// name [( [list(name)] )]
+fn a_heading(
+    alloc: Global,
+    tokens: &[Token],
+) -> Result<(Name, Option<Seq<Name>>), ReadFail>
+    ensures { Gives (λ p. p) result (whole heading_part.read tokens.now) }
+{
+    let (name, rest) = a_name(alloc, tokens)?;
+    let (formals, rest) = maybe_listed::<NameForm>(alloc, rest)?;
+    at_end(rest)?;
+    Ok((name, formals))
+}
+
+// name ( [list(name)] )
+fn a_function(alloc: Global, tokens: &[Token]) -> Result<(Name, Seq<Name>), ReadFail>
+    ensures { Gives (λ p. p) result (whole function_part.read tokens.now) }
+{
+    let (name, rest) = a_name(alloc, tokens)?;
+    let rest = a_mark(Mark::Open, rest)?;
+    let (formals, rest) = listed::<NameForm>(alloc, rest)?;
+    let rest = a_mark(Mark::Close, rest)?;
+    at_end(rest)?;
+    Ok((name, formals))
+}
+
+// list(decl)
+fn decls(alloc: Global, tokens: &[Token]) -> Result<Seq<Decl>, ReadFail>
+    ensures { Gives (λ p. p) result (whole declaration_part.read tokens.now) }
+{
+    let (decls, rest) = some::<DeclForm>(alloc, tokens)?;
+    at_end(rest)?;
+    Ok(decls)
+}
+
+// list(name ( list(bound) ))
+fn a_dimension(alloc: Global, tokens: &[Token]) -> Result<Stmt, ReadFail>
+    ensures { Gives (λ s. s) result (keyed_statement Class.Dimension tokens.now) }
+{
+    let (arrays, rest) = some::<ArrayForm>(alloc, tokens)?;
+    at_end(rest)?;
+    Ok(Stmt::Dimension(arrays))
+}
+
+// ( list(name = expr) )
+fn a_parameter(alloc: Global, tokens: &[Token]) -> Result<Stmt, ReadFail>
+    ensures { Gives (λ s. s) result (keyed_statement Class.Parameter tokens.now) }
+{
+    let (constants, rest) = some_in_parens::<DefinedForm>(alloc, tokens)?;
+    at_end(rest)?;
+    Ok(Stmt::Parameter(constants))
+}
+
+// ( [list(field)] ) list(decl)
+fn ports(alloc: Global, tokens: &[Token]) -> Result<(PortType, Seq<Decl>), ReadFail>
+    ensures { Gives (λ p. p) result (whole ports_part.read tokens.now) }
+{
+    let (fields, rest) = a_port_type(alloc, tokens)?;
+    let (decls, rest) = some::<DeclForm>(alloc, rest)?;
+    at_end(rest)?;
+    Ok((fields, decls))
+}
+
+// ( way ) list(name)
+fn an_intent(alloc: Global, tokens: &[Token]) -> Result<Stmt, ReadFail>
+    ensures { Gives (λ s. s) result (keyed_statement Class.Intent tokens.now) }
+{
+    let rest = a_mark(Mark::Open, tokens)?;
+    let (way, rest) = a_way(rest)?;
+    let rest = a_mark(Mark::Close, rest)?;
+    let (names, rest) = some::<NameForm>(alloc, rest)?;
+    at_end(rest)?;
+    Ok(Stmt::Intent(way, names))
+}
+
+// ( list(expr) )
+fn processors(alloc: Global, tokens: &[Token]) -> Result<Stmt, ReadFail>
+    ensures { Gives (λ s. s) result (keyed_statement Class.Processors tokens.now) }
+{
+    let (extents, rest) = some_in_parens::<ExprForm>(alloc, tokens)?;
+    at_end(rest)?;
+    Ok(Stmt::Processors(extents))
+}
+
+// ( expr )
+fn a_condition(alloc: Global, tokens: &[Token]) -> Result<(Expr, &[Token]), ReadFail>
+    ensures { Gives (λ p. (p.0, p.1.now)) result (parens_read expr_read tokens.now) }
+{
+    let rest = a_mark(Mark::Open, tokens)?;
+    let (value, rest) = an_expr(alloc, rest)?;
+    let rest = a_mark(Mark::Close, rest)?;
+    Ok((value, rest))
+}
+
+// ( expr ) THEN
+fn a_then(alloc: Global, tokens: &[Token]) -> Result<Expr, ReadFail>
+    ensures { Gives (λ p. p) result (whole then_part.read tokens.now) }
+{
+    let (condition, rest) = a_condition(alloc, tokens)?;
+    let rest = a_mark(Mark::Word(Word::Then), rest)?;
+    at_end(rest)?;
+    Ok(condition)
+}
+
+// ( expr ) simple
+fn a_logical_if(alloc: Global, tokens: &[Token]) -> Result<Stmt, ReadFail>
+    ensures { Gives (λ s. s) result (keyed_statement Class.LogicalIf tokens.now) }
+{
+    let (condition, rest) = a_condition(alloc, tokens)?;
+    let contained = simple(alloc, rest)?;
+    Ok(Stmt::LogicalIf(condition, contained))
+}
+
+// [label [,]] name = expr , expr [, expr]
+fn a_loop(alloc: Global, tokens: &[Token]) -> Result<LoopHead, ReadFail>
+    ensures { Gives (λ p. p) result (whole loop_part.read tokens.now) }
+{
+    let (head, rest) = a_loop_head(alloc, tokens)?;
+    at_end(rest)?;
+    Ok(head)
+}
+
+// ( expr )
+fn a_do_while(alloc: Global, tokens: &[Token]) -> Result<Stmt, ReadFail>
+    ensures { Gives (λ s. s) result (keyed_statement Class.DoWhile tokens.now) }
+{
+    let (condition, rest) = a_condition(alloc, tokens)?;
+    at_end(rest)?;
+    Ok(Stmt::DoWhile(condition))
+}
+
+// [( [list(expr)] ) [where]]
+fn maybe_call_part(
+    alloc: Global,
+    tokens: &[Token],
+) -> Result<(Option<CallPart>, &[Token]), ReadFail>
+    ensures { Gives (λ p. (p.0, p.1.now)) result (maybe_read Mark.Open call_part_part.read tokens.now) }
+{
+    if !starts_with(Mark::Open, tokens) {
+        return Ok((None, tokens));
+    }
+    let rest = a_mark(Mark::Open, tokens)?;
+    let (part, rest) = a_call_part(alloc, rest)?;
+    Ok((Some(part), rest))
+}
+
+// name [( [list(expr)] ) [where]]
+fn a_process_call(alloc: Global, tokens: &[Token]) -> Result<Stmt, ReadFail>
+    ensures { Gives (λ s. s) result (keyed_statement Class.ProcessCall tokens.now) }
+{
+    let (name, rest) = a_name(alloc, tokens)?;
+    let (part, rest) = maybe_call_part(alloc, rest)?;
+    at_end(rest)?;
+    Ok(Stmt::ProcessCall(name, part))
+}
+
+fn an_implicit_none(tokens: &[Token]) -> Result<Stmt, ReadFail>
+    ensures { Gives (λ s. s) result (keyed_statement Class.ImplicitNone tokens.now) }
+{
+    at_end(tokens)?;
+    Ok(Stmt::ImplicitNone)
+}
+
+fn an_else(tokens: &[Token]) -> Result<Stmt, ReadFail>
+    ensures { Gives (λ s. s) result (keyed_statement Class.Else tokens.now) }
+{
+    at_end(tokens)?;
+    Ok(Stmt::Else)
+}
+
+fn an_end_if(tokens: &[Token]) -> Result<Stmt, ReadFail>
+    ensures { Gives (λ s. s) result (keyed_statement Class.EndIf tokens.now) }
+{
+    at_end(tokens)?;
+    Ok(Stmt::EndIf)
+}
+
+fn an_end_do(tokens: &[Token]) -> Result<Stmt, ReadFail>
+    ensures { Gives (λ s. s) result (keyed_statement Class.EndDo tokens.now) }
+{
+    at_end(tokens)?;
+    Ok(Stmt::EndDo)
+}
+
+fn an_end(tokens: &[Token]) -> Result<Stmt, ReadFail>
+    ensures { Gives (λ s. s) result (keyed_statement Class.End tokens.now) }
+{
+    at_end(tokens)?;
+    Ok(Stmt::End)
+}
+
+fn processes(tokens: &[Token]) -> Result<Stmt, ReadFail>
+    ensures { Gives (λ s. s) result (keyed_statement Class.Processes tokens.now) }
+{
+    at_end(tokens)?;
+    Ok(Stmt::Processes)
+}
+
+fn end_processes(tokens: &[Token]) -> Result<Stmt, ReadFail>
+    ensures { Gives (λ s. s) result (keyed_statement Class.EndProcesses tokens.now) }
+{
+    at_end(tokens)?;
+    Ok(Stmt::EndProcesses)
+}
+
+fn an_end_process_do(tokens: &[Token]) -> Result<Stmt, ReadFail>
+    ensures { Gives (λ s. s) result (keyed_statement Class.EndProcessDo tokens.now) }
+{
+    at_end(tokens)?;
+    Ok(Stmt::EndProcessDo)
+}
+
+fn a_simple(alloc: Global, class: Class, tokens: &[Token]) -> Result<Stmt, ReadFail>
+    ensures { Gives (λ s. s) result (made stmt.Simple (keyed_simple class tokens.now)) }
+{
+    Ok(Stmt::Simple(keyed_simple(alloc, class, tokens)?))
+}
+
+// name [( [list(name)] )]
+fn a_process(alloc: Global, tokens: &[Token]) -> Result<Stmt, ReadFail>
+    ensures { Gives (λ s. s) result (keyed_statement Class.Process tokens.now) }
+{
+    let (name, formals) = a_heading(alloc, tokens)?;
+    Ok(Stmt::Process(name, formals))
+}
+
+// name [( [list(name)] )]
+fn a_subroutine(alloc: Global, tokens: &[Token]) -> Result<Stmt, ReadFail>
+    ensures { Gives (λ s. s) result (keyed_statement Class.Subroutine tokens.now) }
+{
+    let (name, formals) = a_heading(alloc, tokens)?;
+    Ok(Stmt::Subroutine(name, formals))
+}
+
+// name ( [list(name)] )
+fn a_plain_function(alloc: Global, tokens: &[Token]) -> Result<Stmt, ReadFail>
+    ensures { Gives (λ s. s) result (keyed_statement Class.Function tokens.now) }
+{
+    let (name, formals) = a_function(alloc, tokens)?;
+    Ok(Stmt::Function(name, formals))
+}
+
+// name ( [list(name)] )
+fn an_integer_function(alloc: Global, tokens: &[Token]) -> Result<Stmt, ReadFail>
+    ensures { Gives (λ s. s) result (keyed_statement Class.IntegerFunction tokens.now) }
+{
+    let (name, formals) = a_function(alloc, tokens)?;
+    Ok(Stmt::IntegerFunction(name, formals))
+}
+
+// name ( [list(name)] )
+fn a_logical_function(alloc: Global, tokens: &[Token]) -> Result<Stmt, ReadFail>
+    ensures { Gives (λ s. s) result (keyed_statement Class.LogicalFunction tokens.now) }
+{
+    let (name, formals) = a_function(alloc, tokens)?;
+    Ok(Stmt::LogicalFunction(name, formals))
+}
+
+// list(decl)
+fn an_integer(alloc: Global, tokens: &[Token]) -> Result<Stmt, ReadFail>
+    ensures { Gives (λ s. s) result (keyed_statement Class.Integer tokens.now) }
+{
+    let decls = decls(alloc, tokens)?;
+    Ok(Stmt::Integer(decls))
+}
+
+// list(decl)
+fn a_logical(alloc: Global, tokens: &[Token]) -> Result<Stmt, ReadFail>
+    ensures { Gives (λ s. s) result (keyed_statement Class.Logical tokens.now) }
+{
+    let decls = decls(alloc, tokens)?;
+    Ok(Stmt::Logical(decls))
+}
+
+// ( [list(field)] ) list(decl)
+fn an_inport(alloc: Global, tokens: &[Token]) -> Result<Stmt, ReadFail>
+    ensures { Gives (λ s. s) result (keyed_statement Class.Inport tokens.now) }
+{
+    let (fields, decls) = ports(alloc, tokens)?;
+    Ok(Stmt::Inport(fields, decls))
+}
+
+// ( [list(field)] ) list(decl)
+fn an_outport(alloc: Global, tokens: &[Token]) -> Result<Stmt, ReadFail>
+    ensures { Gives (λ s. s) result (keyed_statement Class.Outport tokens.now) }
+{
+    let (fields, decls) = ports(alloc, tokens)?;
+    Ok(Stmt::Outport(fields, decls))
+}
+
+// ( expr ) THEN
+fn a_block_if(alloc: Global, tokens: &[Token]) -> Result<Stmt, ReadFail>
+    ensures { Gives (λ s. s) result (keyed_statement Class.BlockIf tokens.now) }
+{
+    let condition = a_then(alloc, tokens)?;
+    Ok(Stmt::BlockIf(condition))
+}
+
+// ( expr ) THEN
+fn an_else_if(alloc: Global, tokens: &[Token]) -> Result<Stmt, ReadFail>
+    ensures { Gives (λ s. s) result (keyed_statement Class.ElseIf tokens.now) }
+{
+    let condition = a_then(alloc, tokens)?;
+    Ok(Stmt::ElseIf(condition))
+}
+
+// [label [,]] name = expr , expr [, expr]
+fn a_do(alloc: Global, tokens: &[Token]) -> Result<Stmt, ReadFail>
+    ensures { Gives (λ s. s) result (keyed_statement Class.Do tokens.now) }
+{
+    let head = a_loop(alloc, tokens)?;
+    Ok(Stmt::Do(head))
+}
+
+// [label [,]] name = expr , expr [, expr]
+fn a_process_do(alloc: Global, tokens: &[Token]) -> Result<Stmt, ReadFail>
+    ensures { Gives (λ s. s) result (keyed_statement Class.ProcessDo tokens.now) }
+{
+    let head = a_loop(alloc, tokens)?;
+    Ok(Stmt::ProcessDo(head))
+}
+
+// What stands behind the keyword of a class, all of the tokens.
+fn keyed(alloc: Global, class: Class, tokens: &[Token]) -> Result<Stmt, ReadFail>
+    ensures { Gives (λ s. s) result (keyed_statement class tokens.now) }
+{
+    match class {
+        Class::Program => a_program(alloc, tokens),
+        Class::Process => a_process(alloc, tokens),
+        Class::Subroutine => a_subroutine(alloc, tokens),
+        Class::Function => a_plain_function(alloc, tokens),
+        Class::IntegerFunction => an_integer_function(alloc, tokens),
+        Class::LogicalFunction => a_logical_function(alloc, tokens),
+        Class::ImplicitNone => an_implicit_none(tokens),
+        Class::Integer => an_integer(alloc, tokens),
+        Class::Logical => a_logical(alloc, tokens),
+        Class::Dimension => a_dimension(alloc, tokens),
+        Class::Parameter => a_parameter(alloc, tokens),
+        Class::Inport => an_inport(alloc, tokens),
+        Class::Outport => an_outport(alloc, tokens),
+        Class::Intent => an_intent(alloc, tokens),
+        Class::Processors => processors(alloc, tokens),
+        Class::LogicalIf => a_logical_if(alloc, tokens),
+        Class::BlockIf => a_block_if(alloc, tokens),
+        Class::ElseIf => an_else_if(alloc, tokens),
+        Class::Else => an_else(tokens),
+        Class::EndIf => an_end_if(tokens),
+        Class::Do => a_do(alloc, tokens),
+        Class::DoWhile => a_do_while(alloc, tokens),
+        Class::EndDo => an_end_do(tokens),
+        Class::End => an_end(tokens),
+        Class::Processes => processes(tokens),
+        Class::EndProcesses => end_processes(tokens),
+        Class::ProcessCall => a_process_call(alloc, tokens),
+        Class::ProcessDo => a_process_do(alloc, tokens),
+        Class::EndProcessDo => an_end_process_do(tokens),
+        _ => a_simple(alloc, class, tokens),
+    }
+}
+
+/// The statement that the tokens spell, all of them.
+pub fn read_statement(alloc: Global, tokens: &[Token]) -> Result<Stmt, ReadFail>
+    ensures { Gives (λ s. s) result (statement_at tokens.now) }
+{
+    match tokens.split_first() {
+        Some((Token::Key(class), rest)) => keyed(alloc, *class, rest),
+        _ => Ok(Stmt::Simple(simple(alloc, tokens)?)),
+    }
+}
+
