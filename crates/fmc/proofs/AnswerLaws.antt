@@ -13,6 +13,7 @@ use Rattle.fm_mean.specs.declared.tree.Placed.{Placed}
 use Rattle.fm_net.specs.Machine.{Place}
 use Rattle.fm_mean.specs.Meaning.{step, first}
 use Rattle.fm_mean.specs.Outcome.{outcome_of, report_text, FaultAt}
+use Rattle.fm_mean.proofs.LanguageLaws.{program_settles}
 use Rattle.fmc.specs.declared.answer.Exit.{Exit}
 use Rattle.fmc.specs.declared.answer.Exit.TheVariants.{Done, Faulted, Deadlocked, Refused, Spent, Usage, ReadFault, WriteFault, NoMemory, TooLong, Malformed, Illegal, Unfinished}
 use Rattle.fmc.specs.declared.answer.Reply.{Reply}
@@ -116,6 +117,7 @@ run_ended b program r le lawful run =
       ends = ends;
       exit_is = run.reports.exit_is ∙ ap (λ s. exit_of (outcome_of s)) (sym there);
       text_is = run.reports.text_is ∙ ap (λ s. report_text (outcome_of s)) (sym there);
+      one_outcome = program_settles program cs ends;
     }
 
 pub run_says : (b : List ℕ) (program : List Placed) (r : Reply) → length b ≤ source_limit → IsProgramOf b program → IsRunOf program r → IsReply Run b r

@@ -11,7 +11,7 @@ use Rattle.fm_base.specs.declared.schedule.Turn.{Turn}
 use Rattle.fm_base.specs.declared.rule.Refusal.{Refusal}
 use Rattle.fm_base.specs.Rules.{refusal_text}
 use Rattle.fm_io.specs.Streams.{WritesFront}
-use Rattle.fm_sched.specs.Schedule.{play, IsLegal, IsEnding}
+use Rattle.fm_sched.specs.Schedule.{play, IsLegal, IsEnding, Settles}
 use Rattle.fm_mean.specs.declared.tree.Placed.{Placed}
 use Rattle.fm_net.specs.Machine.{Place}
 use Rattle.fm_mean.specs.Meaning.{step, first}
@@ -50,7 +50,7 @@ pub record IsKept (source : List ℕ) (program : List Placed) (history : List Tu
   pub starts : places ≡ starts_of program choices
   pub legal : IsLegal (step program) first choices
 
--- the kept schedule ends the program, and exit and text are those of the state in which it ends
+-- the kept schedule ends the program, and exit and text are those of the state in which it and every other schedule ends
 pub record IsEnded (source : List ℕ) (exit : Exit) (history : List Turn) (places : List Place) (text : List ℕ) : Type 0 where
   pub within : length source ≤ source_limit
   pub program : List Placed
@@ -59,6 +59,8 @@ pub record IsEnded (source : List ℕ) (exit : Exit) (history : List Turn) (plac
   pub ends : IsEnding (step program) first choices
   pub exit_is : exit ≡ exit_of (outcome_of (play (step program) first choices))
   pub text_is : text ≡ report_text (outcome_of (play (step program) first choices))
+  -- so it is under every other schedule: it goes on to an end, and one that ends gives the same state at the same cost
+  pub one_outcome : Settles (step program) first choices
 
 -- nothing was played, and this is the text
 pub record IsUnplayed (history : List Turn) (places : List Place) (text told : List ℕ) : Type 0 where
