@@ -255,13 +255,17 @@ exact_field d x = record {
       let q = same_value (field_of b.0.0 c.0.0) f c.0.1 rest c.2 in
       let s = x.sound ts b.0.0 b.0.1 b.1 in
       let t = (exact_bounds b.0.0.1).sound b.0.1 c.0.0 c.0.1 c.1 in
-      subst P q.0
-      ((s.0, t.0), s.1 ∙ ap (λ (r : List Token). kind_spelled (kind_of b.0.0.0) b.0.0.1 ++ r) (t.1 ∙ ap (λ (r : List Token). (bracketed bound_part).form.spelled c.0.0 ++ r) q.1)
-          ∙ sym (append_assoc (kind_spelled (kind_of b.0.0.0) b.0.0.1) ((bracketed bound_part).form.spelled c.0.0) rest));
+      subst P q.0 (
+        (s.0, t.0),
+        s.1 ∙ ap (λ (r : List Token). kind_spelled (kind_of b.0.0.0) b.0.0.1 ++ r) (t.1 ∙ ap (λ (r : List Token). (bracketed bound_part).form.spelled c.0.0 ++ r) q.1)
+            ∙ sym (append_assoc (kind_spelled (kind_of b.0.0.0) b.0.0.1) ((bracketed bound_part).form.spelled c.0.0) rest),
+      );
   complete = λ f rest s e.
-      rw (append_assoc (kind_spelled (kind_of f.kind) f.name) ((bracketed bound_part).form.spelled f.bounds) rest,
+      rw (
+        append_assoc (kind_spelled (kind_of f.kind) f.name) ((bracketed bound_part).form.spelled f.bounds) rest,
         x.complete (f.kind, f.name) ((bracketed bound_part).form.spelled f.bounds ++ rest) s.0 (leads f.bounds rest e),
-        (exact_bounds f.name).complete f.bounds rest s.1 (ends_right (λ t. not (is_named t)) (λ t. not (is_open t)) rest e)) refl;
+        (exact_bounds f.name).complete f.bounds rest s.1 (ends_right (λ t. not (is_named t)) (λ t. not (is_open t)) rest e),
+      ) refl;
 }
   where
     leads : (bounds : List Bound) (rest : List Token) → Ends (λ t. not (is_named t) && not (is_open t)) rest → Ends (λ t. not (is_named t)) ((bracketed bound_part).form.spelled bounds ++ rest)
@@ -369,7 +373,7 @@ exact_port_type = record {
   complete = λ p rest s e.
       let n : ℕ = length (port_type_part.form.spelled p ++ rest) in
       let within : fields_count p ≤ n =
-          omega (arith, fields_short p, length-append (port_type_part.form.spelled p) rest, length-append (fields_spelled p) (token.Close ∷ []))
+      omega (arith, fields_short p, length-append (port_type_part.form.spelled p) rest, length-append (fields_spelled p) (token.Close ∷ []))
       in (depth n).complete p rest (s, within_count p n within) (ends_any rest);
 }
   where

@@ -107,7 +107,7 @@ exact_listed {X} g x k c begins = record {
     complete [] (t ∷ ts) s e = rw e refl
     complete (y ∷ ys) rest s e =
         let b : starts opens (list_spelled g.form (y ∷ ys) ++ rest) ≡ true =
-            ap (starts opens) (append_assoc (g.form.spelled y) (more_spelled g.form ys) rest) ∙ begins y (more_spelled g.form ys ++ rest) s.0
+        ap (starts opens) (append_assoc (g.form.spelled y) (more_spelled g.form ys) rest) ∙ begins y (more_spelled g.form ys ++ rest) s.0
         in rw b (sx.complete (y ∷ ys) rest s (at_close rest e))
 
 pub exact_parens : {X : Type 0} (g : Part X) → IsExact g → g.stop token.Close ≡ true → IsExact (parens g)
@@ -199,11 +199,11 @@ exact_swapped {X} {Y} test g h x y k l yes_g no_h = record {
         → (swapped test g h).read (swapped_spelled g.form h.form first a b ++ rest) ≡ Some ((first, (a, b)), rest)
     complete true a b rest s e =
         let u : starts test ((g.form.spelled a ++ token.Comma ∷ h.form.spelled b) ++ rest) ≡ true =
-            ap (starts test) (append_assoc (g.form.spelled a) (token.Comma ∷ h.form.spelled b) rest) ∙ yes_g a (token.Comma ∷ (h.form.spelled b ++ rest)) s.0
+        ap (starts test) (append_assoc (g.form.spelled a) (token.Comma ∷ h.form.spelled b) rest) ∙ yes_g a (token.Comma ∷ (h.form.spelled b ++ rest)) s.0
         in rw (u, gh.complete (a, b) rest s (ends_right g.stop h.stop rest e)) refl
     complete false a b rest s e =
         let u : starts test ((h.form.spelled b ++ token.Comma ∷ g.form.spelled a) ++ rest) ≡ false =
-            ap (starts test) (append_assoc (h.form.spelled b) (token.Comma ∷ g.form.spelled a) rest) ∙ no_h b (token.Comma ∷ (g.form.spelled a ++ rest)) s.1
+        ap (starts test) (append_assoc (h.form.spelled b) (token.Comma ∷ g.form.spelled a) rest) ∙ no_h b (token.Comma ∷ (g.form.spelled a ++ rest)) s.1
         in rw (u, hg.complete (b, a) rest (s.1, s.0) (ends_left g.stop h.stop rest e)) refl
 
 -- a part that does not begin with the word and an equals sign

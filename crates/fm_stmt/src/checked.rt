@@ -43,7 +43,12 @@ fn read_so(token: Token) -> Token
 fn known(alloc: Global, tokens: Vec<Token>) -> Result<Vec<Token>, NoMemory>
     ensures { IfOk result (λ v. v.items ≡ known tokens.items) }
 {
-    Ok(tokens.into_iter().map(|token| read_so(token)).collect(alloc)?)
+    Ok(
+        tokens
+            .into_iter()
+            .map(|token| read_so(token))
+            .collect(alloc)?,
+    )
 }
 
 // The tokens of a text as they are read, and whether a number is over the greatest one.

@@ -149,11 +149,7 @@ fn a_head(
 }
 
 #[cycle(fields)]
-fn a_field(
-    alloc: Global,
-    depth: usize,
-    tokens: &[Token],
-) -> Result<(Field, &[Token]), ReadFail>
+fn a_field(alloc: Global, depth: usize, tokens: &[Token]) -> Result<(Field, &[Token]), ReadFail>
     ensures { Gives (λ p. (p.0, p.1.now)) result (field_read (fields_read depth) tokens.now) }
 {
     let ((kind, name), rest) = a_head(alloc, depth, tokens)?;
@@ -224,11 +220,7 @@ fn listed_fields(
 
 // The fields of a message, of ports in ports up to a depth.
 #[cycle(fields)]
-fn fields(
-    alloc: Global,
-    depth: usize,
-    tokens: &[Token],
-) -> Result<(PortType, &[Token]), ReadFail>
+fn fields(alloc: Global, depth: usize, tokens: &[Token]) -> Result<(PortType, &[Token]), ReadFail>
     ensures { Gives (λ p. (p.0, p.1.now)) result (fields_read depth tokens.now) }
 {
     if depth == 0 {

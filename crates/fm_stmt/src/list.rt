@@ -5,8 +5,8 @@ ghost use Rattle.fm_base.specs.declared.token.Token.{Token};
 ghost use Rattle.fm_stmt.specs.Gives.{Gives};
 ghost use Rattle.fm_stmt.specs.Reading.{before_read, bracketed_read, listed_read, maybe_read, more_read, parens_read, some_read, with_front};
 
-use crate::mark::{is_comma, Mark};
-use crate::reader::{a_mark, front, goes_on, starts_with, ReadFail};
+use crate::mark::{Mark, is_comma};
+use crate::reader::{ReadFail, a_mark, front, goes_on, starts_with};
 use fm_base::{Seq, Token};
 use std::alloc::Global;
 
@@ -49,10 +49,7 @@ fn grow<F: Form>(
 }
 
 /// Items, each behind a comma.
-pub fn more<F: Form>(
-    alloc: Global,
-    tokens: &[Token],
-) -> Result<(Seq<F::Item>, &[Token]), ReadFail>
+pub fn more<F: Form>(alloc: Global, tokens: &[Token]) -> Result<(Seq<F::Item>, &[Token]), ReadFail>
     ensures { Gives (λ p. (p.0, p.1.now)) result (more_read F.reads tokens.now) }
 {
     let (items, rest) = grow::<F>(alloc, Vec::new(alloc), tokens)?;
@@ -60,10 +57,7 @@ pub fn more<F: Form>(
 }
 
 /// One item or more, with commas between.
-pub fn some<F: Form>(
-    alloc: Global,
-    tokens: &[Token],
-) -> Result<(Seq<F::Item>, &[Token]), ReadFail>
+pub fn some<F: Form>(alloc: Global, tokens: &[Token]) -> Result<(Seq<F::Item>, &[Token]), ReadFail>
     ensures { Gives (λ p. (p.0, p.1.now)) result (some_read F.reads tokens.now) }
 {
     let (first, rest) = F::read_one(alloc, tokens)?;

@@ -4,9 +4,9 @@ ghost use Rattle.std.specs.Prelude.{◌≡◌, [], ◌∷◌, MatchOption, Some,
 ghost use Rattle.fm_stmt.specs.Gives.{Gives};
 ghost use Rattle.fm_stmt.specs.Reading.{is, assigned_at, constant_at, expr_read, flag_read, label_at, mark_at, name_at, nothing_left, starts, is_open, opens};
 
-use crate::mark::{is_close, is_mark, Mark, Word};
+use crate::mark::{Mark, Word, is_close, is_mark};
 use fm_base::{Label, Name, NoMemory, Seq, Token};
-use fm_expr::{expr, ExprFail};
+use fm_expr::{ExprFail, expr};
 use fm_tree::Expr;
 use std::alloc::{AllocError, AllocFailed, Global};
 

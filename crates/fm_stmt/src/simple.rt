@@ -8,9 +8,7 @@ ghost use Rattle.fm_tree.specs.declared.statement.Simple.TheVariants as simple;
 
 use crate::list::{Form, listed, maybe_listed, more, some};
 use crate::mark::{Mark, Word};
-use crate::parts::{
-    ExprForm, ItemForm, VarForm, a_port, a_unit, assigned, extras,
-};
+use crate::parts::{ExprForm, ItemForm, VarForm, a_port, a_unit, assigned, extras};
 use crate::reader::{ReadFail, a_label, a_mark, a_name, an_expr, at_end, starts_with};
 use fm_base::{Class, Token};
 use fm_tree::{Simple, Var};
@@ -92,10 +90,7 @@ fn a_write(alloc: Global, tokens: &[Token]) -> Result<Simple, ReadFail>
 }
 
 // IN = var , OUT = var, also OUT first
-fn two_ports(
-    alloc: Global,
-    tokens: &[Token],
-) -> Result<((bool, (Var, Var)), &[Token]), ReadFail>
+fn two_ports(alloc: Global, tokens: &[Token]) -> Result<((bool, (Var, Var)), &[Token]), ReadFail>
     ensures { Gives (λ p. (p.0, p.1.now)) result (two_ports_part.read tokens.now) }
 {
     if starts_with(Mark::Word(Word::In), tokens) {
@@ -228,11 +223,7 @@ fn a_probe(alloc: Global, tokens: &[Token]) -> Result<Simple, ReadFail>
 }
 
 /// What stands behind the keyword of a class, all of the tokens.
-pub fn keyed_simple(
-    alloc: Global,
-    class: Class,
-    tokens: &[Token],
-) -> Result<Simple, ReadFail>
+pub fn keyed_simple(alloc: Global, class: Class, tokens: &[Token]) -> Result<Simple, ReadFail>
     ensures { Gives (λ s. s) result (keyed_simple class tokens.now) }
 {
     match class {

@@ -28,10 +28,7 @@ fn a_program(alloc: Global, tokens: &[Token]) -> Result<Stmt, ReadFail>
 }
 
 // name [( [list(name)] )]
-fn a_heading(
-    alloc: Global,
-    tokens: &[Token],
-) -> Result<(Name, Option<Seq<Name>>), ReadFail>
+fn a_heading(alloc: Global, tokens: &[Token]) -> Result<(Name, Option<Seq<Name>>), ReadFail>
     ensures { Gives (λ p. p) result (whole heading_part.read tokens.now) }
 {
     let (name, rest) = a_name(alloc, tokens)?;
@@ -395,4 +392,3 @@ pub fn read_statement(alloc: Global, tokens: &[Token]) -> Result<Stmt, ReadFail>
         _ => Ok(Stmt::Simple(simple(alloc, tokens)?)),
     }
 }
-
