@@ -1,10 +1,9 @@
 -- What a card may break, and what it does not.
-use Rattle.std.proofs.Common.{◌≡◌, ◌≢◌, ℕ, suc, zero, ◌<◌, ◌≤◌, Bool, true, false, Option, Some, None, Result, Ok, Err, MatchOption, List, [], ◌∷◌, length, slice_index_or, Contains, refl, sym, ◌∙◌, ap, subst, arith}
+use Rattle.std.proofs.Common.{◌≡◌, ℕ, suc, zero, ◌<◌, ◌≤◌, Bool, true, false, Option, Some, None, Result, Ok, Err, MatchOption, List, [], ◌∷◌, length, slice_index_or, Contains, refl, sym, ◌∙◌, ap, subst, arith}
 use Rattle.fm_base.specs.declared.name.Label.{Label}
 use Rattle.fm_base.specs.declared.name.Line.{Line}
 use Rattle.fm_base.specs.declared.rule.CheckFail.{CheckFail}
 use Rattle.fm_base.specs.declared.rule.CheckFail.TheVariants.{Refused}
-use Rattle.fm_base.specs.declared.rule.Refusal.{Refusal}
 use Rattle.fm_base.specs.declared.rule.Rule.{Rule}
 use Rattle.fm_base.specs.declared.rule.Rule.TheVariants as rule
 use Rattle.fm_base.specs.declared.token.Token.{Token}
@@ -20,7 +19,7 @@ use Rattle.fm_stmt.specs.declared.reader.ReadFail.TheVariants.{Bad, NoMemory}
 use Rattle.fm_stmt.specs.Gives.{Fails}
 use Rattle.fm_stmt.specs.Statements.{statement_at}
 use Rattle.fm_stmt.specs.Names.{names_of, has_long}
-use Rattle.fm_stmt.specs.Checked.{IsTreeOf, HasCut, IsRead, IsBroken, BreaksRule, IsStatementOf, OneTree, OneStatement, AllOfPhaseOne, is_big, has_big, known, rule_of}
+use Rattle.fm_stmt.specs.Checked.{IsTreeOf, HasCut, IsRead, IsBroken, BreaksRule, OneTree, OneStatement, AllOfPhaseOne, has_big, known, rule_of}
 use Rattle.fm_stmt.proofs.ExactStatements.{statement_sound, statement_complete}
 
 -- a text has one cut

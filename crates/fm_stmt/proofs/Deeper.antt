@@ -1,5 +1,5 @@
 -- The fields of a message, one level down.
-use Rattle.std.proofs.Common.{◌≡◌, ℕ, suc, zero, ◌-◌, ◌<◌, List, refl, sym, ap, arith}
+use Rattle.std.proofs.Common.{◌≡◌, ℕ, suc, zero, ◌-◌, ◌<◌, List, ap, arith}
 use Rattle.fm_base.specs.declared.token.Token.{Token}
 use Rattle.fm_tree.specs.PortReading.{fields_of}
 use Rattle.fm_stmt.specs.Reading.{listed_read, over_read}

@@ -1,17 +1,16 @@
 -- What is read is spelled so, and what is spelled so is read: single parts, and parts joined to others.
-use Rattle.std.proofs.Common.{◌≡◌, ℕ, suc, zero, ◌≤◌, Bool, true, false, not, cond, Option, Some, None, ◌⊎◌, List, [], ◌∷◌, ◌++◌, length, drop, refl, sym, ◌∙◌, ap, subst, append_assoc, length-append, inl, inr, arith}
+use Rattle.std.proofs.Common.{◌≡◌, ℕ, ◌≤◌, Bool, true, false, not, cond, Option, Some, None, ◌⊎◌, List, [], ◌∷◌, ◌++◌, length, drop, refl, sym, ◌∙◌, ap, subst, append_assoc, inl, inr}
 use Rattle.std.proofs.lemmas.List.{append-nil}
 use Rattle.std.proofs.lemmas.Bool.{le-leb, leb-true}
 use Rattle.std.proofs.Math.Dec.{leb}
 use Rattle.std.proofs.Math.Seq.{drop-append_seam}
 use Rattle.std.proofs.lemmas.Cmp.{nat_list_eq_equiv}
 use Rattle.std.specs.Cmp.Lexicographic.{same_text}
-use Rattle.std.specs.Prelude.{ℤ, pos, negsuc, ◌&&◌}
+use Rattle.std.specs.Prelude.{pos, negsuc, ◌&&◌}
 use Rattle.fm_base.specs.declared.name.Label.{Label}
 use Rattle.fm_base.specs.declared.token.Op.TheVariants as op
 use Rattle.fm_base.specs.declared.token.Token.{Token}
 use Rattle.fm_base.specs.declared.token.Token.TheVariants as token
-use Rattle.fm_tree.specs.Tree.{Tree}
 use Rattle.fm_tree.specs.Spelling.{spelling}
 use Rattle.fm_tree.specs.Shape.{IsWellShaped}
 use Rattle.fm_tree.specs.Forms.{either_spelled, EitherShape, perhaps_spelled, PerhapsShape, flag_spelled}
@@ -21,7 +20,7 @@ use Rattle.fm_expr.proofs.Laws.{expr_at_sound, expr_at_whole}
 use Rattle.fm_stmt.specs.declared.mark.Mark.{Mark}
 use Rattle.fm_stmt.specs.declared.mark.Mark.TheVariants as mark
 use Rattle.fm_stmt.specs.declared.mark.Word.{Word}
-use Rattle.fm_stmt.specs.Reading.{Part, Read, Ends, starts, token_of, word_text, is, is_text, is_word, any_token, name, label, constant, expr, stops_expr, mark_at, behind, before, pair, over, over_read, either, perhaps, maybe, flag, whole, nothing_left, ◌>>=◌}
+use Rattle.fm_stmt.specs.Reading.{Part, Read, Ends, starts, token_of, word_text, is, is_word, any_token, name, label, constant, expr, stops_expr, mark_at, behind, before, pair, over, over_read, either, perhaps, maybe, flag, whole, nothing_left, ◌>>=◌}
 
 pub record IsExact {X : Type 0} (g : Part X) : Type 0 where
   pub sound : (ts : List Token) (x : X) (rest : List Token) → g.read ts ≡ Some (x, rest) → g.form.Shape x × (ts ≡ g.form.spelled x ++ rest)

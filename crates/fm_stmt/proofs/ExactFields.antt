@@ -1,28 +1,22 @@
 -- What is read is spelled so, and what is spelled so is read: types of ports.
-use Rattle.std.proofs.Common.{◌≡◌, ℕ, suc, zero, ◌+◌, ◌≤◌, Bool, true, false, not, cond, Option, Some, None, List, [], ◌∷◌, ◌++◌, length, take, drop, refl, sym, ◌∙◌, ap, subst, append_assoc, length-append, codes, arith}
+use Rattle.std.proofs.Common.{◌≡◌, ℕ, suc, zero, ◌+◌, ◌≤◌, true, false, not, cond, Option, Some, None, List, [], ◌∷◌, ◌++◌, length, take, drop, refl, sym, ◌∙◌, ap, subst, append_assoc, length-append, codes, arith}
 use Rattle.std.proofs.lemmas.List.{append-nil, take-append-drop}
-use Rattle.std.proofs.lemmas.Bool.{eqb-true}
-use Rattle.std.proofs.Math.Dec.{eqb}
 use Rattle.std.specs.Cmp.Lexicographic.{same_text}
 use Rattle.std.specs.Prelude.{◌&&◌, IsTrue}
 use Rattle.fm_base.specs.declared.token.Token.{Token}
 use Rattle.fm_base.specs.declared.token.Token.TheVariants as token
-use Rattle.fm_tree.specs.Forms.{Form, perhaps_spelled, PerhapsShape, more_spelled, list_spelled, AllShape}
+use Rattle.fm_tree.specs.Forms.{perhaps_spelled, PerhapsShape, more_spelled, list_spelled, AllShape}
 use Rattle.fm_tree.specs.PortFields.{PortFields, FieldKind, NoFields, FieldThen, Integer, Logical, In, Out, fields_count, kind_count}
 use Rattle.fm_tree.specs.PortReading.{kind_of, fields_of}
 use Rattle.fm_tree.specs.declared.port_type.Bound.{Bound}
 use Rattle.fm_tree.specs.declared.port_type.Field.{Field}
 use Rattle.fm_tree.specs.declared.port_type.Kind.{Kind}
 use Rattle.fm_tree.specs.declared.port_type.Kind.TheVariants as kind
-use Rattle.fm_tree.specs.Parts as forms
 use Rattle.fm_tree.specs.Parts.{kind_spelled, fields_spelled, more_fields_spelled, word_with, name_tokens, is_name_text, AreBoundsOf, PartsFromKeyword, IsKindShaped, AreFieldsShaped}
-use Rattle.fm_stmt.specs.declared.mark.Mark.TheVariants.{Open, Close, Comma}
-use Rattle.fm_stmt.specs.declared.mark.Word.{Word}
-use Rattle.fm_stmt.specs.declared.mark.Word.TheVariants as word
-use Rattle.fm_stmt.specs.Reading.{Part, Read, Ends, starts, any_token, is_text, is_open, is_close, is_comma, opens, word_text, name, parens, pair, perhaps, over_read, listed, listed_read, bracketed, ◌>>=◌}
+use Rattle.fm_stmt.specs.Reading.{Part, Read, Ends, starts, any_token, is_text, is_open, is_close, opens, name, parens, pair, perhaps, over_read, listed, listed_read, bracketed, ◌>>=◌}
 use Rattle.fm_stmt.specs.Parts.{bound_part}
-use Rattle.fm_stmt.specs.Fields.{behind_text, name_behind, Head, head_behind, logical_head, scalar_head_of, scalar_head, is_named, port_read, word_head, head_read, bounds_read, field_of, field_read, fields_read, port_type_read, port_type_part}
-use Rattle.fm_stmt.proofs.Exact.{IsExact, Begins, Leads, bind_some, same_value, made_of, both, not_true, ends_any, ends_left, ends_right, exact_name, exact_pair, exact_perhaps}
+use Rattle.fm_stmt.specs.Fields.{behind_text, name_behind, Head, head_behind, logical_head, scalar_head_of, scalar_head, is_named, port_read, word_head, head_read, bounds_read, field_of, field_read, fields_read, port_type_part}
+use Rattle.fm_stmt.proofs.Exact.{IsExact, Begins, bind_some, same_value, made_of, ends_any, ends_left, ends_right, exact_name, exact_pair, exact_perhaps}
 use Rattle.fm_stmt.proofs.ExactLists.{exact_listed, exact_parens, exact_bracketed}
 use Rattle.fm_stmt.proofs.ExactParts.{exact_bound}
 

@@ -1,5 +1,5 @@
 -- Long names of two lists.
-use Rattle.std.proofs.Common.{◌≡◌, List, ◌++◌, [], ◌∷◌, Bool, true, false, Option, Some, None, refl, sym, ap, ◌∙◌}
+use Rattle.std.proofs.Common.{◌≡◌, ◌++◌}
 use Rattle.std.proofs.lemmas.List.Folds.{list_any-append}
 use Rattle.std.specs.Prelude.{◌||◌}
 use Rattle.fm_stmt.specs.Names.{Names, is_long, has_long}

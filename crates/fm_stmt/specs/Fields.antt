@@ -1,19 +1,17 @@
 -- How the types of ports are read: the fields of a message, some of which are ports themselves.
 -- Source: the Fortran M report, and this profile for the names of fields.
-use Rattle.std.specs.Prelude.{ℕ, suc, zero, Bool, true, false, not, ◌&&◌, ◌==◌, if◌then◌else◌, Option, Some, None, List, [], ◌∷◌, ◌++◌, length, take, drop}
+use Rattle.std.specs.Prelude.{ℕ, suc, zero, Bool, true, false, if◌then◌else◌, Option, Some, None, List, [], ◌∷◌, length, take, drop}
 use Rattle.fm_base.specs.declared.token.Token.{Token}
 use Rattle.fm_base.specs.declared.token.Token.TheVariants as token
-use Rattle.fm_tree.specs.PortFields.{PortFields, FieldKind, NoFields, FieldThen, Integer, Logical, In, Out}
-use Rattle.fm_tree.specs.PortReading.{kind_of, fields_of}
+use Rattle.fm_tree.specs.PortFields.{PortFields}
+use Rattle.fm_tree.specs.PortReading.{fields_of}
 use Rattle.fm_tree.specs.declared.port_type.Bound.{Bound}
 use Rattle.fm_tree.specs.declared.port_type.Field.{Field}
 use Rattle.fm_tree.specs.declared.port_type.Kind.{Kind}
 use Rattle.fm_tree.specs.declared.port_type.Kind.TheVariants as kind
 use Rattle.fm_tree.specs.Parts as forms
-use Rattle.fm_stmt.specs.declared.mark.Mark.TheVariants.{Open, Close, Comma}
-use Rattle.fm_stmt.specs.declared.mark.Word.{Word}
 use Rattle.fm_stmt.specs.declared.mark.Word.TheVariants as word
-use Rattle.fm_stmt.specs.Reading.{Part, Read, any_token, is_text, is_open, word_text, name, name_at, parens, parens_read, pair_read, perhaps_read, over_read, listed_read, bracketed_read, ◌>>=◌}
+use Rattle.fm_stmt.specs.Reading.{Part, Read, any_token, is_text, word_text, name_at, parens_read, pair_read, perhaps_read, over_read, listed_read, bracketed_read, ◌>>=◌}
 use Rattle.fm_stmt.specs.Parts.{bound_part}
 
 -- what stands behind a first text

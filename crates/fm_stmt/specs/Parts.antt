@@ -28,7 +28,6 @@ use Rattle.fm_tree.specs.Parts as forms
 use Rattle.fm_stmt.specs.declared.mark.Mark.TheVariants.{Open, Close, Comma, Equals, Colon, Star}
 use Rattle.fm_stmt.specs.declared.mark.Word.TheVariants as word
 use Rattle.fm_stmt.specs.Reading.{Part, Read, any_token, is_text, is_word, word_text, name, label, expr, constant, behind, before, parens, assigned, pair, over, either, perhaps, maybe, flag, may_assign, more, some_of, listed, bracketed, such_that, until, ◌>>=◌}
-use Rattle.fm_stmt.specs.declared.mark.Mark.{Mark}
 use Rattle.fm_stmt.specs.declared.mark.Mark.TheVariants as mark
 
 -- name [( list(expr) )]

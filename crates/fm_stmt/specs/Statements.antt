@@ -1,7 +1,6 @@
 -- How statements are read from all of their tokens.
 -- Source: ANSI X3.9-1978, sections 8, 10 to 13 and 15, the Fortran M report for processes and channels, MIL-STD-1753 for DO WHILE and ENDDO.
 use Rattle.std.specs.Prelude.{ℕ, Bool, Option, Some, None, List, [], ◌∷◌}
-use Rattle.fm_base.specs.declared.name.Label.{Label}
 use Rattle.fm_base.specs.declared.token.Class.{Class}
 use Rattle.fm_base.specs.declared.token.Class.TheVariants as class
 use Rattle.fm_base.specs.declared.token.Token.{Token}
@@ -24,7 +23,7 @@ use Rattle.fm_tree.specs.Statements as forms
 use Rattle.fm_stmt.specs.declared.mark.Mark.TheVariants.{Open, Close, Comma, Equals, Star}
 use Rattle.fm_stmt.specs.declared.mark.Mark.TheVariants as mark
 use Rattle.fm_stmt.specs.declared.mark.Word.TheVariants as word
-use Rattle.fm_stmt.specs.Reading.{Part, Read, no_token, is_word, name, label, expr, behind, before, parens, assigned, pair, maybe, swapped, more, some_of, listed, whole, nothing_left, ◌>>=◌}
+use Rattle.fm_stmt.specs.Reading.{Part, no_token, is_word, name, label, expr, behind, before, parens, assigned, pair, maybe, swapped, more, some_of, listed, whole, nothing_left, ◌>>=◌}
 use Rattle.fm_stmt.specs.Parts.{var_part, decl_part, array_part, defined_part, way_part, loop_part, item_part, unit_part, port_part, extras_part, call_part_part}
 use Rattle.fm_stmt.specs.Fields.{port_type_part}
 

@@ -1,6 +1,5 @@
 use Rattle.std.proofs.Common.{◌≡◌, drop}
-use Rattle.std.specs.List.{flat_map}
-use Rattle.fm_stmt.specs.Names.{has_long, tree_names, trees_names}
+use Rattle.fm_stmt.specs.Names.{has_long, trees_names}
 use Rattle.fm_tree.specs.Tree.{node_count, node_counts, trees_from}
 use Rattle.fm_stmt.proofs.names.+expressions.Given as goal
 
