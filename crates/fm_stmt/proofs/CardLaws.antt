@@ -14,9 +14,9 @@ use Rattle.fm_cards.specs.declared.card.Card.{Card}
 use Rattle.fm_token.specs.Statements.{IsTokens}
 use Rattle.fm_tree.specs.declared.program_unit.Placed.{Placed}
 use Rattle.fm_tree.specs.declared.statement.Stmt.{Stmt}
-use Rattle.fm_stmt.specs.declared.reader.ReadFail.{ReadFail}
-use Rattle.fm_stmt.specs.declared.reader.ReadFail.TheVariants.{Bad, NoMemory}
-use Rattle.fm_stmt.specs.Gives.{Fails}
+use Rattle.fm_parts.specs.declared.reader.ReadFail.{ReadFail}
+use Rattle.fm_parts.specs.declared.reader.ReadFail.TheVariants.{Bad, NoMemory}
+use Rattle.fm_parts.specs.Gives.{Fails}
 use Rattle.fm_stmt.specs.Statements.{statement_at}
 use Rattle.fm_stmt.specs.Names.{names_of, has_long}
 use Rattle.fm_stmt.specs.Checked.{IsTreeOf, HasCut, IsRead, IsBroken, BreaksRule, OneTree, OneStatement, AllOfPhaseOne, has_big, known, rule_of}

@@ -1,10 +1,3 @@
-pub mod Exact
-pub mod ExactLists
-pub mod MoreLaws
-pub mod ExactParts
-pub mod Extras
-pub mod ExactFields
 pub mod ExactStatements
-pub mod Deeper
 pub mod Long
 pub mod CardLaws

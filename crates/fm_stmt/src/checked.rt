@@ -9,10 +9,10 @@ ghost use Rattle.fm_tree.specs.declared.statement.Stmt.{Stmt};
 ghost use Rattle.fm_stmt.specs.Names.{has_long, names_of};
 
 use crate::names::statement_long;
-use crate::reader::ReadFail;
 use crate::statements::read_statement;
 use fm_base::{CheckFail, Line, NoMemory, Refusal, Rule, Token};
 use fm_cards::Card;
+use fm_parts::ReadFail;
 use fm_token::{TokenFail, tokens, tokens_are_one};
 use fm_tree::{Placed, Stmt};
 use std::alloc::Global;

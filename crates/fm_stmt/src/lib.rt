@@ -2,12 +2,7 @@
 #![tactic(auto)]
 
 mod checked;
-mod fields;
-mod list;
-mod mark;
 mod names;
-mod parts;
-mod reader;
 mod simple;
 mod statements;
 

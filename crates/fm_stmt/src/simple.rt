@@ -1,16 +1,16 @@
 //! Statements that may stand behind a logical IF.
 
-ghost use Rattle.fm_stmt.specs.Gives.{Gives};
-ghost use Rattle.fm_stmt.specs.Reading.{parens_read};
-ghost use Rattle.fm_stmt.specs.Parts.{port_part};
+ghost use Rattle.fm_parts.specs.Gives.{Gives};
+ghost use Rattle.fm_parts.specs.Reading.{parens_read};
+ghost use Rattle.fm_parts.specs.Parts.{port_part};
 ghost use Rattle.fm_stmt.specs.Statements.{all, assignment_part, keyed_simple, simple_at, two_ports_part};
 ghost use Rattle.fm_tree.specs.declared.statement.Simple.TheVariants as simple;
 
-use crate::list::{Form, listed, maybe_listed, more, some};
-use crate::mark::{Mark, Word};
-use crate::parts::{ExprForm, ItemForm, VarForm, a_port, a_unit, assigned, extras};
-use crate::reader::{ReadFail, a_label, a_mark, a_name, an_expr, at_end, starts_with};
 use fm_base::{Class, Token};
+use fm_parts::{
+    ExprForm, Form, ItemForm, Mark, ReadFail, VarForm, Word, a_label, a_mark, a_name, a_port,
+    a_unit, an_expr, assigned, at_end, extras, listed, maybe_listed, more, some, starts_with,
+};
 use fm_tree::{Simple, Var};
 use std::alloc::Global;
 

@@ -1,20 +1,18 @@
 //! The forms of statements.
 
-ghost use Rattle.fm_stmt.specs.Gives.{Gives};
-ghost use Rattle.fm_stmt.specs.Reading.{expr_read, maybe_read, parens_read, whole};
-ghost use Rattle.fm_stmt.specs.Parts.{call_part_part, loop_part};
+ghost use Rattle.fm_parts.specs.Gives.{Gives};
+ghost use Rattle.fm_parts.specs.Reading.{expr_read, maybe_read, parens_read, whole};
+ghost use Rattle.fm_parts.specs.Parts.{call_part_part, loop_part};
 ghost use Rattle.fm_stmt.specs.Statements.{keyed_simple, made, declaration_part, function_part, heading_part, keyed_statement, ports_part, statement_at, then_part};
 ghost use Rattle.fm_tree.specs.declared.statement.Stmt.TheVariants as stmt;
 
-use crate::fields::a_port_type;
-use crate::list::{listed, maybe_listed, some, some_in_parens};
-use crate::mark::{Mark, Word};
-use crate::parts::{
-    ArrayForm, DeclForm, DefinedForm, ExprForm, NameForm, a_call_part, a_loop_head, a_way,
-};
-use crate::reader::{ReadFail, a_mark, a_name, an_expr, at_end, starts_with};
 use crate::simple::{keyed_simple, simple};
 use fm_base::{Class, Name, Seq, Token};
+use fm_parts::{
+    ArrayForm, DeclForm, DefinedForm, ExprForm, Mark, NameForm, ReadFail, Word, a_call_part,
+    a_loop_head, a_mark, a_name, a_port_type, a_way, an_expr, at_end, listed, maybe_listed, some,
+    some_in_parens, starts_with,
+};
 use fm_tree::{CallPart, Decl, Expr, LoopHead, PortType, Stmt, Way};
 use std::alloc::Global;
 

@@ -1,6 +1,6 @@
 use Rattle.std.proofs.Common.{◌≡◌, ◌≤◌, ◌+◌, drop}
 use Rattle.fm_tree.specs.Parts.{ends_in}
-use Rattle.fm_stmt.proofs.parts.ends_in.Given as goal
+use Rattle.fm_parts.proofs.parts.ends_in.Given as goal
 
 -- what has been counted, and what is left
 abbrev pub invariant-extras : goal.invariant-extras

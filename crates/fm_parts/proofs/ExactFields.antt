@@ -13,12 +13,12 @@ use Rattle.fm_tree.specs.declared.port_type.Field.{Field}
 use Rattle.fm_tree.specs.declared.port_type.Kind.{Kind}
 use Rattle.fm_tree.specs.declared.port_type.Kind.TheVariants as kind
 use Rattle.fm_tree.specs.Parts.{kind_spelled, fields_spelled, more_fields_spelled, word_with, name_tokens, is_name_text, AreBoundsOf, PartsFromKeyword, IsKindShaped, AreFieldsShaped}
-use Rattle.fm_stmt.specs.Reading.{Part, Read, Ends, starts, any_token, is_text, is_open, is_close, opens, name, parens, pair, perhaps, over_read, listed, listed_read, bracketed, ◌>>=◌}
-use Rattle.fm_stmt.specs.Parts.{bound_part}
-use Rattle.fm_stmt.specs.Fields.{behind_text, name_behind, Head, head_behind, logical_head, scalar_head_of, scalar_head, is_named, port_read, word_head, head_read, bounds_read, field_of, field_read, fields_read, port_type_part}
-use Rattle.fm_stmt.proofs.Exact.{IsExact, Begins, bind_some, same_value, made_of, ends_any, ends_left, ends_right, exact_name, exact_pair, exact_perhaps}
-use Rattle.fm_stmt.proofs.ExactLists.{exact_listed, exact_parens, exact_bracketed}
-use Rattle.fm_stmt.proofs.ExactParts.{exact_bound}
+use Rattle.fm_parts.specs.Reading.{Part, Read, Ends, starts, any_token, is_text, is_open, is_close, opens, name, parens, pair, perhaps, over_read, listed, listed_read, bracketed, ◌>>=◌}
+use Rattle.fm_parts.specs.Parts.{bound_part}
+use Rattle.fm_parts.specs.Fields.{behind_text, name_behind, Head, head_behind, logical_head, scalar_head_of, scalar_head, is_named, port_read, word_head, head_read, bounds_read, field_of, field_read, fields_read, port_type_part}
+use Rattle.fm_parts.proofs.Exact.{IsExact, Begins, bind_some, same_value, made_of, ends_any, ends_left, ends_right, exact_name, exact_pair, exact_perhaps}
+use Rattle.fm_parts.proofs.ExactLists.{exact_listed, exact_parens, exact_bracketed}
+use Rattle.fm_parts.proofs.ExactParts.{exact_bound}
 
 -- no port stands deeper inside than this
 abbrev mutual

@@ -2,9 +2,9 @@
 
 ghost use Rattle.std.specs.Prelude.{◌≡◌};
 ghost use Rattle.fm_tree.specs.Parts.{ends_in};
-ghost use Rattle.fm_stmt.specs.Gives.{Gives};
-ghost use Rattle.fm_stmt.specs.Reading.{any_token, behind_read, expr_read, name_at, perhaps_read, starts};
-ghost use Rattle.fm_stmt.specs.Parts.{are_each_once, array_part, bound_part, call_part_part, decl_part, defined_part, extra_part, extras_part, is_end, is_number, item_part, location_part, loop_label_part, loop_part, no_constant, port_part, submachine_part, unit_part, var_part, way_of, way_part, where_part};
+ghost use Rattle.fm_parts.specs.Gives.{Gives};
+ghost use Rattle.fm_parts.specs.Reading.{any_token, behind_read, expr_read, name_at, perhaps_read, starts};
+ghost use Rattle.fm_parts.specs.Parts.{are_each_once, array_part, bound_part, call_part_part, decl_part, defined_part, extra_part, extras_part, is_end, is_number, item_part, location_part, loop_label_part, loop_part, no_constant, port_part, submachine_part, unit_part, var_part, way_of, way_part, where_part};
 
 use crate::list::{Form, bracketed, listed, maybe, more, some_in_parens};
 use crate::mark::{Mark, Word};
@@ -302,7 +302,7 @@ pub fn extras(alloc: Global, tokens: &[Token]) -> Result<(Seq<Extra>, &[Token]),
 }
 
 // Whether there are at most one `END =` and one `IOSTAT =`.
-#[tactic(auto, using(crate::proofs::Extras::ends_and_iostats))]
+#[tactic(auto, using(crate::proofs::ExtraCounts::ends_and_iostats))]
 fn are_each_once(extras: &[Extra]) -> bool
     ensures { result ≡ are_each_once extras.now }
 {

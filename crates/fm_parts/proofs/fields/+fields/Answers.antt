@@ -1,11 +1,11 @@
 use Rattle.std.proofs.Common.{List, Some, ◌-◌, ◌+◌, ◌<◌, ◌≡◌, ◌∙◌, sym, ap, length, arith, refl}
 use Rattle.fm_base.specs.declared.token.Token.{Token}
-use Rattle.fm_stmt.specs.Reading.{Read, items_read, with_front}
-use Rattle.fm_stmt.specs.Fields.{field_read, fields_read}
+use Rattle.fm_parts.specs.Reading.{Read, items_read, with_front}
+use Rattle.fm_parts.specs.Fields.{field_read, fields_read}
 use Rattle.fm_tree.specs.declared.port_type.Field.{Field}
-use Rattle.fm_stmt.proofs.Deeper.{deeper}
-use Rattle.fm_stmt.proofs.MoreLaws.{at_nothing, at_other, at_bad, grown, carries}
-use Rattle.fm_stmt.proofs.fields.+fields.Goals as goal
+use Rattle.fm_parts.proofs.Deeper.{deeper}
+use Rattle.fm_parts.proofs.MoreLaws.{at_nothing, at_other, at_bad, grown, carries}
+use Rattle.fm_parts.proofs.fields.+fields.Goals as goal
 
 pub fields-returns : goal.fields-returns
 fields-returns t c = let h : 0 < c.args.depth = omega arith in rw (deeper c.args.depth c.args.tokens.now h) c.listed_fields.ensures

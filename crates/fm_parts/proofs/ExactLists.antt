@@ -4,11 +4,11 @@ use Rattle.std.specs.Prelude.{◌&&◌}
 use Rattle.fm_base.specs.declared.token.Token.{Token}
 use Rattle.fm_base.specs.declared.token.Token.TheVariants as token
 use Rattle.fm_tree.specs.Forms.{more_spelled, list_spelled, bracketed_spelled, AllShape, SomeShape, may_assign_spelled, swapped_spelled}
-use Rattle.fm_stmt.specs.declared.mark.Mark.{Mark}
-use Rattle.fm_stmt.specs.declared.mark.Mark.TheVariants as mark
-use Rattle.fm_stmt.specs.declared.mark.Word.{Word}
-use Rattle.fm_stmt.specs.Reading.{Part, Read, Ends, starts, token_of, word_text, is, is_open, is_close, is_comma, is_equals, mark_at, behind, before, parens, pair, pair_read, over_read, more, more_read, items_read, some_of, some_read, joined, listed, opens, bracketed, such_that, until, two_read, swapped, assigned_at, may_assign, may_assign_from, ◌>>=◌}
-use Rattle.fm_stmt.proofs.Exact.{IsExact, Begins, Leads, bind_some, same_value, made_of, both, not_true, ends_left, ends_right, not_started, is_token, mark_sound, mark_complete, exact_behind, exact_before, exact_pair}
+use Rattle.fm_parts.specs.declared.mark.Mark.{Mark}
+use Rattle.fm_parts.specs.declared.mark.Mark.TheVariants as mark
+use Rattle.fm_parts.specs.declared.mark.Word.{Word}
+use Rattle.fm_parts.specs.Reading.{Part, Read, Ends, starts, token_of, word_text, is, is_open, is_close, is_comma, is_equals, mark_at, behind, before, parens, pair, pair_read, over_read, more, more_read, items_read, some_of, some_read, joined, listed, opens, bracketed, such_that, until, two_read, swapped, assigned_at, may_assign, may_assign_from, ◌>>=◌}
+use Rattle.fm_parts.proofs.Exact.{IsExact, Begins, Leads, bind_some, same_value, made_of, both, not_true, ends_left, ends_right, not_started, is_token, mark_sound, mark_complete, exact_behind, exact_before, exact_pair}
 
 pub exact_more : {X : Type 0} (g : Part X) → IsExact g → g.stop token.Comma ≡ true → IsExact (more g)
 exact_more {X} g x k = record {

@@ -1,8 +1,8 @@
 use Rattle.std.proofs.Common.{List, Some, ◌-◌, ◌+◌, ◌≡◌, ◌∙◌, sym, ap, length, arith, refl}
 use Rattle.fm_base.specs.declared.token.Token.{Token}
-use Rattle.fm_stmt.specs.Reading.{items_read, with_front}
-use Rattle.fm_stmt.proofs.MoreLaws.{at_nothing, at_other, at_bad, grown, carries}
-use Rattle.fm_stmt.proofs.list.grow.Goals as goal
+use Rattle.fm_parts.specs.Reading.{items_read, with_front}
+use Rattle.fm_parts.proofs.MoreLaws.{at_nothing, at_other, at_bad, grown, carries}
+use Rattle.fm_parts.proofs.list.grow.Goals as goal
 
 pub returns-in_default : goal.returns-in_default
 returns-in_default g c =

@@ -2,8 +2,8 @@
 
 ghost use Rattle.std.specs.Prelude.{List, Option};
 ghost use Rattle.fm_base.specs.declared.token.Token.{Token};
-ghost use Rattle.fm_stmt.specs.Gives.{Gives};
-ghost use Rattle.fm_stmt.specs.Reading.{before_read, bracketed_read, listed_read, maybe_read, more_read, parens_read, some_read, with_front};
+ghost use Rattle.fm_parts.specs.Gives.{Gives};
+ghost use Rattle.fm_parts.specs.Reading.{before_read, bracketed_read, listed_read, maybe_read, more_read, parens_read, some_read, with_front};
 
 use crate::mark::{Mark, is_comma};
 use crate::reader::{ReadFail, a_mark, front, goes_on, starts_with};

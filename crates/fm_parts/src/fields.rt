@@ -3,9 +3,9 @@
 ghost use Rattle.std.specs.Prelude.{◌≡◌, ◌++◌, ◌∷◌, [], length, MatchOption, None, Some};
 ghost use Rattle.std.specs.List.{list_all};
 ghost use Rattle.fm_tree.specs.PortReading.{fields_of};
-ghost use Rattle.fm_stmt.specs.Gives.{Gives};
-ghost use Rattle.fm_stmt.specs.Reading.{listed_read, over_read, some_read, perhaps_read, name_at, starts, with_front, more_read};
-ghost use Rattle.fm_stmt.specs.Fields.{behind_text, bounds_read, field_read, fields_read, head_read, is_named, name_behind, port_read, port_type_part, scalar_head};
+ghost use Rattle.fm_parts.specs.Gives.{Gives};
+ghost use Rattle.fm_parts.specs.Reading.{listed_read, over_read, some_read, perhaps_read, name_at, starts, with_front, more_read};
+ghost use Rattle.fm_parts.specs.Fields.{behind_text, bounds_read, field_read, fields_read, head_read, is_named, name_behind, port_read, port_type_part, scalar_head};
 ghost use Rattle.fm_tree.specs.Parts.{is_letter, is_name_byte, is_name_text};
 
 use crate::list::bracketed;

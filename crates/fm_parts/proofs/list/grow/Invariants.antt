@@ -1,6 +1,6 @@
 use Rattle.std.proofs.Common.{◌≡◌, ◌-◌, length}
-use Rattle.fm_stmt.specs.Reading.{items_read, more_read, with_front}
-use Rattle.fm_stmt.proofs.list.grow.Given as goal
+use Rattle.fm_parts.specs.Reading.{items_read, more_read, with_front}
+use Rattle.fm_parts.proofs.list.grow.Given as goal
 
 -- what has been read, before what the rest gives, is what the whole gives
 abbrev pub invariant-items : goal.invariant-items

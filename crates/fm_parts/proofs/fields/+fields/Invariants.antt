@@ -1,7 +1,7 @@
 use Rattle.std.proofs.Common.{◌≡◌, ◌-◌, ◌*◌, ◌+◌, length}
-use Rattle.fm_stmt.specs.Reading.{items_read, more_read, with_front}
-use Rattle.fm_stmt.specs.Fields.{field_read, fields_read}
-use Rattle.fm_stmt.proofs.fields.+fields.Given as goal
+use Rattle.fm_parts.specs.Reading.{items_read, more_read, with_front}
+use Rattle.fm_parts.specs.Fields.{field_read, fields_read}
+use Rattle.fm_parts.proofs.fields.+fields.Given as goal
 
 abbrev pub decreases-fields : goal.decreases-fields
 decreases-fields l = 7 * l.depth

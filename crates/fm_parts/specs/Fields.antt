@@ -10,9 +10,9 @@ use Rattle.fm_tree.specs.declared.port_type.Field.{Field}
 use Rattle.fm_tree.specs.declared.port_type.Kind.{Kind}
 use Rattle.fm_tree.specs.declared.port_type.Kind.TheVariants as kind
 use Rattle.fm_tree.specs.Parts as forms
-use Rattle.fm_stmt.specs.declared.mark.Word.TheVariants as word
-use Rattle.fm_stmt.specs.Reading.{Part, Read, any_token, is_text, word_text, name_at, parens_read, pair_read, perhaps_read, over_read, listed_read, bracketed_read, ◌>>=◌}
-use Rattle.fm_stmt.specs.Parts.{bound_part}
+use Rattle.fm_parts.specs.declared.mark.Word.TheVariants as word
+use Rattle.fm_parts.specs.Reading.{Part, Read, any_token, is_text, word_text, name_at, parens_read, pair_read, perhaps_read, over_read, listed_read, bracketed_read, ◌>>=◌}
+use Rattle.fm_parts.specs.Parts.{bound_part}
 
 -- what stands behind a first text
 abbrev pub behind_text : List ℕ → List ℕ → Option (List ℕ)

@@ -17,10 +17,10 @@ use Rattle.fm_tree.specs.Forms.{either_spelled, EitherShape, perhaps_spelled, Pe
 use Rattle.fm_expr.specs.Reading.{expr_at}
 use Rattle.fm_expr.specs.Longest.{Stops}
 use Rattle.fm_expr.proofs.Laws.{expr_at_sound, expr_at_whole}
-use Rattle.fm_stmt.specs.declared.mark.Mark.{Mark}
-use Rattle.fm_stmt.specs.declared.mark.Mark.TheVariants as mark
-use Rattle.fm_stmt.specs.declared.mark.Word.{Word}
-use Rattle.fm_stmt.specs.Reading.{Part, Read, Ends, starts, token_of, word_text, is, is_word, any_token, name, label, constant, expr, stops_expr, mark_at, behind, before, pair, over, over_read, either, perhaps, maybe, flag, whole, nothing_left, ◌>>=◌}
+use Rattle.fm_parts.specs.declared.mark.Mark.{Mark}
+use Rattle.fm_parts.specs.declared.mark.Mark.TheVariants as mark
+use Rattle.fm_parts.specs.declared.mark.Word.{Word}
+use Rattle.fm_parts.specs.Reading.{Part, Read, Ends, starts, token_of, word_text, is, is_word, any_token, name, label, constant, expr, stops_expr, mark_at, behind, before, pair, over, over_read, either, perhaps, maybe, flag, whole, nothing_left, ◌>>=◌}
 
 pub record IsExact {X : Type 0} (g : Part X) : Type 0 where
   pub sound : (ts : List Token) (x : X) (rest : List Token) → g.read ts ≡ Some (x, rest) → g.form.Shape x × (ts ≡ g.form.spelled x ++ rest)

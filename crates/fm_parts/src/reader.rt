@@ -1,8 +1,8 @@
 //! Single parts of statements, read from the front of the tokens.
 
 ghost use Rattle.std.specs.Prelude.{◌≡◌, [], ◌∷◌, MatchOption, Some, None};
-ghost use Rattle.fm_stmt.specs.Gives.{Gives};
-ghost use Rattle.fm_stmt.specs.Reading.{is, assigned_at, constant_at, expr_read, flag_read, label_at, mark_at, name_at, nothing_left, starts, is_open, opens};
+ghost use Rattle.fm_parts.specs.Gives.{Gives};
+ghost use Rattle.fm_parts.specs.Reading.{is, assigned_at, constant_at, expr_read, flag_read, label_at, mark_at, name_at, nothing_left, starts, is_open, opens};
 
 use crate::mark::{Mark, Word, is_close, is_mark};
 use fm_base::{Label, Name, NoMemory, Seq, Token};
@@ -19,7 +19,7 @@ pub enum ReadFail {
 }
 
 impl From<NoMemory> for ReadFail {
-    ghost use Rattle.fm_stmt.specs.declared.reader.ReadFail.TheVariants as fails;
+    ghost use Rattle.fm_parts.specs.declared.reader.ReadFail.TheVariants as fails;
 
     ghost from_gives = { λ _ e. e ≡ fails.NoMemory };
 
@@ -29,7 +29,7 @@ impl From<NoMemory> for ReadFail {
 }
 
 impl From<AllocError> for ReadFail {
-    ghost use Rattle.fm_stmt.specs.declared.reader.ReadFail.TheVariants as fails;
+    ghost use Rattle.fm_parts.specs.declared.reader.ReadFail.TheVariants as fails;
 
     ghost from_gives = { λ _ e. e ≡ fails.NoMemory };
 
@@ -39,7 +39,7 @@ impl From<AllocError> for ReadFail {
 }
 
 impl<T: Drop> From<AllocFailed<T>> for ReadFail {
-    ghost use Rattle.fm_stmt.specs.declared.reader.ReadFail.TheVariants as fails;
+    ghost use Rattle.fm_parts.specs.declared.reader.ReadFail.TheVariants as fails;
 
     ghost from_gives = { λ _ e. e ≡ fails.NoMemory };
 

@@ -22,14 +22,14 @@ use Rattle.fm_tree.specs.declared.statement.Extra.TheVariants as extra
 use Rattle.fm_tree.specs.declared.statement.Where.{Where}
 use Rattle.fm_tree.specs.declared.statement.Where.TheVariants as place
 use Rattle.fm_tree.specs.Parts as forms
-use Rattle.fm_stmt.specs.declared.mark.Mark.TheVariants as mark
-use Rattle.fm_stmt.specs.declared.mark.Mark.TheVariants.{Open, Close, Comma, Equals, Colon}
-use Rattle.fm_stmt.specs.declared.mark.Word.{Word}
-use Rattle.fm_stmt.specs.declared.mark.Word.TheVariants as word
-use Rattle.fm_stmt.specs.Reading.{Part, Ends, starts, word_text, is_text, is_word, is_open, is_equals, any_token, opens, name, label, expr, constant, behind, before, parens, assigned, pair, either, perhaps, maybe, flag, more, some_of, listed, bracketed, such_that, mark_at, assigned_at, ◌>>=◌}
-use Rattle.fm_stmt.specs.Parts.{var_part, var_of, bound_part, bound_of, decl_part, decl_of, array_part, defined_part, defined_of, way_part, way_of, way_at, is_number, loop_label_part, loop_label_of, loop_part, loop_of, item_part, item_of, no_constant, unit_part, unit_at, unit_of, number_unit, port_part, extra_part, extra_of, are_each_once, extras_part, location_part, submachine_part, where_part, where_of, call_part_part, call_part_of}
-use Rattle.fm_stmt.proofs.Exact.{IsExact, Begins, bind_some, same_value, both, not_true, ends_any, exact_name, exact_label, exact_constant, exact_expr, exact_behind, exact_before, exact_pair, exact_over, exact_either, exact_perhaps, exact_maybe, exact_flag, leads_maybe}
-use Rattle.fm_stmt.proofs.ExactLists.{exact_more, exact_some, exact_listed, exact_parens, exact_bracketed, exact_such_that, exact_until, exact_may_assign, Unassigned}
+use Rattle.fm_parts.specs.declared.mark.Mark.TheVariants as mark
+use Rattle.fm_parts.specs.declared.mark.Mark.TheVariants.{Open, Close, Comma, Equals, Colon}
+use Rattle.fm_parts.specs.declared.mark.Word.{Word}
+use Rattle.fm_parts.specs.declared.mark.Word.TheVariants as word
+use Rattle.fm_parts.specs.Reading.{Part, Ends, starts, word_text, is_text, is_word, is_open, is_equals, any_token, opens, name, label, expr, constant, behind, before, parens, assigned, pair, either, perhaps, maybe, flag, more, some_of, listed, bracketed, such_that, mark_at, assigned_at, ◌>>=◌}
+use Rattle.fm_parts.specs.Parts.{var_part, var_of, bound_part, bound_of, decl_part, decl_of, array_part, defined_part, defined_of, way_part, way_of, way_at, is_number, loop_label_part, loop_label_of, loop_part, loop_of, item_part, item_of, no_constant, unit_part, unit_at, unit_of, number_unit, port_part, extra_part, extra_of, are_each_once, extras_part, location_part, submachine_part, where_part, where_of, call_part_part, call_part_of}
+use Rattle.fm_parts.proofs.Exact.{IsExact, Begins, bind_some, same_value, both, not_true, ends_any, exact_name, exact_label, exact_constant, exact_expr, exact_behind, exact_before, exact_pair, exact_over, exact_either, exact_perhaps, exact_maybe, exact_flag, leads_maybe}
+use Rattle.fm_parts.proofs.ExactLists.{exact_more, exact_some, exact_listed, exact_parens, exact_bracketed, exact_such_that, exact_until, exact_may_assign, Unassigned}
 
 -- a name comes first, and any token may stand behind it
 pub exact_named : {Y : Type 0} (h : Part Y) → IsExact h → IsExact (pair name h)

@@ -1,7 +1,7 @@
 //! Tokens that a form fixes.
 
 ghost use Rattle.std.specs.Prelude.{◌≡◌};
-ghost use Rattle.fm_stmt.specs.Reading.{is, is_open, is_close, is_comma, is_equals, is_colon, is_star, is_word, word_text};
+ghost use Rattle.fm_parts.specs.Reading.{is, is_open, is_close, is_comma, is_equals, is_colon, is_star, is_word, word_text};
 
 use fm_base::{Op, Token};
 

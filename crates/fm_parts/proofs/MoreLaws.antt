@@ -2,10 +2,10 @@
 use Rattle.std.proofs.Common.{◌≡◌, ℕ, suc, zero, ◌+◌, ◌<◌, true, false, Option, Some, None, List, [], ◌∷◌, ◌++◌, refl, sym, ◌∙◌, ap, append_assoc, arith}
 use Rattle.std.proofs.lemmas.List.{append-nil}
 use Rattle.fm_base.specs.declared.token.Token.{Token}
-use Rattle.fm_stmt.specs.declared.reader.ReadFail.{ReadFail}
-use Rattle.fm_stmt.specs.declared.reader.ReadFail.TheVariants.{Bad, NoMemory}
-use Rattle.fm_stmt.specs.Gives.{Fails}
-use Rattle.fm_stmt.specs.Reading.{Read, is_comma, items_read, with_front, over_read, joined, ◌>>=◌}
+use Rattle.fm_parts.specs.declared.reader.ReadFail.{ReadFail}
+use Rattle.fm_parts.specs.declared.reader.ReadFail.TheVariants.{Bad, NoMemory}
+use Rattle.fm_parts.specs.Gives.{Fails}
+use Rattle.fm_parts.specs.Reading.{Read, is_comma, items_read, with_front, over_read, joined, ◌>>=◌}
 
 pub at_nothing : {X : Type 0} (f : List Token → Read X) (xs : List X) (n : ℕ) → with_front xs (items_read f n []) ≡ Some (xs, [])
 at_nothing f xs zero = ap (λ ys. Some (ys, [])) (append-nil xs)

@@ -25,10 +25,10 @@ use Rattle.fm_tree.specs.declared.statement.Where.{Where}
 use Rattle.fm_tree.specs.declared.statement.Where.TheVariants as place
 use Rattle.fm_tree.specs.declared.statement.CallPart.{CallPart}
 use Rattle.fm_tree.specs.Parts as forms
-use Rattle.fm_stmt.specs.declared.mark.Mark.TheVariants.{Open, Close, Comma, Equals, Colon, Star}
-use Rattle.fm_stmt.specs.declared.mark.Word.TheVariants as word
-use Rattle.fm_stmt.specs.Reading.{Part, Read, any_token, is_text, is_word, word_text, name, label, expr, constant, behind, before, parens, assigned, pair, over, either, perhaps, maybe, flag, may_assign, more, some_of, listed, bracketed, such_that, until, ◌>>=◌}
-use Rattle.fm_stmt.specs.declared.mark.Mark.TheVariants as mark
+use Rattle.fm_parts.specs.declared.mark.Mark.TheVariants.{Open, Close, Comma, Equals, Colon, Star}
+use Rattle.fm_parts.specs.declared.mark.Word.TheVariants as word
+use Rattle.fm_parts.specs.Reading.{Part, Read, any_token, is_text, is_word, word_text, name, label, expr, constant, behind, before, parens, assigned, pair, over, either, perhaps, maybe, flag, may_assign, more, some_of, listed, bracketed, such_that, until, ◌>>=◌}
+use Rattle.fm_parts.specs.declared.mark.Mark.TheVariants as mark
 
 -- name [( list(expr) )]
 abbrev pub var_of : List ℕ × List Tree → Var

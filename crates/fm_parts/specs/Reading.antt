@@ -11,10 +11,10 @@ use Rattle.fm_tree.specs.Tree.{Tree}
 use Rattle.fm_tree.specs.Forms as forms
 use Rattle.fm_tree.specs.Forms.{Form}
 use Rattle.fm_expr.specs.Reading.{expr_at}
-use Rattle.fm_stmt.specs.declared.mark.Mark.{Mark}
-use Rattle.fm_stmt.specs.declared.mark.Mark.TheVariants as mark
-use Rattle.fm_stmt.specs.declared.mark.Word.{Word}
-use Rattle.fm_stmt.specs.declared.mark.Word.TheVariants as word
+use Rattle.fm_parts.specs.declared.mark.Mark.{Mark}
+use Rattle.fm_parts.specs.declared.mark.Mark.TheVariants as mark
+use Rattle.fm_parts.specs.declared.mark.Word.{Word}
+use Rattle.fm_parts.specs.declared.mark.Word.TheVariants as word
 
 -- a value and the tokens behind it
 abbrev pub Read : Type 0 → Type 0

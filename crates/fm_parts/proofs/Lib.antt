@@ -1,0 +1,7 @@
+pub mod Exact
+pub mod ExactLists
+pub mod MoreLaws
+pub mod ExactParts
+pub mod ExtraCounts
+pub mod ExactFields
+pub mod Deeper
