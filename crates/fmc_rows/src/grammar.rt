@@ -199,11 +199,13 @@ const FORMS: [&[u8]; 66] = [
 ];
 
 /// Texts near to them, which are no statements.
-const NEAR: [&[u8]; 46] = [
+const NEAR: [&[u8]; 57] = [
     b"PROGRAM",
     b"PROCESSP(A",
     b"SUBROUTINES(1)",
     b"FUNCTIONF",
+    b"INTEGERFUNCTIONF",
+    b"LOGICALFUNCTIONF(1)",
     b"IMPLICIT",
     b"INTEGER",
     b"LOGICALA,",
@@ -221,13 +223,19 @@ const NEAR: [&[u8]; 46] = [
     b"GOTO99999999999999999999",
     b"IF(L)",
     b"IF(L)END",
+    b"IF()THEN",
     b"ELSEIF(L)",
     b"ELSEX",
+    b"ENDIF1",
     b"DOI=,1",
     b"DO100000I=1,2",
     b"DOI=1,2,3,4",
     b"DOWHILE()",
+    b"ENDDO1",
     b"CONTINUE1",
+    b"RETURN1",
+    b"STOP1",
+    b"END1",
     b"CALLS(",
     b"PRINT*A",
     b"PRINT*,",
@@ -242,9 +250,12 @@ const NEAR: [&[u8]; 46] = [
     b"ENDCHANNEL(PORT=)",
     b"MOVEPORT(TO=Q,FROM=P)",
     b"PROBE(P)",
+    b"PROCESSES,",
+    b"ENDPROCESSES1",
     b"PROCESSCALLPLOCATION(1)(A)",
     b"PROCESSCALLP(A)SUBMACHINE(1)",
     b"PROCESSDOI=1,",
+    b"ENDPROCESSDO1",
     b"A=--1",
 ];
 
