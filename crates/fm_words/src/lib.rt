@@ -1,0 +1,11 @@
+//! The words of the command line: which of them are a command, and which command.
+#![tactic(auto)]
+
+mod command;
+mod option;
+mod settings;
+
+pub use command::{Command, words};
+
+#[cfg(test)]
+mod tests;
