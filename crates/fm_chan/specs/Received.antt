@@ -24,3 +24,8 @@ abbrev pub brings : Got → Bool
 brings (got.Message m) = true
 brings got.Wait = false
 brings got.End = false
+
+-- whether a receive has its step at a port's channel, if that is there
+abbrev pub pops_at : Option Chan → Bool
+pops_at None = false
+pops_at (Some ch) = is_ready Pop ch

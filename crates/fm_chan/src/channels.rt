@@ -2,11 +2,11 @@
 
 ghost use Rattle.std.specs.Prelude.{◌≡◌, true, false, Some, None, [], ◌∷◌, ◌++◌, is_some, IfOk, OnOk, OnErr, IfErr};
 ghost use Rattle.std.specs.FinMap as map;
-ghost use Rattle.fm_base.specs.Channels.{fresh, channel_of, Push, Pop, changed, gives, spills, without, discarded, freed, shut, all_shed};
+ghost use Rattle.fm_base.specs.Channels.{fresh, channel_of, Push, Pop, is_ready, changed, gives, spills, without, discarded, freed, shut, message_ports, all_shed};
 ghost use Rattle.fm_base.specs.declared.port.PortValue.TheVariants.{Writer, Reader};
 ghost use Rattle.fm_chan.specs.Bodies.{chan_of};
 ghost use Rattle.fm_chan.specs.Events.{is_outport, writer_of, chan_at, adjusted, spills_at, ports_back, sent};
-ghost use Rattle.fm_chan.specs.Received.{got_from, got_at, brings};
+ghost use Rattle.fm_chan.specs.Received.{got_from, got_at, brings, pops_at};
 ghost use Rattle.fm_chan.specs.Rest.{dropped_ports};
 
 use crate::dropping::{Chain, Dropping};
@@ -108,6 +108,16 @@ fn first_of(body: &mut Body) -> Option<Message>
     }
 }
 
+fn can_receive(body: &Body) -> bool
+    ensures { result ≡ is_ready Pop (chan_of body.now) }
+{
+    let waits = match &body.inport {
+        None => false,
+        Some(inport) => !inport.queue.is_empty(),
+    };
+    waits || body.writers.is_empty()
+}
+
 fn take_first(body: &mut Body) -> Got
     ensures got { result ≡ got_from (chan_of body.old) }
     ensures rest { chan_of body.new ≡ changed Pop (chan_of body.old) }
@@ -160,6 +170,17 @@ impl Channels {
         ensures { result ≡ is_some (map.get self.now name.now) }
     {
         self.bodies.contains_key(name)
+    }
+
+    /// Whether a receive at the port's channel has its step: a message is there, or none comes any
+    /// more. Where the channel isn't there, it has none.
+    pub fn is_ready(&self, port: &Port) -> bool
+        ensures { result ≡ pops_at (chan_at port.now self.now) }
+    {
+        match self.bodies.get(port.channel()) {
+            Some(body) => can_receive(body),
+            None => false,
+        }
     }
 
     /// A new channel of this name: its inport, and its outport, which is writer 0. After want of
@@ -256,6 +277,13 @@ impl Channels {
         let mut dropping = Dropping::new(self.alloc);
         self.let_go(port, &mut dropping);
         self.discard_all(dropping);
+    }
+
+    /// Discards the ports of a message. Takes no memory.
+    pub fn discard_message(&mut self, message: Message)
+        ensures { self.new ≡ all_shed (message_ports message) self.old }
+    {
+        self.discard_all(Dropping::of_message(self.alloc, message));
     }
 
     /// The name of the port's channel.

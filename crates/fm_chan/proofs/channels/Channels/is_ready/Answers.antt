@@ -1,0 +1,11 @@
+use Rattle.std.proofs.Common.{Some, None, ap, sym, ◌∙◌}
+use Rattle.fm_chan.specs.Received.{pops_at}
+use Rattle.fm_chan.proofs.Maps.{chan_found}
+use Rattle.fm_chan.proofs.channels.Channels.is_ready.Goals as goal
+
+pub returns-in-Some : goal.returns-in-Some
+returns-in-Some c =
+    c.can_receive.ensures ∙ ap pops_at (sym (chan_found c.self.inside.bodies.entries c.args.self.now c.channel.result.now c.args.port.now c.self.view_is c.channel.ensures (Some c.in-Some.body.now) c.in-Some.ensures.value))
+
+pub returns-in-None : goal.returns-in-None
+returns-in-None c = ap pops_at (sym (chan_found c.self.inside.bodies.entries c.args.self.now c.channel.result.now c.args.port.now c.self.view_is c.channel.ensures None c.in-None.ensures.value))
