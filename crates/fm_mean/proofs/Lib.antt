@@ -1,2 +1,6 @@
 pub mod Main
 pub mod LanguageLaws
+pub mod Ports
+pub mod Returning
+pub mod Programs
+pub mod Costs

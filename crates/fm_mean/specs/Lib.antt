@@ -5,3 +5,8 @@ pub mod Meaning
 pub mod Outcome
 pub mod Alone
 pub mod Language
+pub mod Process
+pub mod Actions
+pub mod Steps
+pub mod Report
+pub mod Starts

@@ -1,0 +1,78 @@
+//! What a run shows when it has ended.
+
+use fm_base::{ChanName, Fault, Line, Name, Path, Seq};
+
+/// A line of output, and the process that printed it.
+#[derive(Debug, PartialEq, Eq, Drop)]
+pub struct OutputLine {
+    /// The process.
+    pub path: Path,
+    /// The bytes, without a line feed.
+    pub bytes: Seq<u8>,
+}
+
+/// What a variable of main holds in the end.
+#[derive(Debug, PartialEq, Eq, Drop)]
+pub enum Shown {
+    /// An integer.
+    Number(i64),
+    /// A port, by its channel; none where it is NULL.
+    Port(Option<ChanName>),
+}
+
+/// A variable of main, and what it holds.
+#[derive(Debug, PartialEq, Eq, Drop)]
+pub struct ShownVariable {
+    /// The name.
+    pub name: Name,
+    /// What it holds.
+    pub shown: Shown,
+}
+
+/// A process that has faulted.
+#[derive(Debug, PartialEq, Eq, Drop)]
+pub struct FaultAt {
+    /// The process.
+    pub path: Path,
+    /// The line of the statement.
+    pub line: Line,
+    /// The fault.
+    pub fault: Fault,
+}
+
+/// What a process waits for.
+#[derive(Debug, PartialEq, Eq, Drop)]
+pub enum At {
+    /// A message of the channel.
+    Receive(ChanName),
+    /// The children of its block.
+    Join,
+}
+
+/// A process that waits.
+#[derive(Debug, PartialEq, Eq, Drop)]
+pub struct Wait {
+    /// The process.
+    pub path: Path,
+    /// The line of the statement.
+    pub line: Line,
+    /// What it waits for.
+    pub at: At,
+}
+
+/// What a run shows when it has ended. All that names a process stands in path order.
+#[derive(Debug, PartialEq, Eq, Drop)]
+pub struct Outcome {
+    /// The output, process after process.
+    pub lines: Seq<OutputLine>,
+    /// The variables of main, in byte order of their names.
+    pub variables: Seq<ShownVariable>,
+    /// The processes that have faulted.
+    pub faults: Seq<FaultAt>,
+    /// The processes that wait.
+    pub waits: Seq<Wait>,
+    /// Whether main has ended.
+    pub main_ended: bool,
+    /// The cost of the run, in turns.
+    pub used: u64,
+}
