@@ -1,0 +1,6 @@
+pub mod Maps
+pub mod PrintLaws
+pub mod EventLaws
+pub mod Handing
+pub mod LocalLaws
+pub mod JoinLaws
