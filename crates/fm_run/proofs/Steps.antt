@@ -1,0 +1,120 @@
+-- The steps of a program, by what each process does next.
+use Rattle.std.proofs.Common.{◌≡◌, ℕ, zero, suc, ◌+◌, Option, Some, None, List, [], ◌∷◌, ◌++◌, replicate, refl, sym, ap, ◌∙◌, subst, arith, append_assoc, append-nil}
+use Rattle.std.specs.Prelude.{option_and_then}
+use Rattle.std.specs.FinMap.{get, insert}
+use Rattle.std.proofs.lemmas.Grind.{replicate_next}
+use Rattle.fm_base.specs.Channels.{Chans}
+use Rattle.fm_maps.proofs.Inserts.{insert_here, insert_again, insert_same}
+use Rattle.fm_sched.specs.Schedule.{next, play, Leads, IsLegal, IsReached}
+use Rattle.fm_sched.proofs.Runs.{leads_nowhere, leads_further, IsLegal-append, play-append}
+use Rattle.fm_net.specs.Machine.{Place, State}
+use Rattle.fm_net.specs.Owned.{IsOwned}
+use Rattle.fm_mean.proofs.Programs.{owned_along}
+use Rattle.fm_net.proofs.Keys.{path_order}
+use Rattle.fm_net.proofs.Cases.{all_shed-nil, local_step}
+use Rattle.fm_mean.specs.declared.program.Program.{Program}
+use Rattle.fm_mean.specs.Process.{Proc}
+use Rattle.fm_mean.specs.Actions as action
+use Rattle.fm_mean.specs.Actions.{Action, action_of, local_in}
+use Rattle.fm_mean.specs.Steps.{ask_for, language, step, first}
+use Rattle.fm_mean.specs.Starts.{starts_with, starts_from, starts_at, starts_along}
+use Rattle.fm_run.specs.Pieces.{Makes}
+use Rattle.fm_plain.specs.Advance.{local_steps, paid}
+
+-- ---- local steps
+
+local_action : (a : Action) (r : Proc × ℕ) → local_in a ≡ Some r → a ≡ action.Local r.0 r.1
+local_action action.Rest r e = absurd (cc)
+local_action (action.Local y cost) r e = let k : (y, cost) ≡ r = cc in ap (λ (q : Proc × ℕ). action.Local q.0 q.1) k
+local_action (action.Fail line fault) r e = absurd (cc)
+local_action (action.Make p q) r e = absurd (cc)
+local_action (action.Send c w m) r e = absurd (cc)
+local_action (action.Receive c line item) r e = absurd (cc)
+local_action (action.Close q) r e = absurd (cc)
+local_action action.Start r e = absurd (cc)
+local_action (action.Join b calls) r e = absurd (cc)
+local_action (action.End formals) r e = absurd (cc)
+
+module _ (program : Program) where
+  -- the state with this process at the place
+  abbrev pub with_process : State Proc → Place → Proc → State Proc
+  with_process s p y = record { procs = insert s.procs p y; chans = s.chans }
+
+  pub step_local : (s : State Proc) (p : Place) (x : Proc) (r : Proc × ℕ) → get s.procs p ≡ Some x → action.local_step program x ≡ Some r → step program s p ≡ Some (with_process s p r.0, r.1)
+  step_local s p x r is goes =
+      local_step (language program) s p x is _ _ (ap (ask_for program x) (local_action (action_of program x) r goes)) refl refl
+      ∙ ap (λ (m : Chans). Some (record { procs = insert s.procs p r.0; chans = m }, r.1)) (all_shed-nil s.chans)
+
+  local_starts : (s : State Proc) (p : Place) (x : Proc) (r : Proc × ℕ) → get s.procs p ≡ Some x → action.local_step program x ≡ Some r → starts_at program s p ≡ []
+  local_starts s p x r is goes = ap (starts_from program p) is ∙ ap (starts_with p x) (local_action (action_of program x) r goes)
+
+  -- ---- starts along choices
+
+  pub starts-append : (s : State Proc) (cs ds : List Place) → starts_along program s (cs ++ ds) ≡ starts_along program s cs ++ starts_along program (play (step program) s cs) ds
+  starts-append s [] ds = refl
+  starts-append s (c ∷ cs) ds =
+      ap (λ ps. starts_at program s c ++ ps) (starts-append (next (step program) s c) cs ds)
+      ∙ sym (append_assoc (starts_at program s c) (starts_along program (next (step program) s c) cs) (starts_along program (play (step program) (next (step program) s c) cs) ds))
+
+  pub makes_none : (s : State Proc) (p : Place) → Makes program s p 0 s 0 []
+  makes_none s p = record { leads = leads_nowhere (step program) s; starts_are = refl }
+
+  -- one step more, where those before started nobody
+  pub makes_more : (s t : State Proc) (p : Place) (n cost : ℕ) (r : State Proc × ℕ) → Makes program s p n t cost [] → step program t p ≡ Some r
+      → Makes program s p (n + 1) r.0 (cost + r.1) (starts_at program t p)
+  makes_more s t p n cost r before goes = record {
+    leads = subst (λ (cs : List Place). Leads (step program) s cs r.0 (cost + r.1)) (sym (replicate_next n p)) (leads_further (step program) s t (replicate n p) cost p r before.leads goes);
+    starts_are =
+        ap (starts_along program s) (replicate_next n p) ∙ starts-append s (replicate n p) (p ∷ [])
+        ∙ ap (λ ps. ps ++ (starts_at program (play (step program) s (replicate n p)) p ++ [])) before.starts_are
+        ∙ append-nil (starts_at program (play (step program) s (replicate n p)) p) ∙ ap (λ u. starts_at program u p) before.leads.there;
+  }
+
+  -- ---- several local steps
+
+  -- the steps before the last one, and the last one
+  record Parts (n : ℕ) (x : Proc) (r : Proc × ℕ) : Type 0 where
+    first : Proc × ℕ
+    last : Proc × ℕ
+    first_is : local_steps program n x ≡ Some first
+    last_is : action.local_step program first.0 ≡ Some last
+    whole : (last.0, first.1 + last.1) ≡ r
+
+  parts : (n : ℕ) (x : Proc) (r : Proc × ℕ) → local_steps program (suc n) x ≡ Some r → Parts n x r
+  parts n x r e = go (local_steps program n x) refl e
+    where
+      inner : (q : Proc × ℕ) (o : Option (Proc × ℕ)) → local_steps program n x ≡ Some q → action.local_step program q.0 ≡ o → paid q.1 o ≡ Some r → Parts n x r
+      inner q None first_is last_is e' = absurd (cc e')
+      inner q (Some l) first_is last_is e' = record { first = q; last = l; first_is = first_is; last_is = last_is; whole = cc e' }
+
+      go : (o : Option (Proc × ℕ)) → local_steps program n x ≡ o → option_and_then (λ q. paid q.1 (action.local_step program q.0)) o ≡ Some r → Parts n x r
+      go None is e' = absurd (cc e')
+      go (Some q) is e' = inner q (action.local_step program q.0) is refl e'
+
+  pub makes_local : (n : ℕ) (s : State Proc) (p : Place) (x : Proc) (r : Proc × ℕ) → get s.procs p ≡ Some x → local_steps program n x ≡ Some r → Makes program s p n (with_process s p r.0) r.1 []
+  makes_local zero s p x r is e =
+      let same : (x, 0) ≡ r = cc e in
+      subst (λ (q : Proc × ℕ). Makes program s p 0 (with_process s p q.0) q.1 []) same
+      (subst (λ (t : State Proc). Makes program s p 0 t 0 []) (sym (ap (λ m. record { procs = m; chans = s.chans }) (insert_same path_order s.procs p x is))) (makes_none s p))
+  makes_local (suc n) s p x r is e =
+      let k = parts n x r e in
+      let t = with_process s p k.first.0 in
+      let at : get t.procs p ≡ Some k.first.0 = insert_here path_order s.procs p k.first.0 in
+      let m = makes_more s t p n k.first.1 (with_process t p k.last.0, k.last.1) (makes_local n s p x k.first is k.first_is) (step_local t p k.first.0 k.last at k.last_is) in
+      let ends : with_process t p k.last.0 ≡ with_process s p k.last.0 = ap (λ m. record { procs = m; chans = s.chans }) (insert_again path_order s.procs p k.first.0 k.last.0) in
+      let m1 = subst (λ (ps : List Place). Makes program s p (n + 1) (with_process t p k.last.0) (k.first.1 + k.last.1) ps) (local_starts t p k.first.0 k.last at k.last_is) m in
+      let m2 = subst (λ (u : State Proc). Makes program s p (n + 1) u (k.first.1 + k.last.1) []) ends m1 in
+      let m3 = subst (λ (q : Proc × ℕ). Makes program s p (n + 1) (with_process s p q.0) q.1 []) k.whole m2 in
+      subst (λ (i : ℕ). Makes program s p i (with_process s p r.0) r.1 []) (omega arith) m3
+
+-- ---- states that are reached
+
+pub reached_makes : (program : Program) (s t : State Proc) (p : Place) (n cost : ℕ) (ps : List Place) → IsReached (step program) (first program) s → Makes program s p n t cost ps → IsReached (step program) (first program) t
+reached_makes program s t p n cost ps reached makes = (
+  reached.0 ++ replicate n p,
+  IsLegal-append (step program) (first program) reached.0 (replicate n p) reached.1 (subst (λ (u : State Proc). IsLegal (step program) u (replicate n p)) (sym reached.2) makes.leads.legal),
+  play-append (step program) (first program) reached.0 (replicate n p) ∙ ap (λ u. play (step program) u (replicate n p)) reached.2 ∙ makes.leads.there,
+)
+
+pub owned_reached : (program : Program) (s : State Proc) → IsReached (step program) (first program) s → IsOwned (language program) s
+owned_reached program s reached = subst (IsOwned (language program)) reached.2 (owned_along program reached.0 reached.1)

@@ -1,0 +1,6 @@
+pub mod Readings
+pub mod Goes
+pub mod Pieces
+pub mod Orders
+pub mod Runs
+pub mod Shown

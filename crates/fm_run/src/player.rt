@@ -1,0 +1,132 @@
+//! A run as it stands between two pieces.
+
+ghost use Rattle.std.specs.Prelude.{◌≡◌, ◌<◌, ◌+◌, true, [], IfOk, OnOk, MatchOption};
+ghost use Rattle.fm_mean.specs.Steps.{first};
+ghost use Rattle.fm_run.specs.Goes.{family};
+ghost use Rattle.fm_run.specs.Orders.{Among, places_of, can_at};
+ghost use Rattle.fm_run.specs.Readings.{state_of};
+ghost use Rattle.fm_run.specs.Runs.{IsKept, IsPlayed};
+
+use crate::orders::{candidates, chosen, keep_able};
+use crate::pieces::make_piece;
+use crate::processes::{Net, Processes};
+use crate::ready::child_path;
+use fm_base::{NoMemory, Path, Turn};
+use fm_chan::Channels;
+use fm_mean::Program;
+use fm_plain::PlainProc;
+use std::alloc::Global;
+use std::sync::Arc;
+
+/// A run between two pieces.
+#[derive(Drop)]
+pub(crate) struct Player {
+    /// The processes and channels.
+    pub net: Net,
+    /// The processes, in the order of starting.
+    pub paths: Vec<Arc<Path>>,
+    /// The numbers of those that can step, in the order in which they are served.
+    pub able: Vec<u32>,
+    /// The pieces.
+    pub history: Vec<Turn>,
+    /// The cost in turns.
+    pub used: u64,
+}
+
+fn first_net(alloc: Global, program: &Program) -> Result<Net, NoMemory>
+    ensures { IfOk result (λ net. state_of net ≡ first program.now) }
+{
+    let mut processes = Processes::new(alloc);
+    processes.insert(Path::main(alloc), PlainProc::main(alloc, program))?;
+    Ok(Net {
+        processes,
+        channels: Channels::new(alloc),
+    })
+}
+
+// The paths of so many children of a block.
+fn family(alloc: Global, path: &Path, block: u32, count: usize) -> Result<Vec<Arc<Path>>, NoMemory>
+    ensures { IfOk result (λ v. places_of v.items ≡ family path.now block 1 count) }
+{
+    let mut paths = Vec::new(alloc);
+    'children: for place in 0..count {
+        let child = child_path(alloc, path, block, place)?;
+        paths.push(Arc::new(alloc, child)?)?;
+    }
+    Ok(paths)
+}
+
+fn both(used: u64, cost: u64) -> Result<u64, NoMemory>
+    ensures { IfOk result (λ sum. sum ≡ used + cost) }
+{
+    match used.checked_add(cost) {
+        Some(sum) => Ok(sum),
+        None => Err(NoMemory),
+    }
+}
+
+impl Player {
+    /// A run before its first piece.
+    pub fn new(alloc: Global, program: &Program) -> Result<Player, NoMemory>
+        ensures played { IfOk result (λ player. IsPlayed program.now player) }
+        ensures used { IfOk result (λ player. player.used ≡ 0) }
+    {
+        let net = first_net(alloc, program)?;
+        let paths = vec![in alloc; Arc::new(alloc, Path::main(alloc))?]?;
+        let able = keep_able(alloc, &net, program, &paths, &[0])?;
+        Ok(Player {
+            net,
+            paths,
+            able,
+            history: Vec::new(alloc),
+            used: 0,
+        })
+    }
+
+    /// The number of the process that makes the next piece: the one that the next choice tells, or the
+    /// first one when the choices are used up. None where no process can step.
+    pub fn next(&self, choices: &[u64]) -> Option<u32>
+        ensures { MatchOption result (self.now.able.items ≡ []) (λ n. Among n self.now.able.items) }
+    {
+        let choice = choices.get(self.history.len()).copied();
+        chosen(&self.able, choice)
+    }
+
+    // Makes a piece of a process, and keeps it.
+    fn keep_piece(&mut self, alloc: Global, program: &Program, number: u32) -> Result<(), NoMemory>
+        requires kept { IsKept program.now self.old.history.items (places_of self.old.paths.items) (state_of self.old.net) self.old.used }
+        requires able { can_at program.now (state_of self.old.net) (places_of self.old.paths.items) number ≡ true }
+        ensures kept { OnOk result (IsKept program.now self.new.history.items (places_of self.new.paths.items) (state_of self.new.net) self.new.used) }
+        ensures used { OnOk result (self.old.used < self.new.used) }
+        ensures able { OnOk result (self.new.able.items ≡ self.old.able.items) }
+    {
+        let path = match self.paths.get(number as usize) {
+            Some(path) => path,
+            None => unreachable!(),
+        };
+        let piece = make_piece(alloc, &mut self.net, program, path)?;
+        let mut children = family(alloc, path, piece.block, piece.started)?;
+        self.history.push(Turn {
+            number,
+            steps: piece.steps,
+        })?;
+        self.paths.append(&mut children)?;
+        self.used = both(self.used, piece.cost)?;
+        Ok(())
+    }
+
+    /// Makes a piece of a process that can step, and looks who can step then.
+    ///
+    /// After want of memory the run isn't to be used any more.
+    pub fn play(&mut self, alloc: Global, program: &Program, number: u32) -> Result<(), NoMemory>
+        requires played { IsPlayed program.now self.old }
+        requires able { Among number self.old.able.items }
+        ensures played { OnOk result (IsPlayed program.now self.new) }
+        ensures used { OnOk result (self.old.used < self.new.used) }
+    {
+        self.keep_piece(alloc, program, number)?;
+        let order = candidates(alloc, &self.able, number, self.paths.len())?;
+        self.able = keep_able(alloc, &self.net, program, &self.paths, &order)?;
+        Ok(())
+    }
+}

@@ -1,0 +1,85 @@
+//! Runs a program.
+
+ghost use Rattle.std.specs.Prelude.{◌≡◌, ◌≤◌, ◌<◌, [], IfOk};
+ghost use Rattle.fm_mean.specs.Report.{outcome_of};
+ghost use Rattle.fm_run.specs.Readings.{state_of};
+ghost use Rattle.fm_run.specs.Runs.{IsPlayed, IsRun};
+
+use crate::outcome::outcome;
+use crate::player::Player;
+use fm_base::{NoMemory, Path, Turn};
+use fm_mean::{Outcome, Program};
+use std::alloc::Global;
+use std::sync::Arc;
+
+/// How a run ended.
+#[derive(Drop)]
+pub enum Ending {
+    /// No process can step any more. This is what the run shows.
+    Ended(Outcome),
+    /// It cost more than its turns.
+    Spent,
+}
+
+/// A run of a program.
+#[derive(Drop)]
+pub struct Run {
+    /// Its pieces.
+    pub history: Vec<Turn>,
+    /// Its processes, in the order of starting.
+    pub paths: Vec<Arc<Path>>,
+    /// How it ended.
+    pub ending: Ending,
+}
+
+impl Player {
+    fn spent(self) -> Run
+        ensures history { result.history ≡ self.history }
+        ensures paths { result.paths ≡ self.paths }
+        ensures ending { result.ending ≡ Ending.Spent }
+    {
+        Run {
+            history: self.history,
+            paths: self.paths,
+            ending: Ending::Spent,
+        }
+    }
+
+    fn ended(self, outcome: Outcome) -> Run
+        ensures history { result.history ≡ self.history }
+        ensures paths { result.paths ≡ self.paths }
+        ensures ending { result.ending ≡ Ending.Ended outcome }
+    {
+        Run {
+            history: self.history,
+            paths: self.paths,
+            ending: Ending::Ended(outcome),
+        }
+    }
+}
+
+/// Plays a program from its first state until no process can step, or until its turns are spent. Piece
+/// `i` goes to the process at place `choices[i]`, modulo their number, among those that can step, and to
+/// the first one when the choices are used up.
+///
+/// Those that can step stand in a queue. The one that makes its piece leaves its place; others that have
+/// become able come behind, in the order of starting, and behind them the one itself, where it can step
+/// still. Each look at the queue takes time in proportion to the number of processes.
+pub fn run_program(
+    alloc: Global,
+    program: &Program,
+    choices: &[u64],
+    turns: u64,
+) -> Result<Run, NoMemory>
+    ensures { IfOk result (λ r. IsRun program.now turns r) }
+{
+    let mut player = Player::new(alloc, program)?;
+    'pieces: while let Some(number) = player.next(choices) {
+        player.play(alloc, program, number)?;
+        if player.used > turns {
+            return Ok(player.spent());
+        }
+    }
+    let outcome = outcome(alloc, &player.net, program, player.used)?;
+    Ok(player.ended(outcome))
+}
