@@ -1,0 +1,125 @@
+-- The verdict on cards, one after the other.
+use Rattle.std.proofs.Common.{◌≡◌, inl, inr, ⊎_elim, ℕ, ◌<◌, List, [], ◌∷◌, ◌++◌, length, get_or, zero, suc, sym, ap, subst, arith}
+use Rattle.std.specs.Prelude.{Option, Some, None, Contains, map}
+use Rattle.fm_base.specs.declared.rule.CheckFail.{CheckFail}
+use Rattle.fm_base.specs.declared.rule.CheckFail.TheVariants.{Refused, NoMemory}
+use Rattle.fm_base.specs.declared.rule.Refusal.{Refusal}
+use Rattle.fm_base.specs.declared.rule.Rule.TheVariants.{E26}
+use Rattle.fm_base.specs.Rules.{phase_of}
+use Rattle.fm_base.specs.Verdict.{Either, IsClean, IsLeast, IsVerdict, IsRefusal, IsOfPhase, IsBeforePhase, earliest, first_of, or_next, place}
+use Rattle.fm_base.proofs.Least.{verdict_same}
+use Rattle.fm_base.proofs.Phases.{verdict_join, phase_join}
+use Rattle.fm_cards.specs.Broken as cards
+use Rattle.fm_cards.specs.Cards.{cards_of}
+use Rattle.fm_cards.specs.declared.card.Card.{Card}
+use Rattle.fm_cards.proofs.OneVerdict.{all_of_phase_zero}
+use Rattle.fm_stmt.specs.Checked as card
+use Rattle.fm_stmt.specs.Checked.{IsStatementOf}
+use Rattle.fm_stmt.proofs.CardLaws as laws
+use Rattle.fm_tree.specs.declared.program_unit.Placed.{Placed}
+use Rattle.fm_front.specs.Program.{IsRefusalOf}
+use Rattle.fm_front.specs.Verdict.{AreStatementsOf, IsBrokenCard, IsBrokenForm, IsBrokenHeading, IsVerdictOn, HasRead, program_lines, wrong_programs}
+
+split : (cs : List Card) (c : Card) (q : Refusal) → IsBrokenCard (cs ++ c ∷ []) q → Either (IsBrokenCard cs) (card.IsBroken c) q
+split [] c q (inl b) = inr b
+split [] c q (inr b) = absurd b
+split (d ∷ cs) c q (inl b) = inl (inl b)
+split (d ∷ cs) c q (inr b) = ⊎_elim (λ x. inl (inr x)) (λ y. inr y) (split cs c q b)
+
+join : (cs : List Card) (c : Card) (q : Refusal) → Either (IsBrokenCard cs) (card.IsBroken c) q → IsBrokenCard (cs ++ c ∷ []) q
+join [] c q (inl b) = absurd b
+join [] c q (inr b) = inl b
+join (d ∷ cs) c q (inl (inl b)) = inl b
+join (d ∷ cs) c q (inl (inr b)) = inr (join cs c q (inl b))
+join (d ∷ cs) c q (inr b) = inr (join cs c q (inr b))
+
+more : (cs : List Card) (c : Card) (a b : Option Refusal) → IsVerdict (IsBrokenCard cs) a → IsVerdict (card.IsBroken c) b → IsVerdict (IsBrokenCard (cs ++ c ∷ [])) (first_of a b)
+more cs c a b v w =
+    verdict_same (Either (IsBrokenCard cs) (card.IsBroken c)) (IsBrokenCard (cs ++ c ∷ [])) (join cs c) (split cs c) (first_of a b) (verdict_join (IsBrokenCard cs) (card.IsBroken c) a b v w)
+
+statements_more : (cs : List Card) (ps : List Placed) (c : Card) (p : Placed) → AreStatementsOf cs ps → IsStatementOf c p → AreStatementsOf (cs ++ c ∷ []) (ps ++ p ∷ [])
+statements_more [] [] c p h k = (k, tt)
+statements_more [] (q ∷ ps) c p h k = absurd h
+statements_more (d ∷ cs) [] c p h k = absurd h
+statements_more (d ∷ cs) (q ∷ ps) c p h k = (h.0, statements_more cs ps c p h.1 k)
+
+-- no card was read
+pub none_read : HasRead [] [] None
+none_read = record { read = λ e. tt; verdict = λ q b. b }
+
+-- a card that breaks no rule
+pub read_one : (cs : List Card) (ps : List Placed) (best : Option Refusal) (c : Card) (p : Placed) → HasRead cs ps best → IsStatementOf c p → IsClean (card.IsBroken c) → HasRead (cs ++ c ∷ []) (ps ++ p ∷ []) best
+read_one cs ps best c p h k clean = record {
+  read = λ e. statements_more cs ps c p (h.read e) k;
+  verdict = more cs c best None h.verdict clean;
+}
+
+not_none : (best : Option Refusal) (q : Refusal) → earliest best q ≡ None → ⊥
+not_none None q e = absurd (cc e)
+not_none (Some p) q e = absurd (cc e)
+
+-- a card that breaks a rule
+pub refused_one : (cs : List Card) (ps : List Placed) (best : Option Refusal) (c : Card) (q : Refusal) → HasRead cs ps best → IsLeast (card.IsBroken c) q → HasRead (cs ++ c ∷ []) ps (earliest best q)
+refused_one cs ps best c q h k = record {
+  read = λ e. absurd (not_none best q e);
+  verdict = more cs c best (Some q) h.verdict k;
+}
+
+-- The phases.
+
+cards_phase : (cs : List Card) → IsOfPhase 1 (IsBrokenCard cs)
+cards_phase [] q b = absurd b
+cards_phase (c ∷ cs) q (inl b) = laws.all_of_phase_one_law c q b
+cards_phase (c ∷ cs) q (inr b) = cards_phase cs q b
+
+form_zero : (source : List ℕ) → IsBeforePhase 1 (cards.IsBroken source)
+form_zero source q b = omega (arith, all_of_phase_zero source q b)
+
+-- what the form of a text and the cards break
+pub form_verdict : (source : List ℕ) (a b : Option Refusal) → IsVerdict (cards.IsBroken source) a → (a ≡ None → IsVerdict (IsBrokenCard (cards_of source)) b) → IsVerdict (IsBrokenForm source) (or_next a b)
+form_verdict source a b v w = phase_join (cards.IsBroken source) (IsBrokenCard (cards_of source)) 1 a b (form_zero source) (cards_phase (cards_of source)) v w
+
+pub form_refused : (source : List ℕ) (e : CheckFail) → IsRefusal (cards.IsBroken source) e → IsRefusal (IsBrokenForm source) e
+form_refused source (Refused q) h = form_verdict source (Some q) None h (λ e. absurd (cc e))
+form_refused source NoMemory h = tt
+
+form_phase : (source : List ℕ) → IsBeforePhase 2 (IsBrokenForm source)
+form_phase source q (inl b) = omega (arith, all_of_phase_zero source q b)
+form_phase source q (inr b) = omega (arith, cards_phase (cards_of source) q b)
+
+in_headings : (line : ℕ) (rest : List Refusal) (q : Refusal) (k : ℕ) → k < length (place line E26 ∷ rest) → get_or (place line E26 ∷ rest) k q ≡ q → (Contains rest q → phase_of q.rule ≡ 2) → phase_of q.rule ≡ 2
+in_headings line rest q zero l e behind = ap (λ (r : Refusal). phase_of r.rule) (sym e)
+in_headings line rest q (suc k) l e behind = behind (k, omega arith, e)
+
+all_headings : (lines : List ℕ) (q : Refusal) → Contains (map (λ line. place line E26) lines) q → phase_of q.rule ≡ 2
+all_headings [] q c = absurd (omega (arith, c.1))
+all_headings (line ∷ lines) q c = in_headings line (map (λ l. place l E26) lines) q c.0 c.1 c.2 (all_headings lines q)
+
+wrong_phase : (lines : List ℕ) (q : Refusal) → Contains (wrong_programs lines) q → phase_of q.rule ≡ 2
+wrong_phase [] q c = all_headings (1 ∷ []) q c
+wrong_phase (line ∷ lines) q c = all_headings lines q c
+
+heading_phase : (source : List ℕ) → IsOfPhase 2 (IsBrokenHeading source)
+heading_phase source q b = wrong_phase (program_lines b.0) q b.2
+
+pub form_first : (source : List ℕ) (q : Refusal) → IsLeast (IsBrokenForm source) q → IsVerdictOn source (Some q)
+form_first source q h = phase_join (IsBrokenForm source) (IsBrokenHeading source) 2 (Some q) None (form_phase source) (heading_phase source) h (λ e. absurd (cc e))
+
+pub heading_next : (source : List ℕ) (b : Option Refusal) → IsClean (IsBrokenForm source) → IsVerdict (IsBrokenHeading source) b → IsVerdictOn source b
+heading_next source b clean v = phase_join (IsBrokenForm source) (IsBrokenHeading source) 2 None b (form_phase source) (heading_phase source) clean (λ e. v)
+
+-- what is broken in the form or on a card is the refusal
+pub refused_form : (source : List ℕ) (e : CheckFail) → IsRefusal (IsBrokenForm source) e → IsRefusalOf source e
+refused_form source (Refused q) h = inl (form_first source q h)
+refused_form source NoMemory h = tt
+
+pub cards_refused : (source : List ℕ) (cs : List Card) (ps : List Placed) (best : Option Refusal) (q : Refusal) → cs ≡ cards_of source → IsClean (cards.IsBroken source) → HasRead cs ps best → best ≡ Some q → IsLeast (IsBrokenForm source) q
+cards_refused source cs ps best q e clean h is =
+    form_verdict source None (Some q) clean (λ _. subst (λ (l : List Card). IsLeast (IsBrokenCard l) q) e (subst (IsVerdict (IsBrokenCard cs)) is h.verdict))
+
+pub cards_clean : (source : List ℕ) (cs : List Card) (ps : List Placed) (best : Option Refusal) → cs ≡ cards_of source → IsClean (cards.IsBroken source) → HasRead cs ps best → best ≡ None → IsClean (IsBrokenForm source)
+cards_clean source cs ps best e clean h is =
+    form_verdict source None None clean (λ _. subst (λ (l : List Card). IsClean (IsBrokenCard l)) e (subst (IsVerdict (IsBrokenCard cs)) is h.verdict))
+
+pub cards_read : (source : List ℕ) (cs : List Card) (ps : List Placed) (best : Option Refusal) → cs ≡ cards_of source → HasRead cs ps best → best ≡ None → AreStatementsOf (cards_of source) ps
+cards_read source cs ps best e h is = subst (λ (l : List Card). AreStatementsOf l ps) e (h.read is)

@@ -1,0 +1,4 @@
+pub mod Maps
+pub mod CardVerdicts
+pub mod Uniques
+pub mod Passes

@@ -1,0 +1,116 @@
+-- A source has one list of statements, one verdict, and one program or one refusal.
+use Rattle.std.proofs.Common.{◌≡◌, inl, inr, ℕ, List, [], ◌∷◌, refl, sym, ap, subst, ◌∙◌}
+use Rattle.std.specs.Prelude.{Option, Some, None, Contains, Result, Ok, Err, IfOk, IfErr}
+use Rattle.fm_base.specs.declared.rule.CheckFail.{CheckFail}
+use Rattle.fm_base.specs.declared.rule.CheckFail.TheVariants.{Refused, NoMemory}
+use Rattle.fm_base.specs.declared.rule.Refusal.{Refusal}
+use Rattle.fm_base.specs.Verdict.{IsClean, IsLeast, IsRefusal, IsVerdict, LeastLaw, least}
+use Rattle.fm_base.proofs.Least.{verdict_same}
+use Rattle.fm_cards.specs.Cards.{cards_of}
+use Rattle.fm_cards.specs.declared.card.Card.{Card}
+use Rattle.fm_cards.proofs.OneVerdict.{verdict_one}
+use Rattle.fm_stmt.specs.Checked.{OneStatement}
+use Rattle.fm_tree.specs.declared.program_unit.Placed.{Placed}
+use Rattle.fm_mean.specs.declared.program.Program.{Program}
+use Rattle.fm_front.specs.declared.tables.Tables.{Tables}
+use Rattle.fm_front.specs.Units.{tables_of}
+use Rattle.fm_front.proofs.CardVerdicts.{heading_next}
+use Rattle.fm_front.specs.Built.{unbuilt_in, unbuilt_of}
+use Rattle.fm_front.specs.Verdict.{AreStatementsOf, IsBroken, IsBrokenForm, IsBrokenHeading, IsVerdictOn, program_lines, wrong_programs}
+use Rattle.fm_front.specs.Program.{IsProgramOf, IsFirstUnbuilt, IsRefusalOf, program_in, program_of}
+use Rattle.fm_front.specs.Laws.{OneVerdict, OneProgram, OneRefusal, ProgramOrRefusal, ProgramIsClean, VerdictIsRefusal}
+
+pub one_verdict : OneVerdict
+one_verdict source = verdict_one (IsBroken source)
+
+pub program_is_clean : ProgramIsClean
+program_is_clean source a h = h.clean
+
+pub verdict_is_refusal : VerdictIsRefusal
+verdict_is_refusal source q v = inl v
+
+-- no verdict besides a clean one
+clean_alone : (source : List ℕ) (q : Refusal) → IsVerdictOn source None → IsVerdictOn source (Some q) → ⊥
+clean_alone source q clean v = clean q v.broken
+
+module _ (one : OneStatement) where
+  pub one_list : (cs : List Card) (ps qs : List Placed) → AreStatementsOf cs ps → AreStatementsOf cs qs → ps ≡ qs
+  one_list [] [] [] h k = refl
+  one_list [] [] (q ∷ qs) h k = absurd k
+  one_list [] (p ∷ ps) qs h k = absurd h
+  one_list (c ∷ cs) [] qs h k = absurd h
+  one_list (c ∷ cs) (p ∷ ps) [] h k = absurd k
+  one_list (c ∷ cs) (p ∷ ps) (q ∷ qs) h k =
+      let first = one c p q h.0 k.0 in
+      let rest = one_list cs ps qs h.1 k.1 in
+      λ i. first i ∷ rest i
+
+  pub one_program : OneProgram
+  one_program source a b h k = h.program ∙ ap program_of (one_list (cards_of source) h.statements k.statements h.read k.read) ∙ sym k.program
+
+  unbuilt_alone : (source : List ℕ) (a b : Refusal) → IsFirstUnbuilt source a → IsFirstUnbuilt source b → a ≡ b
+  unbuilt_alone source a b h k = same_some a b (verdict_one (Contains (unbuilt_of k.statements)) (Some a) (Some b)
+      (subst (λ (l : List Placed). IsLeast (Contains (unbuilt_of l)) a) (one_list (cards_of source) h.statements k.statements h.read k.read) h.least) k.least)
+    where
+      same_some : (x y : Refusal) → Some x ≡ Some y → x ≡ y
+      same_some x y e = cc
+
+  pub one_refusal : OneRefusal
+  one_refusal source a b (inl v) (inl w) = same_some a b (one_verdict source (Some a) (Some b) v w)
+    where
+      same_some : (x y : Refusal) → Some x ≡ Some y → x ≡ y
+      same_some x y e = cc
+  one_refusal source a b (inl v) (inr u) = absurd (clean_alone source a u.clean v)
+  one_refusal source a b (inr u) (inl v) = absurd (clean_alone source b u.clean v)
+  one_refusal source a b (inr u) (inr w) = unbuilt_alone source a b u w
+
+  pub program_or_refusal : ProgramOrRefusal
+  program_or_refusal source a q h (inl v) = clean_alone source q h.clean v
+  program_or_refusal source a q h (inr u) = h.built q (subst (λ (l : List Placed). Contains (unbuilt_of l) q) (one_list (cards_of source) u.statements h.statements u.read h.read) u.least.broken)
+
+  -- the verdict on PROGRAM statements, where the statements are known
+  pub heading_verdict : (source : List ℕ) (ps : List Placed) (v : Option Refusal) → AreStatementsOf (cards_of source) ps → IsVerdict (Contains (wrong_programs (program_lines ps))) v → IsVerdict (IsBrokenHeading source) v
+  heading_verdict source ps v h w = verdict_same (Contains (wrong_programs (program_lines ps))) (IsBrokenHeading source)
+      (λ q c. (ps, h, c))
+      (λ q b. subst (λ (l : List Placed). Contains (wrong_programs (program_lines l)) q) (one_list (cards_of source) b.0 ps b.1 h) b.2) v w
+
+  -- the verdict of a source whose form and cards break no rule
+  pub heading_first : (source : List ℕ) (ps qs : List Placed) (v w : Option Refusal) → AreStatementsOf (cards_of source) ps → IsClean (IsBrokenForm source) → LeastLaw
+      → qs ≡ ps → v ≡ least (wrong_programs (program_lines qs)) → v ≡ w → IsVerdictOn source w
+  heading_first source ps qs v w h clean law same is e =
+      heading_next source w clean (heading_verdict source ps w h (subst (IsVerdict (Contains (wrong_programs (program_lines ps))))
+      (sym (ap (λ l. least (wrong_programs (program_lines l))) same) ∙ sym is ∙ e) (law (wrong_programs (program_lines ps)))))
+
+pub program_is : (source : List ℕ) (ps : List Placed) (t : Tables) (p : Program) → AreStatementsOf (cards_of source) ps → IsVerdictOn source None → t ≡ tables_of ps
+    → p ≡ program_in t → IsClean (Contains (unbuilt_in t 0 t.scopes)) → IsProgramOf source p
+program_is source ps t p h clean e is built = record {
+  statements = ps;
+  read = h;
+  clean = clean;
+  built = subst (λ (x : Tables). IsClean (Contains (unbuilt_in x 0 x.scopes))) e built;
+  program = is ∙ ap program_in e;
+}
+
+pub unbuilt_is : (source : List ℕ) (ps : List Placed) (t : Tables) (e : CheckFail) → AreStatementsOf (cards_of source) ps → IsVerdictOn source None → t ≡ tables_of ps
+    → IsRefusal (Contains (unbuilt_in t 0 t.scopes)) e → IsRefusalOf source e
+unbuilt_is source ps t (Refused q) h clean e is =
+    inr (record { statements = ps; read = h; clean = clean; least = subst (λ (x : Tables). IsLeast (Contains (unbuilt_in x 0 x.scopes)) q) e is })
+unbuilt_is source ps t NoMemory h clean e is = tt
+
+pub none_unbuilt : LeastLaw → (qs : List Refusal) (v : Option Refusal) → v ≡ least qs → v ≡ None → IsClean (Contains qs)
+none_unbuilt law qs v e is = subst (IsVerdict (Contains qs)) (sym e ∙ is) (law qs)
+
+pub not_some : (v : Option Refusal) → ((q : Refusal) → v ≡ Some q → ⊥) → v ≡ None
+not_some None h = refl
+not_some (Some q) h = absurd (h q refl)
+
+-- what was answered, by what the last call ensures
+pub answered : (source : List ℕ) (ps : List Placed) (t : Tables) (r : Result Program CheckFail) → AreStatementsOf (cards_of source) ps → IsVerdictOn source None → t ≡ tables_of ps
+    → IfOk r (λ p. p ≡ program_in t) → IfOk r (λ p. IsClean (Contains (unbuilt_in t 0 t.scopes))) → IfOk r (IsProgramOf source)
+answered source ps t (Ok p) h clean e is built = program_is source ps t p h clean e is built
+answered source ps t (Err fail) h clean e is built = tt
+
+pub refused : (source : List ℕ) (ps : List Placed) (t : Tables) (r : Result Program CheckFail) → AreStatementsOf (cards_of source) ps → IsVerdictOn source None → t ≡ tables_of ps
+    → IfErr r (IsRefusal (Contains (unbuilt_in t 0 t.scopes))) → IfErr r (IsRefusalOf source)
+refused source ps t (Ok p) h clean e is = tt
+refused source ps t (Err fail) h clean e is = unbuilt_is source ps t fail h clean e is

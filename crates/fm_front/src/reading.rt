@@ -1,0 +1,130 @@
+//! The statements of a source.
+
+ghost use Rattle.std.specs.Prelude.{◌≡◌, ◌≤◌, ◌∷◌, ◌++◌, [], length, map, List, IfOk, IfErr};
+ghost use Rattle.fm_base.specs.declared.rule.Rule.TheVariants.{E26};
+ghost use Rattle.fm_base.specs.Verdict.{IsClean, IsRefusal, least, place};
+ghost use Rattle.fm_cards.specs.Cards.{cards_of};
+ghost use Rattle.fm_cards.specs.declared.card.Card.{Card};
+ghost use Rattle.fm_front.specs.Verdict.{AreStatementsOf, HasRead, IsBrokenForm, is_program, program_line, program_lines, wrong_programs};
+
+use fm_base::{CheckFail, Line, NoMemory, Refusal, Rule, keep_earlier};
+use fm_cards::{Card, cards};
+use fm_stmt::statement;
+use fm_tree::{Placed, Stmt};
+use std::alloc::Global;
+
+// Reads one card more: its statement goes last, or the rule that it breaks may be the least so far.
+fn read_card(
+    alloc: Global,
+    card: &Card,
+    statements: &mut Vec<Placed>,
+    best: Option<Refusal>,
+) -> Result<Option<Refusal>, NoMemory>
+    ensures { IfOk result (λ v. (cs : List Card) → HasRead cs statements.old.items best → HasRead (cs ++ card.now ∷ []) statements.new.items v) }
+{
+    match statement(alloc, card) {
+        Ok(placed) => {
+            statements.push(placed)?;
+            Ok(best)
+        }
+        Err(CheckFail::Refused(refusal)) => Ok(keep_earlier(best, refusal)),
+        Err(CheckFail::NoMemory) => Err(NoMemory),
+    }
+}
+
+// The statements of cards, and the least rule that one of them breaks.
+fn read_cards(alloc: Global, cards: &[Card]) -> Result<(Vec<Placed>, Option<Refusal>), NoMemory>
+    ensures { IfOk result (λ r. HasRead cards.now r.0.items r.1) }
+{
+    let mut statements = Vec::new(alloc);
+    let mut best = None;
+    for card in cards {
+        best = read_card(alloc, card, &mut statements, best)?;
+    }
+    Ok((statements, best))
+}
+
+/// The statements of a source of at most 1,000,000 bytes, one for each card. Refused by the least rule
+/// that the form of the text or a card breaks, or for want of memory.
+pub fn statements(alloc: Global, source: &[u8]) -> Result<Vec<Placed>, CheckFail>
+    requires { length source.now ≤ 1_000_000 }
+    ensures statements { IfOk result (λ v. AreStatementsOf (cards_of source.now) v.items) }
+    ensures clean { IfOk result (λ _. IsClean (IsBrokenForm source.now)) }
+    ensures refused { IfErr result (IsRefusal (IsBrokenForm source.now)) }
+{
+    let cards = match cards(alloc, source) {
+        Ok(cards) => cards,
+        Err(fail) => return Err(fail),
+    };
+    let (statements, best) = read_cards(alloc, cards.as_slice())?;
+    match best {
+        Some(refusal) => Err(CheckFail::Refused(refusal)),
+        None => Ok(statements),
+    }
+}
+
+pub(crate) fn is_program(stmt: &Stmt) -> bool
+    ensures { result ≡ is_program stmt.now }
+{
+    matches!(stmt, Stmt::Program(_))
+}
+
+fn program_line(placed: &Placed) -> Option<u32>
+    ensures { result ≡ program_line placed.now }
+{
+    if is_program(&placed.stmt) {
+        Some(placed.line.0)
+    } else {
+        None
+    }
+}
+
+fn program_lines(alloc: Global, statements: &[Placed]) -> Result<Vec<u32>, NoMemory>
+    ensures { IfOk result (λ v. v.items ≡ program_lines statements.now) }
+{
+    let mut lines = Vec::new(alloc);
+    for placed in statements {
+        if let Some(line) = program_line(placed) {
+            lines.push(line)?;
+        }
+    }
+    Ok(lines)
+}
+
+// The least of E26 at these lines.
+fn least_program(lines: &[u32]) -> Option<Refusal>
+    ensures { result ≡ least (map (λ line. place line E26) lines.now) }
+{
+    let mut best = None;
+    for line in lines {
+        let refusal = Refusal {
+            line: Line(*line),
+            rule: Rule::E26,
+        };
+        best = keep_earlier(best, refusal);
+    }
+    best
+}
+
+fn wrong_program(lines: &[u32]) -> Option<Refusal>
+    ensures { result ≡ least (wrong_programs lines.now) }
+{
+    match lines {
+        [] => Some(Refusal {
+            line: Line(1),
+            rule: Rule::E26,
+        }),
+        [_, more @ ..] => least_program(more),
+    }
+}
+
+// The least of no PROGRAM statement and more than one.
+pub(crate) fn wrong_heading(
+    alloc: Global,
+    statements: &[Placed],
+) -> Result<Option<Refusal>, NoMemory>
+    ensures { IfOk result (λ v. v ≡ least (wrong_programs (program_lines statements.now))) }
+{
+    let lines = program_lines(alloc, statements)?;
+    Ok(wrong_program(&lines))
+}

@@ -1,0 +1,270 @@
+//! The variables of a unit.
+
+ghost use Rattle.std.specs.Prelude.{◌≡◌, ◌++◌, ◌∷◌, [], OnOk, IfOk, List, ℕ, map};
+ghost use Rattle.std.specs.List.{flat_map};
+ghost use Rattle.std.specs.FinMap as finite;
+ghost use Rattle.fm_mean.specs.Reading.{reading};
+ghost use Rattle.fm_front.specs.Program.{argument_names, decl_names, declared_in, declared_names, entry_names, formals_of, item_names, kind_of, statement_names, term_names, unit_names, variable_of, variables_of, with_names};
+
+use crate::by_name::ByName;
+use crate::tables::Declared;
+use crate::translation::formals_in;
+use fm_base::{Name, NoMemory, Seq};
+use fm_mean::{Argument, Entry, Item, Kind, Node, Statement, Variable};
+use fm_tree::{Decl, Placed, Stmt};
+use std::alloc::Global;
+
+fn kind(ports: &ByName<Declared>, name: &Name) -> Kind
+    ensures { result ≡ kind_of ports.now name.now }
+{
+    if ports.contains(name) {
+        Kind::Port
+    } else {
+        Kind::Integer
+    }
+}
+
+/// What has names of variables.
+trait HasNames {
+    ghost names: { Self → List (List ℕ) };
+
+    /// Adds them to the variables.
+    fn add_names(
+        &self,
+        alloc: Global,
+        ports: &ByName<Declared>,
+        variables: &mut ByName<Kind>,
+    ) -> Result<(), NoMemory>
+        ensures { OnOk result (variables.new ≡ with_names ports.now variables.old (names self.now)) };
+}
+
+fn add_all<T: HasNames>(
+    alloc: Global,
+    ports: &ByName<Declared>,
+    items: &[T],
+    variables: &mut ByName<Kind>,
+) -> Result<(), NoMemory>
+    ensures { OnOk result (variables.new ≡ with_names ports.now variables.old (flat_map T.names items.now)) }
+{
+    for item in items {
+        item.add_names(alloc, ports, variables)?;
+    }
+    Ok(())
+}
+
+fn add_name(
+    alloc: Global,
+    ports: &ByName<Declared>,
+    name: &Name,
+    variables: &mut ByName<Kind>,
+) -> Result<(), NoMemory>
+    ensures { OnOk result (variables.new ≡ with_names ports.now variables.old (name.now ∷ [])) }
+{
+    variables.add(alloc, name, kind(ports, name))
+}
+
+fn add_node(
+    alloc: Global,
+    ports: &ByName<Declared>,
+    node: &Node,
+    variables: &mut ByName<Kind>,
+) -> Result<(), NoMemory>
+    ensures { OnOk result (variables.new ≡ with_names ports.now variables.old (term_names (reading node.now))) }
+{
+    match node {
+        Node::Number(_) => Ok(()),
+        Node::Named(name) => add_name(alloc, ports, name, variables),
+        Node::Paren(inner) => add_node(alloc, ports, inner, variables),
+        Node::Signed(_, inner) => add_node(alloc, ports, inner, variables),
+        Node::Binary(_, left, right) => {
+            add_node(alloc, ports, left, variables)?;
+            add_node(alloc, ports, right, variables)?;
+            Ok(())
+        }
+    }
+}
+
+impl HasNames for Item {
+    ghost names = { item_names };
+
+    fn add_names(
+        &self,
+        alloc: Global,
+        ports: &ByName<Declared>,
+        variables: &mut ByName<Kind>,
+    ) -> Result<(), NoMemory> {
+        match self {
+            Item::Value(value) => add_node(alloc, ports, &value.node, variables),
+            Item::Text(_) => Ok(()),
+        }
+    }
+}
+
+impl HasNames for Argument {
+    ghost names = { argument_names };
+
+    fn add_names(
+        &self,
+        alloc: Global,
+        ports: &ByName<Declared>,
+        variables: &mut ByName<Kind>,
+    ) -> Result<(), NoMemory> {
+        match self {
+            Argument::Number(_, value) => add_node(alloc, ports, &value.node, variables),
+            Argument::Port(_, actual) => add_name(alloc, ports, actual, variables),
+        }
+    }
+}
+
+fn add_pair(
+    alloc: Global,
+    ports: &ByName<Declared>,
+    first: &Name,
+    second: &Name,
+    variables: &mut ByName<Kind>,
+) -> Result<(), NoMemory>
+    ensures { OnOk result (variables.new ≡ with_names ports.now variables.old (first.now ∷ second.now ∷ [])) }
+{
+    add_name(alloc, ports, first, variables)?;
+    add_name(alloc, ports, second, variables)
+}
+
+fn add_valued(
+    alloc: Global,
+    ports: &ByName<Declared>,
+    name: &Name,
+    node: &Node,
+    variables: &mut ByName<Kind>,
+) -> Result<(), NoMemory>
+    ensures { OnOk result (variables.new ≡ with_names ports.now variables.old (name.now ∷ term_names (reading node.now))) }
+{
+    add_name(alloc, ports, name, variables)?;
+    add_node(alloc, ports, node, variables)
+}
+
+impl HasNames for Entry {
+    ghost names = { entry_names };
+
+    fn add_names(
+        &self,
+        alloc: Global,
+        ports: &ByName<Declared>,
+        variables: &mut ByName<Kind>,
+    ) -> Result<(), NoMemory> {
+        match &self.statement {
+            Statement::Assign(name, value) => {
+                add_valued(alloc, ports, name, &value.node, variables)
+            }
+            Statement::Print(items) => {
+                add_all::<Item>(alloc, ports, items.as_slice(), variables)
+            }
+            Statement::Channel(inport, outport) => {
+                add_pair(alloc, ports, inport, outport, variables)
+            }
+            Statement::Send(port, value) => {
+                add_valued(alloc, ports, port, &value.node, variables)
+            }
+            Statement::Receive(port, target) => add_pair(alloc, ports, port, target, variables),
+            Statement::EndChannel(port) => add_name(alloc, ports, port, variables),
+            Statement::Processes => Ok(()),
+            Statement::ProcessCall(_, arguments) => {
+                add_all::<Argument>(alloc, ports, arguments.as_slice(), variables)
+            }
+            Statement::EndProcesses => Ok(()),
+            Statement::End => Ok(()),
+        }
+    }
+}
+
+fn add_each(
+    alloc: Global,
+    ports: &ByName<Declared>,
+    names: &[Name],
+    variables: &mut ByName<Kind>,
+) -> Result<(), NoMemory>
+    ensures { OnOk result (variables.new ≡ with_names ports.now variables.old names.now) }
+{
+    for name in names {
+        variables.add(alloc, name, kind(ports, name))?;
+    }
+    Ok(())
+}
+
+fn add_decls(
+    alloc: Global,
+    ports: &ByName<Declared>,
+    decls: &[Decl],
+    variables: &mut ByName<Kind>,
+) -> Result<(), NoMemory>
+    ensures { OnOk result (variables.new ≡ with_names ports.now variables.old (decl_names decls.now)) }
+{
+    for decl in decls {
+        variables.add(alloc, &decl.name, kind(ports, &decl.name))?;
+    }
+    Ok(())
+}
+
+impl HasNames for Placed {
+    ghost names = { declared_names };
+
+    fn add_names(
+        &self,
+        alloc: Global,
+        ports: &ByName<Declared>,
+        variables: &mut ByName<Kind>,
+    ) -> Result<(), NoMemory> {
+        match &self.stmt {
+            Stmt::Inport(_, decls) => add_decls(alloc, ports, decls.as_slice(), variables),
+            Stmt::Outport(_, decls) => add_decls(alloc, ports, decls.as_slice(), variables),
+            _ => Ok(()),
+        }
+    }
+}
+
+/// The formals of a process; none of another unit.
+pub(crate) fn formals(unit: &[Placed]) -> &[Name]
+    ensures { result.now ≡ formals_of unit.now }
+{
+    match formals_in(unit) {
+        Some(formals) => formals,
+        None => &[],
+    }
+}
+
+fn named(
+    alloc: Global,
+    ports: &ByName<Declared>,
+    unit: &[Placed],
+    body: &[Entry],
+) -> Result<ByName<Kind>, NoMemory>
+    ensures { IfOk result (λ m. m ≡ with_names ports.now finite.empty (unit_names unit.now body.now)) }
+{
+    let mut variables = ByName::new(alloc);
+    add_each(alloc, ports, formals(unit), &mut variables)?;
+    add_all::<Placed>(alloc, ports, unit, &mut variables)?;
+    add_all::<Entry>(alloc, ports, body, &mut variables)?;
+    Ok(variables)
+}
+
+fn listed(alloc: Global, entries: Vec<(Name, Kind)>) -> Result<Seq<Variable>, NoMemory>
+    ensures { IfOk result (λ v. v ≡ map variable_of entries.items) }
+{
+    let mut variables = Seq::new(alloc);
+    for (name, kind) in entries {
+        variables.push(Variable { name, kind })?;
+    }
+    Ok(variables)
+}
+
+/// The variables of a unit with this body, in byte order of their names.
+pub(crate) fn variables(
+    alloc: Global,
+    ports: &ByName<Declared>,
+    unit: &[Placed],
+    body: &[Entry],
+) -> Result<Seq<Variable>, NoMemory>
+    ensures { IfOk result (λ v. v ≡ variables_of ports.now (unit_names unit.now body.now)) }
+{
+    let named = named(alloc, ports, unit, body)?;
+    listed(alloc, named.into_entries(alloc)?)
+}
