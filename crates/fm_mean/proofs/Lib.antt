@@ -1,5 +1,3 @@
-pub mod Main
-pub mod LanguageLaws
 pub mod Ports
 pub mod Returning
 pub mod Programs

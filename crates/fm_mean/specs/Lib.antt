@@ -1,10 +1,6 @@
 pub mod Terms
 pub mod Reading
 pub mod Values
-pub mod Meaning
-pub mod Outcome
-pub mod Alone
-pub mod Language
 pub mod Process
 pub mod Actions
 pub mod Steps

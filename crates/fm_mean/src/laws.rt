@@ -1,5 +1,4 @@
-//! Laws of programs: whose ports are owned, whose schedules settle, and what their steps cost; and of
-//! states that have main alone.
+//! Laws of programs: whose ports are owned, whose schedules settle, and what their steps cost.
 
 ghost use Rattle.std.specs.Prelude.{◌≡◌, ◌≤◌, ℕ, Some, List};
 ghost use Rattle.fm_sched.specs.Schedule.{Diamond, IsEnding, Settles, Throughout};
@@ -7,29 +6,8 @@ ghost use Rattle.fm_net.specs.Lawful.{IsLawfulLanguage};
 ghost use Rattle.fm_net.specs.Machine.{Place, State};
 ghost use Rattle.fm_net.specs.Owned.{IsOwned};
 ghost use Rattle.fm_mean.specs.declared.program.Program.{Program};
-ghost use Rattle.fm_mean.specs.declared.tree.Placed.{Placed};
-ghost use Rattle.fm_mean.specs.Meaning.{step as tree_step, first as tree_first};
 ghost use Rattle.fm_mean.specs.Steps.{language, step, first};
 ghost use Rattle.fm_mean.specs.Process.{Proc};
-ghost use Rattle.fm_mean.specs.Alone.{MainSteps, MainAlone, ReportOfMain};
-
-/// Where main is alone and asks for nothing, its step changes main alone; and nobody steps where main
-/// asks for nothing more.
-pub fn main_alone()
-    ensures steps { MainSteps }
-    ensures stops { MainAlone }
-{}
-
-/// The report of main alone: its lines, and its fault, if it has faulted.
-pub fn report_of_main_alone()
-    ensures { ReportOfMain }
-{}
-
-/// Every program has one outcome: one list of choices that ends bounds every legal list, each of which
-/// goes on to an end, and each that ends gives its state at its cost.
-pub fn one_outcome()
-    ensures { (program : List Placed) (cs : List Place) → IsEnding (tree_step program) tree_first cs → Settles (tree_step program) tree_first cs }
-{}
 
 /// Along every schedule of a program, each open port stands in one place: in one variable of one process,
 /// with one process that has yet to start, or in one message that waits. The language of a program

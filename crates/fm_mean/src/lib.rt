@@ -7,10 +7,7 @@ mod outcome;
 mod program;
 mod tree;
 
-pub use laws::{
-    each_step_costs, main_alone, one_outcome, ports_are_owned, report_of_main_alone,
-    schedules_commute, schedules_settle,
-};
+pub use laws::{each_step_costs, ports_are_owned, schedules_commute, schedules_settle};
 pub use outcome::{At, FaultAt, Outcome, OutputLine, Shown, ShownVariable, Wait};
 pub use program::{Argument, Entry, Kind, Program, Statement, Unit, Variable};
-pub use tree::{Expr, Item, Node, Operator, Placed, Sign, Stmt};
+pub use tree::{Expr, Item, Node, Operator, Sign};

@@ -1,6 +1,6 @@
-//! Statements and expressions of a program.
+//! Expressions, and items of printed lists.
 
-use fm_base::{Line, Name, Seq};
+use fm_base::{Name, Seq};
 use std::marker::Model;
 
 /// A sign before an operand.
@@ -54,26 +54,4 @@ pub enum Item {
     Value(Expr),
     /// A character constant, which is printed as it is.
     Text(Seq<u8>),
-}
-
-/// A statement.
-#[derive(Drop)]
-pub enum Stmt {
-    /// The heading of the main program.
-    Program(Name),
-    /// The variable gets the value of the expression.
-    Assign(Name, Expr),
-    /// A line of the items.
-    Print(Seq<Item>),
-    /// The end of the unit.
-    End,
-}
-
-/// A statement at its first line.
-#[derive(Drop)]
-pub struct Placed {
-    /// The line.
-    pub line: Line,
-    /// The statement.
-    pub stmt: Stmt,
 }

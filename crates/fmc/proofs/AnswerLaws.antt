@@ -1,224 +1,267 @@
 -- What is answered, by the exit.
-use Rattle.std.proofs.Common.{◌≡◌, inl, inr, ℕ, ◌<◌, ◌≤◌, ◌+◌, Bool, true, false, cond, List, [], ◌∷◌, ◌++◌, length, refl, sym, ap, subst, ◌∙◌, arith}
-use Rattle.std.specs.Prelude.{Option, Some, None, is_none, replicate, IfOk, IfSome, Result, Ok, Err}
-use Rattle.std.specs.List.{filter_map, enumerate_from, cons_option}
-use Rattle.std.proofs.Math.Dec.{eqb}
+use Rattle.std.proofs.Common.{◌≡◌, inl, inr, ℕ, ◌<◌, ◌≤◌, Bool, true, false, List, [], ◌∷◌, length, refl, sym, ap, subst, ◌∙◌, arith}
+use Rattle.std.specs.Prelude.{Option, Some, None, is_none, IfOk, IfSome, Result, Ok, Err}
 use Rattle.std.proofs.lemmas.Bool.{false≢true}
-use Rattle.std.proofs.lemmas.List.{append-nil}
 use Rattle.fm_base.specs.declared.schedule.Turn.{Turn}
 use Rattle.fm_base.specs.declared.rule.Refusal.{Refusal}
 use Rattle.fm_base.specs.Rules.{refusal_text}
-use Rattle.fm_sched.specs.Schedule.{play, IsEnding}
-use Rattle.fm_mean.specs.declared.tree.Placed.{Placed}
+use Rattle.fm_base.specs.Verdict.{IsClean}
+use Rattle.fm_cards.specs.Cards.{cards_of}
+use Rattle.fm_sched.specs.Schedule.{IsLegal, Settles}
+use Rattle.fm_tree.specs.declared.program_unit.Placed.{Placed}
 use Rattle.fm_net.specs.Machine.{Place}
-use Rattle.fm_mean.specs.Meaning.{step, first}
-use Rattle.fm_mean.specs.Outcome.{outcome_of, report_text, FaultAt}
-use Rattle.fm_mean.proofs.LanguageLaws.{program_settles}
+use Rattle.fm_mean.specs.declared.program.Program.{Program}
+use Rattle.fm_mean.specs.declared.outcome.FaultAt.{FaultAt}
+use Rattle.fm_mean.specs.Steps.{step, first}
+use Rattle.fm_mean.proofs.Programs.{settles}
+use Rattle.fm_mean.specs.Report.{outcome_of, report_text}
+use Rattle.fm_front.specs.Verdict.{IsBrokenForm, AreStatementsOf}
+use Rattle.fm_front.specs.Program.{IsProgramOf}
+use Rattle.fm_front.specs.Laws.{ProgramOrRefusal}
+use Rattle.fm_run.specs.Orders.{places_of}
+use Rattle.fm_run.specs.Runs.{IsRun, EndsSo}
+use Rattle.fm_run.specs.declared.run.Ending.{Ending}
+use Rattle.fm_run.specs.declared.run.Ending.TheVariants as ending
+use Rattle.fm_run.specs.declared.run.Run as run
+use Rattle.fm_words.specs.declared.command.Command.{Command}
+use Rattle.fm_words.specs.declared.command.Command.TheVariants as command
 use Rattle.fmc.specs.declared.answer.Exit.{Exit}
 use Rattle.fmc.specs.declared.answer.Exit.TheVariants.{Done, Faulted, Deadlocked, Refused, Spent, Usage, ReadFault, WriteFault, NoMemory, TooLong, Malformed, Illegal, Unfinished}
 use Rattle.fmc.specs.declared.answer.Reply.{Reply}
-use Rattle.fmc.specs.declared.words.Command.{Command}
-use Rattle.fmc.specs.declared.words.Command.TheVariants.{Run}
-use Rattle.fmc.specs.declared.check.Statement.{Statement}
-use Rattle.fmc.specs.Lines.{lines_of, onto}
-use Rattle.fmc.specs.Cards.{cards_of, card_at}
-use Rattle.fmc.specs.Run.{IsLawful, exit_of, exit_by}
 use Rattle.fmc.specs.Exits.{is_end, is_decided}
-use Rattle.fmc.specs.declared.scan.Card.{Card}
-use Rattle.fmc.specs.Verdict.{AreStatementsOf, IsVerdictOn, IsProgramOf, program_of, placed_of}
-use Rattle.fmc.specs.Answer.{Says, SaysOf, IsEnded, IsUnplayed, HasHistory, IsCompleted, IsRefusedExit, IsTooLongExit, source_limit}
-use Rattle.fmc.specs.Reply.{bytes_of, places_in, IsReply, IsRunOf}
-use Rattle.fmc.proofs.CheckLaws.{lawful}
-use Rattle.fmc.proofs.OneVerdict.{broken_alone}
-
--- A program is no longer than its source.
-
-longer_onto : (x : ℕ) (ls : List (List ℕ)) (n : ℕ) → length ls ≤ n → length (onto x ls) ≤ n + 1
-longer_onto x [] n h = omega arith
-longer_onto x (l ∷ ls) n h = omega arith
-
-fewer_lines : (b : List ℕ) → length (lines_of b) ≤ length b
-fewer_lines [] = omega arith
-fewer_lines (x ∷ xs) = elim (eqb x 10) as (λ c. length (cond c ([] ∷ lines_of xs) (onto x (lines_of xs))) ≤ length (x ∷ xs)) [
-  | true ↦ omega (arith, fewer_lines xs)
-  | false ↦ omega (arith, longer_onto x (lines_of xs) (length xs) (fewer_lines xs))
-]
-
-fewer_kept : {X Y : Type 0} (f : ℕ × X → Option Y) (n : ℕ) (xs : List X) → length (filter_map f (enumerate_from n xs)) ≤ length xs
-fewer_kept f n [] = omega arith
-fewer_kept {Y = Y} f n (x ∷ xs) = elim (f (n, x)) as (λ o. length (cons_option o (filter_map f (enumerate_from (n + 1) xs))) ≤ length (x ∷ xs)) [
-  | None ↦ omega (arith, fewer_kept f (n + 1) xs)
-  | Some y ↦ omega (arith, fewer_kept f (n + 1) xs)
-]
-
-fewer_cards : (b : List ℕ) → length (cards_of b) ≤ length b
-unfolding cards_of
-fewer_cards b = omega (arith, fewer_kept card_at 1 (lines_of b), fewer_lines b)
-
-fewer_statements : (b : List ℕ) (ss : List Statement) → AreStatementsOf (cards_of b) ss → length ss ≡ length (cards_of b)
-fewer_statements b ss h = go (cards_of b) ss h
-  where
-    go : (cs : List Card) (ss : List Statement) → AreStatementsOf cs ss → length ss ≡ length cs
-    go [] [] h = refl
-    go [] (s ∷ ss) h = absurd h
-    go (c ∷ cs) [] h = absurd h
-    go (c ∷ cs) (s ∷ ss) h = omega (arith, go cs ss h.1)
-
-fewer_placed : (ss : List Statement) → length (program_of ss) ≤ length ss
-fewer_placed [] = omega arith
-fewer_placed (s ∷ ss) = elim (placed_of s) as (λ o. length (cons_option o (program_of ss)) ≤ length (s ∷ ss)) [
-  | None ↦ omega (arith, fewer_placed ss)
-  | Some p ↦ omega (arith, fewer_placed ss)
-]
-
-pub small_program : (b : List ℕ) (program : List Placed) → IsProgramOf b program → length program ≤ length b
-small_program b program h = omega (arith, ap length h.3, fewer_placed h.0, fewer_statements b h.0 h.1, fewer_cards b)
-
-pub lawful_program : (b : List ℕ) (program : List Placed) → IsProgramOf b program → IsLawful program
-lawful_program b program h = subst IsLawful (sym h.3) (lawful h.0 h.2)
+use Rattle.fmc.specs.Listing.{listed_text}
+use Rattle.fmc.specs.Answer.{Says, SaysOf, IsKept, IsEnded, IsUnplayed, HasHistory, IsAccepted, IsRefusedFor, IsCompleted, IsRefusedExit, IsTooLongExit, IsPlayedExit, source_limit, exit_by, exit_of, played, paid}
+use Rattle.fmc.specs.Reply.{bytes_of, places_in, IsReply, exit_in, text_in}
 
 -- Replies from what the parts give.
 
-pub refusal_says : (b : List ℕ) (v : Refusal) (r : Reply) → length b ≤ source_limit → IsVerdictOn b (Some v) → r.ran.exit ≡ Refused → IsUnplayed r.ran.history.items (places_in r.ran) (bytes_of r.text) (refusal_text v) → IsReply Run b r
-refusal_says b v r le h e u = subst (λ (x : Exit). Says Run b x r.ran.history.items (places_in r.ran) (bytes_of r.text)) (sym e) (v, le, h, u)
+pub refusal_says : (c : Command) (b : List ℕ) (v : Refusal) (r : Reply) → length b ≤ source_limit → IsRefusedFor c b v → r.ran.exit ≡ Refused → IsUnplayed r.ran.history.items (places_in r.ran) (bytes_of r.text) (refusal_text v) → IsReply c b r
+refusal_says (command.Run turns vars) b v r le h e u = subst (λ (x : Exit). Says (command.Run turns vars) b x r.ran.history.items (places_in r.ran) (bytes_of r.text)) (sym e) (record { within = le; refusal = v; refused = h; unplayed = u })
+refusal_says command.List b v r le h e u = subst (λ (x : Exit). Says command.List b x r.ran.history.items (places_in r.ran) (bytes_of r.text)) (sym e) (record { within = le; refusal = v; refused = h; unplayed = u })
+
+pub listed_says : (b : List ℕ) (ss : List Placed) (r : Reply) → length b ≤ source_limit → IsClean (IsBrokenForm b) → AreStatementsOf (cards_of b) ss → r.ran.exit ≡ Done → IsUnplayed r.ran.history.items (places_in r.ran) (bytes_of r.text) (listed_text ss) → IsReply command.List b r
+listed_says b ss r le h k e u = subst (λ (x : Exit). Says command.List b x r.ran.history.items (places_in r.ran) (bytes_of r.text)) (sym e) (record { within = le; clean = h; statements = ss; read = k; unplayed = u })
 
 end_by : (fs : List FaultAt) (b : Bool) → is_end (exit_by fs b) ≡ true
 end_by [] true = refl
 end_by [] false = refl
 end_by (f ∷ fs) b = refl
 
-ended_says : (b : List ℕ) (exit : Exit) (h : List Turn) (ps : List Place) (t : List ℕ) → is_end exit ≡ true → IsEnded b exit h ps t → Says Run b exit h ps t
-ended_says b Done h ps t e k = k
-ended_says b Faulted h ps t e k = k
-ended_says b Deadlocked h ps t e k = k
-ended_says b Refused h ps t e k = absurd (false≢true e)
-ended_says b Spent h ps t e k = absurd (false≢true e)
-ended_says b Usage h ps t e k = absurd (false≢true e)
-ended_says b ReadFault h ps t e k = absurd (false≢true e)
-ended_says b WriteFault h ps t e k = absurd (false≢true e)
-ended_says b NoMemory h ps t e k = absurd (false≢true e)
-ended_says b TooLong h ps t e k = absurd (false≢true e)
-ended_says b Malformed h ps t e k = absurd (false≢true e)
-ended_says b Illegal h ps t e k = absurd (false≢true e)
-ended_says b Unfinished h ps t e k = absurd (false≢true e)
+ended_says : (b : List ℕ) (turns : ℕ) (vars : Bool) (exit : Exit) (h : List Turn) (ps : List Place) (t : List ℕ) → is_end exit ≡ true → IsEnded b turns vars exit h ps t → Says (command.Run turns vars) b exit h ps t
+ended_says b turns vars Done h ps t e k = k
+ended_says b turns vars Faulted h ps t e k = k
+ended_says b turns vars Deadlocked h ps t e k = k
+ended_says b turns vars Refused h ps t e k = absurd (false≢true e)
+ended_says b turns vars Spent h ps t e k = absurd (false≢true e)
+ended_says b turns vars Usage h ps t e k = absurd (false≢true e)
+ended_says b turns vars ReadFault h ps t e k = absurd (false≢true e)
+ended_says b turns vars WriteFault h ps t e k = absurd (false≢true e)
+ended_says b turns vars NoMemory h ps t e k = absurd (false≢true e)
+ended_says b turns vars TooLong h ps t e k = absurd (false≢true e)
+ended_says b turns vars Malformed h ps t e k = absurd (false≢true e)
+ended_says b turns vars Illegal h ps t e k = absurd (false≢true e)
+ended_says b turns vars Unfinished h ps t e k = absurd (false≢true e)
 
-run_ended : (b : List ℕ) (program : List Placed) (r : Reply) → length b ≤ source_limit → IsProgramOf b program → IsRunOf program r → IsEnded b r.ran.exit r.ran.history.items (places_in r.ran) (bytes_of r.text)
-run_ended b program r le lawful run =
-    let n = run.steps in
-    let cs : List Place = replicate n [] ++ [] in
-    let same : cs ≡ replicate n [] = append-nil (replicate n []) in
-    let ends : IsEnding (step program) first cs = subst (λ (ds : List Place). IsEnding (step program) first ds) (sym same) run.reports.ends in
-    let there : play (step program) first cs ≡ run.reports.state = ap (play (step program) first) same ∙ run.reports.there in
+-- a schedule that costs more than the turns: each one that ends costs as much or more
+spent_too : (program : Program) (turns : ℕ) (cs others : List Place) → IsLegal (step program) (first program) cs → turns < paid program cs → Settles (step program) (first program) others → turns < paid program others
+spent_too program turns cs others legal over all = omega (arith, over, all.dearest cs legal)
+
+-- what a run says, by how it ended
+run_by : (b : List ℕ) (program : Program) (turns : ℕ) (vars : Bool) (history : List Turn) (places cs : List Place) (e : Ending) → length b ≤ source_limit → IsKept b program history places cs → EndsSo program turns cs e
+    → Says (command.Run turns vars) b (exit_in e) history places (text_in turns vars e)
+run_by b program turns vars history places cs (ending.Ended o) le kept h =
+    let out = outcome_of program (paid program cs) (played program cs) in
+    ended_says b turns vars (exit_of o) history places (report_text vars o) (end_by o.faults o.main_ended)
+    (record {
+      within = le;
+      program = program;
+      choices = cs;
+      kept = kept;
+      ends = (kept.legal, h.0);
+      in_turns = h.1;
+      exit_is = ap exit_of h.2;
+      text_is = ap (report_text vars) h.2;
+      one_outcome = settles program cs (kept.legal, h.0);
+    })
+run_by b program turns vars history places cs ending.Spent le kept h =
     record {
       within = le;
       program = program;
       choices = cs;
-      kept = record { lawful = lawful; kept = rw (run.history, run.places) refl; starts = run.places; legal = ends.0 };
-      ends = ends;
-      exit_is = run.reports.exit_is ∙ ap (λ s. exit_of (outcome_of s)) (sym there);
-      text_is = run.reports.text_is ∙ ap (λ s. report_text (outcome_of s)) (sym there);
-      one_outcome = program_settles program cs ends;
+      kept = kept;
+      over = h;
+      text_is = refl;
+      spent_for_all = λ others ends. spent_too program turns cs others kept.legal h (settles program others ends);
     }
 
-pub run_says : (b : List ℕ) (program : List Placed) (r : Reply) → length b ≤ source_limit → IsProgramOf b program → IsRunOf program r → IsReply Run b r
-run_says b program r le lawful run =
-    ended_says b r.ran.exit r.ran.history.items (places_in r.ran) (bytes_of r.text)
-    (ap is_end run.reports.exit_is ∙ end_by (outcome_of run.reports.state).faults (outcome_of run.reports.state).main_ended) (run_ended b program r le lawful run)
+kept_of : (b : List ℕ) (program : Program) (turns : ℕ) (r : run.Run) → IsProgramOf b program → (k : IsRun program turns r) → IsKept b program r.history.items (places_of r.paths.items) k.choices
+kept_of b program turns r lawful k = record { lawful = lawful; kept = k.kept; starts = k.places; legal = k.legal }
 
-pub run_decided : (program : List Placed) (r : Reply) → IsRunOf program r → is_decided r.ran.exit ≡ true
-run_decided program r run = ap is_decided run.reports.exit_is ∙ decided_by (outcome_of run.reports.state).faults (outcome_of run.reports.state).main_ended
-  where
-    decided_by : (fs : List FaultAt) (b : Bool) → is_decided (exit_by fs b) ≡ true
-    decided_by [] true = refl
-    decided_by [] false = refl
-    decided_by (f ∷ fs) b = refl
+pub run_says : (b : List ℕ) (program : Program) (turns : ℕ) (vars : Bool) (r : run.Run) → length b ≤ source_limit → IsProgramOf b program → IsRun program turns r
+    → Says (command.Run turns vars) b (exit_in r.ending) r.history.items (places_of r.paths.items) (text_in turns vars r.ending)
+run_says b program turns vars r le lawful k = run_by b program turns vars r.history.items (places_of r.paths.items) k.choices r.ending le (kept_of b program turns r lawful k) k.ends
+
+played_by : (fs : List FaultAt) (b : Bool) → IsPlayedExit (exit_by fs b)
+played_by [] true = inl (inl refl)
+played_by [] false = inl (inr (inr refl))
+played_by (f ∷ fs) b = inl (inr (inl refl))
+
+pub run_played : (e : Ending) → IsPlayedExit (exit_in e)
+run_played (ending.Ended o) = played_by o.faults o.main_ended
+run_played ending.Spent = inr refl
+
+pub played_decided : (e : Exit) → IsPlayedExit e → is_decided e ≡ true
+played_decided e (inl (inl h)) = ap is_decided h
+played_decided e (inl (inr (inl h))) = ap is_decided h
+played_decided e (inl (inr (inr h))) = ap is_decided h
+played_decided e (inr h) = ap is_decided h
 
 -- What follows from what is said.
 
 unplayed_history : (b : List ℕ) (h : List Turn) (ps : List Place) (t u : List ℕ) → IsUnplayed h ps t u → HasHistory b h ps
 unplayed_history b h ps t u k = inl (k.no_turns, k.no_places)
 
-ended_history : (b : List ℕ) (exit : Exit) (h : List Turn) (ps : List Place) (t : List ℕ) → IsEnded b exit h ps t → HasHistory b h ps
-ended_history b exit h ps t k = inr (k.program, k.choices, k.kept)
+run_history : (turns : ℕ) (vars : Bool) (b : List ℕ) (exit : Exit) (h : List Turn) (ps : List Place) (t : List ℕ) → Says (command.Run turns vars) b exit h ps t → HasHistory b h ps
+run_history turns vars b Done h ps t k = inr (k.program, k.choices, k.kept)
+run_history turns vars b Faulted h ps t k = inr (k.program, k.choices, k.kept)
+run_history turns vars b Deadlocked h ps t k = inr (k.program, k.choices, k.kept)
+run_history turns vars b Refused h ps t k = unplayed_history b h ps t _ k.unplayed
+run_history turns vars b Spent h ps t k = inr (k.program, k.choices, k.kept)
+run_history turns vars b Usage h ps t k = absurd k
+run_history turns vars b ReadFault h ps t k = unplayed_history b h ps t _ k
+run_history turns vars b WriteFault h ps t k = absurd k
+run_history turns vars b NoMemory h ps t k = unplayed_history b h ps t _ k
+run_history turns vars b TooLong h ps t k = unplayed_history b h ps t _ k.1
+run_history turns vars b Malformed h ps t k = absurd k
+run_history turns vars b Illegal h ps t k = absurd k
+run_history turns vars b Unfinished h ps t k = absurd k
 
-run_history : (b : List ℕ) (exit : Exit) (h : List Turn) (ps : List Place) (t : List ℕ) → Says Run b exit h ps t → HasHistory b h ps
-run_history b Done h ps t k = ended_history b Done h ps t k
-run_history b Faulted h ps t k = ended_history b Faulted h ps t k
-run_history b Deadlocked h ps t k = ended_history b Deadlocked h ps t k
-run_history b Refused h ps t k = unplayed_history b h ps t _ k.3
-run_history b Spent h ps t k = absurd k
-run_history b Usage h ps t k = absurd k
-run_history b ReadFault h ps t k = unplayed_history b h ps t _ k
-run_history b WriteFault h ps t k = absurd k
-run_history b NoMemory h ps t k = unplayed_history b h ps t _ k
-run_history b TooLong h ps t k = unplayed_history b h ps t _ k.1
-run_history b Malformed h ps t k = absurd k
-run_history b Illegal h ps t k = absurd k
-run_history b Unfinished h ps t k = absurd k
+list_history : (b : List ℕ) (exit : Exit) (h : List Turn) (ps : List Place) (t : List ℕ) → Says command.List b exit h ps t → HasHistory b h ps
+list_history b Done h ps t k = unplayed_history b h ps t _ k.unplayed
+list_history b Faulted h ps t k = absurd k
+list_history b Deadlocked h ps t k = absurd k
+list_history b Refused h ps t k = unplayed_history b h ps t _ k.unplayed
+list_history b Spent h ps t k = absurd k
+list_history b Usage h ps t k = absurd k
+list_history b ReadFault h ps t k = unplayed_history b h ps t _ k
+list_history b WriteFault h ps t k = absurd k
+list_history b NoMemory h ps t k = unplayed_history b h ps t _ k
+list_history b TooLong h ps t k = unplayed_history b h ps t _ k.1
+list_history b Malformed h ps t k = absurd k
+list_history b Illegal h ps t k = absurd k
+list_history b Unfinished h ps t k = absurd k
 
 pub says_history : (o : Option Command) (b : List ℕ) (exit : Exit) (h : List Turn) (ps : List Place) (t : List ℕ) → SaysOf o b exit h ps t → HasHistory b h ps
 says_history None b exit h ps t k = unplayed_history b h ps t _ k.1
-says_history (Some Run) b exit h ps t k = run_history b exit h ps t k
+says_history (Some (command.Run turns vars)) b exit h ps t k = run_history turns vars b exit h ps t k
+says_history (Some command.List) b exit h ps t k = list_history b exit h ps t k
 
-run_completed : (b : List ℕ) (exit : Exit) (h : List Turn) (ps : List Place) (t : List ℕ) → Says Run b exit h ps t → (exit ≡ ReadFault → ⊥) → length b ≤ source_limit → IsVerdictOn b None → IsCompleted exit
-run_completed b Done h ps t k r le v = inl (inl refl)
-run_completed b Faulted h ps t k r le v = inl (inr (inl refl))
-run_completed b Deadlocked h ps t k r le v = inl (inr (inr refl))
-run_completed b Refused h ps t k r le v = absurd (broken_alone b k.0 k.2 v)
-run_completed b Spent h ps t k r le v = absurd k
-run_completed b Usage h ps t k r le v = absurd k
-run_completed b ReadFault h ps t k r le v = absurd (r refl)
-run_completed b WriteFault h ps t k r le v = absurd k
-run_completed b NoMemory h ps t k r le v = inr refl
-run_completed b TooLong h ps t k r le v = absurd (omega (arith, k.0))
-run_completed b Malformed h ps t k r le v = absurd k
-run_completed b Illegal h ps t k r le v = absurd k
-run_completed b Unfinished h ps t k r le v = absurd k
+run_completed : ProgramOrRefusal → (turns : ℕ) (vars : Bool) (b : List ℕ) (exit : Exit) (h : List Turn) (ps : List Place) (t : List ℕ) → Says (command.Run turns vars) b exit h ps t → (exit ≡ ReadFault → ⊥) → length b ≤ source_limit → IsAccepted (command.Run turns vars) b → IsCompleted (command.Run turns vars) exit
+run_completed one turns vars b Done h ps t k r le v = inl (inl refl)
+run_completed one turns vars b Faulted h ps t k r le v = inl (inr (inl refl))
+run_completed one turns vars b Deadlocked h ps t k r le v = inl (inr (inr refl))
+run_completed one turns vars b Refused h ps t k r le v = absurd (one b v.0 k.refusal v.1 k.refused)
+run_completed one turns vars b Spent h ps t k r le v = inr (inl refl)
+run_completed one turns vars b Usage h ps t k r le v = absurd k
+run_completed one turns vars b ReadFault h ps t k r le v = absurd (r refl)
+run_completed one turns vars b WriteFault h ps t k r le v = absurd k
+run_completed one turns vars b NoMemory h ps t k r le v = inr (inr refl)
+run_completed one turns vars b TooLong h ps t k r le v = absurd (omega (arith, k.0))
+run_completed one turns vars b Malformed h ps t k r le v = absurd k
+run_completed one turns vars b Illegal h ps t k r le v = absurd k
+run_completed one turns vars b Unfinished h ps t k r le v = absurd k
 
-pub completed : (o : Option Command) (b : List ℕ) (exit : Exit) (h : List Turn) (ps : List Place) (t : List ℕ) → SaysOf o b exit h ps t → is_none o ≡ false → (exit ≡ ReadFault → ⊥) → length b ≤ source_limit → IsVerdictOn b None → IsCompleted exit
-completed None b exit h ps t k c r le v = absurd (false≢true (sym c))
-completed (Some Run) b exit h ps t k c r le v = run_completed b exit h ps t k r le v
+list_completed : (b : List ℕ) (exit : Exit) (h : List Turn) (ps : List Place) (t : List ℕ) → Says command.List b exit h ps t → (exit ≡ ReadFault → ⊥) → length b ≤ source_limit → IsAccepted command.List b → IsCompleted command.List exit
+list_completed b Done h ps t k r le v = inl refl
+list_completed b Faulted h ps t k r le v = absurd k
+list_completed b Deadlocked h ps t k r le v = absurd k
+list_completed b Refused h ps t k r le v = absurd (v k.refusal k.refused.broken)
+list_completed b Spent h ps t k r le v = absurd k
+list_completed b Usage h ps t k r le v = absurd k
+list_completed b ReadFault h ps t k r le v = absurd (r refl)
+list_completed b WriteFault h ps t k r le v = absurd k
+list_completed b NoMemory h ps t k r le v = inr refl
+list_completed b TooLong h ps t k r le v = absurd (omega (arith, k.0))
+list_completed b Malformed h ps t k r le v = absurd k
+list_completed b Illegal h ps t k r le v = absurd k
+list_completed b Unfinished h ps t k r le v = absurd k
 
-kept_clean : (b : List ℕ) (exit : Exit) (h : List Turn) (ps : List Place) (t : List ℕ) → IsEnded b exit h ps t → IsVerdictOn b None
-kept_clean b exit h ps t k = let l = k.kept.lawful in (l.0, l.1, l.2)
+pub completed : ProgramOrRefusal → (c : Command) (b : List ℕ) (exit : Exit) (h : List Turn) (ps : List Place) (t : List ℕ) → Says c b exit h ps t → (exit ≡ ReadFault → ⊥) → length b ≤ source_limit → IsAccepted c b → IsCompleted c exit
+completed one (command.Run turns vars) b exit h ps t k r le v = run_completed one turns vars b exit h ps t k r le v
+completed one command.List b exit h ps t k r le v = list_completed b exit h ps t k r le v
 
-run_refused : (b : List ℕ) (exit : Exit) (h : List Turn) (ps : List Place) (t : List ℕ) → Says Run b exit h ps t → (exit ≡ ReadFault → ⊥) → length b ≤ source_limit → (v : Refusal) → IsVerdictOn b (Some v) → IsRefusedExit exit
-run_refused b Done h ps t k r le v w = absurd (broken_alone b v w (kept_clean b Done h ps t k))
-run_refused b Faulted h ps t k r le v w = absurd (broken_alone b v w (kept_clean b Faulted h ps t k))
-run_refused b Deadlocked h ps t k r le v w = absurd (broken_alone b v w (kept_clean b Deadlocked h ps t k))
-run_refused b Refused h ps t k r le v w = inl refl
-run_refused b Spent h ps t k r le v w = absurd k
-run_refused b Usage h ps t k r le v w = absurd k
-run_refused b ReadFault h ps t k r le v w = absurd (r refl)
-run_refused b WriteFault h ps t k r le v w = absurd k
-run_refused b NoMemory h ps t k r le v w = inr refl
-run_refused b TooLong h ps t k r le v w = absurd (omega (arith, k.0))
-run_refused b Malformed h ps t k r le v w = absurd k
-run_refused b Illegal h ps t k r le v w = absurd k
-run_refused b Unfinished h ps t k r le v w = absurd k
+run_refused : ProgramOrRefusal → (turns : ℕ) (vars : Bool) (b : List ℕ) (exit : Exit) (h : List Turn) (ps : List Place) (t : List ℕ) → Says (command.Run turns vars) b exit h ps t → (exit ≡ ReadFault → ⊥) → length b ≤ source_limit → (v : Refusal) → IsRefusedFor (command.Run turns vars) b v → IsRefusedExit exit
+run_refused one turns vars b Done h ps t k r le v w = absurd (one b k.program v k.kept.lawful w)
+run_refused one turns vars b Faulted h ps t k r le v w = absurd (one b k.program v k.kept.lawful w)
+run_refused one turns vars b Deadlocked h ps t k r le v w = absurd (one b k.program v k.kept.lawful w)
+run_refused one turns vars b Refused h ps t k r le v w = inl refl
+run_refused one turns vars b Spent h ps t k r le v w = absurd (one b k.program v k.kept.lawful w)
+run_refused one turns vars b Usage h ps t k r le v w = absurd k
+run_refused one turns vars b ReadFault h ps t k r le v w = absurd (r refl)
+run_refused one turns vars b WriteFault h ps t k r le v w = absurd k
+run_refused one turns vars b NoMemory h ps t k r le v w = inr refl
+run_refused one turns vars b TooLong h ps t k r le v w = absurd (omega (arith, k.0))
+run_refused one turns vars b Malformed h ps t k r le v w = absurd k
+run_refused one turns vars b Illegal h ps t k r le v w = absurd k
+run_refused one turns vars b Unfinished h ps t k r le v w = absurd k
 
-pub refused_by : (o : Option Command) (b : List ℕ) (exit : Exit) (h : List Turn) (ps : List Place) (t : List ℕ) → SaysOf o b exit h ps t → is_none o ≡ false → (exit ≡ ReadFault → ⊥) → length b ≤ source_limit → (v : Refusal) → IsVerdictOn b (Some v) → IsRefusedExit exit
-refused_by None b exit h ps t k c r le v w = absurd (false≢true (sym c))
-refused_by (Some Run) b exit h ps t k c r le v w = run_refused b exit h ps t k r le v w
+list_refused : (b : List ℕ) (exit : Exit) (h : List Turn) (ps : List Place) (t : List ℕ) → Says command.List b exit h ps t → (exit ≡ ReadFault → ⊥) → length b ≤ source_limit → (v : Refusal) → IsRefusedFor command.List b v → IsRefusedExit exit
+list_refused b Done h ps t k r le v w = absurd (k.clean v w.broken)
+list_refused b Faulted h ps t k r le v w = absurd k
+list_refused b Deadlocked h ps t k r le v w = absurd k
+list_refused b Refused h ps t k r le v w = inl refl
+list_refused b Spent h ps t k r le v w = absurd k
+list_refused b Usage h ps t k r le v w = absurd k
+list_refused b ReadFault h ps t k r le v w = absurd (r refl)
+list_refused b WriteFault h ps t k r le v w = absurd k
+list_refused b NoMemory h ps t k r le v w = inr refl
+list_refused b TooLong h ps t k r le v w = absurd (omega (arith, k.0))
+list_refused b Malformed h ps t k r le v w = absurd k
+list_refused b Illegal h ps t k r le v w = absurd k
+list_refused b Unfinished h ps t k r le v w = absurd k
 
-run_long : (b : List ℕ) (exit : Exit) (h : List Turn) (ps : List Place) (t : List ℕ) → Says Run b exit h ps t → (exit ≡ ReadFault → ⊥) → source_limit < length b → IsTooLongExit exit
-run_long b Done h ps t k r l = absurd (omega (arith, k.within))
-run_long b Faulted h ps t k r l = absurd (omega (arith, k.within))
-run_long b Deadlocked h ps t k r l = absurd (omega (arith, k.within))
-run_long b Refused h ps t k r l = absurd (omega (arith, k.1))
-run_long b Spent h ps t k r l = absurd k
-run_long b Usage h ps t k r l = absurd k
-run_long b ReadFault h ps t k r l = absurd (r refl)
-run_long b WriteFault h ps t k r l = absurd k
-run_long b NoMemory h ps t k r l = inr refl
-run_long b TooLong h ps t k r l = inl refl
-run_long b Malformed h ps t k r l = absurd k
-run_long b Illegal h ps t k r l = absurd k
-run_long b Unfinished h ps t k r l = absurd k
+pub refused_by : ProgramOrRefusal → (c : Command) (b : List ℕ) (exit : Exit) (h : List Turn) (ps : List Place) (t : List ℕ) → Says c b exit h ps t → (exit ≡ ReadFault → ⊥) → length b ≤ source_limit → (v : Refusal) → IsRefusedFor c b v → IsRefusedExit exit
+refused_by one (command.Run turns vars) b exit h ps t k r le v w = run_refused one turns vars b exit h ps t k r le v w
+refused_by one command.List b exit h ps t k r le v w = list_refused b exit h ps t k r le v w
+
+run_long : (turns : ℕ) (vars : Bool) (b : List ℕ) (exit : Exit) (h : List Turn) (ps : List Place) (t : List ℕ) → Says (command.Run turns vars) b exit h ps t → (exit ≡ ReadFault → ⊥) → source_limit < length b → IsTooLongExit exit
+run_long turns vars b Done h ps t k r l = absurd (omega (arith, k.within))
+run_long turns vars b Faulted h ps t k r l = absurd (omega (arith, k.within))
+run_long turns vars b Deadlocked h ps t k r l = absurd (omega (arith, k.within))
+run_long turns vars b Refused h ps t k r l = absurd (omega (arith, k.within))
+run_long turns vars b Spent h ps t k r l = absurd (omega (arith, k.within))
+run_long turns vars b Usage h ps t k r l = absurd k
+run_long turns vars b ReadFault h ps t k r l = absurd (r refl)
+run_long turns vars b WriteFault h ps t k r l = absurd k
+run_long turns vars b NoMemory h ps t k r l = inr refl
+run_long turns vars b TooLong h ps t k r l = inl refl
+run_long turns vars b Malformed h ps t k r l = absurd k
+run_long turns vars b Illegal h ps t k r l = absurd k
+run_long turns vars b Unfinished h ps t k r l = absurd k
+
+list_long : (b : List ℕ) (exit : Exit) (h : List Turn) (ps : List Place) (t : List ℕ) → Says command.List b exit h ps t → (exit ≡ ReadFault → ⊥) → source_limit < length b → IsTooLongExit exit
+list_long b Done h ps t k r l = absurd (omega (arith, k.within))
+list_long b Faulted h ps t k r l = absurd k
+list_long b Deadlocked h ps t k r l = absurd k
+list_long b Refused h ps t k r l = absurd (omega (arith, k.within))
+list_long b Spent h ps t k r l = absurd k
+list_long b Usage h ps t k r l = absurd k
+list_long b ReadFault h ps t k r l = absurd (r refl)
+list_long b WriteFault h ps t k r l = absurd k
+list_long b NoMemory h ps t k r l = inr refl
+list_long b TooLong h ps t k r l = inl refl
+list_long b Malformed h ps t k r l = absurd k
+list_long b Illegal h ps t k r l = absurd k
+list_long b Unfinished h ps t k r l = absurd k
 
 pub too_long_by : (o : Option Command) (b : List ℕ) (exit : Exit) (h : List Turn) (ps : List Place) (t : List ℕ) → SaysOf o b exit h ps t → is_none o ≡ false → (exit ≡ ReadFault → ⊥) → source_limit < length b → IsTooLongExit exit
 too_long_by None b exit h ps t k c r l = absurd (false≢true (sym c))
-too_long_by (Some Run) b exit h ps t k c r l = run_long b exit h ps t k r l
+too_long_by (Some (command.Run turns vars)) b exit h ps t k c r l = run_long turns vars b exit h ps t k r l
+too_long_by (Some command.List) b exit h ps t k c r l = list_long b exit h ps t k r l
+
+-- the same of what the words say
+pub said_of : (o : Option Command) (c : Command) (b : List ℕ) (exit : Exit) (h : List Turn) (ps : List Place) (t : List ℕ) → o ≡ Some c → SaysOf o b exit h ps t → Says c b exit h ps t
+said_of o c b exit h ps t e k = subst (λ (x : Option Command). SaysOf x b exit h ps t) e k
 
 pub both_ok : {T E : Type 0} (r : Result T E) (P Q R : T → Type 0) → ((x : T) → P x → Q x → R x) → IfOk r P → IfOk r Q → IfOk r R
 both_ok (Ok x) P Q R f p q = f x p q
@@ -227,3 +270,8 @@ both_ok (Err e) P Q R f p q = tt
 pub when_told : (o : Option (List ℕ)) (P Q : List ℕ → Type 0) → ((b : List ℕ) → P b → Q b) → IfSome o P → IfSome o Q
 when_told None P Q f h = tt
 when_told (Some b) P Q f h = f b h
+
+-- what holds of the bytes that were read holds of those that the source had
+pub of_read : (o : Option (List ℕ)) (read bytes : List ℕ) (P : List ℕ → Type 0) → read ≡ bytes → IfSome o (λ b. bytes ≡ b) → P read → IfSome o P
+of_read None read bytes P e h k = tt
+of_read (Some b) read bytes P e h k = subst P (e ∙ h) k

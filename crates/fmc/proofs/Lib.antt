@@ -1,11 +1,1 @@
-pub mod Scans
-pub mod Frames
-pub mod PrintLaws
-pub mod RunLaws
-pub mod Digits
-pub mod PieceLaws
-pub mod TermLaws
-pub mod FrontLaws
-pub mod CheckLaws
-pub mod OneVerdict
 pub mod AnswerLaws

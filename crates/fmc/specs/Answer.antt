@@ -1,28 +1,33 @@
 -- What a call answers: exit, kept schedule and text, for the bytes of a source.
 -- Source: this profile.
-use Rattle.std.specs.Prelude.{◌≡◌, ◌≢◌, ◌⊎◌, ℕ, ◌<◌, ◌≤◌, false, List, [], ◌∷◌, ◌++◌, length, replicate, slice_get, Option, Some, None, is_none, option_and_then, codes}
-use Rattle.std.specs.Option.{option_map}
-use Rattle.std.specs.Arc.{arc_value}
-use Rattle.std.specs.declared.alloc.Global.{Global}
-use Rattle.std.specs.declared.sync.Arc.{Arc}
+use Rattle.std.specs.Prelude.{◌≡◌, ◌≢◌, ◌⊎◌, ℕ, ◌<◌, ◌≤◌, Bool, true, false, List, [], ◌∷◌, ◌++◌, length, Option, Some, None, is_none, codes}
+use Rattle.std.specs.Fmt.{decimal}
 use Rattle.std.specs.Io.KnownBytes.{Appends}
-use Rattle.fm_base.specs.declared.path.Path.{Path}
 use Rattle.fm_base.specs.declared.schedule.Turn.{Turn}
+use Rattle.fm_base.specs.declared.rule.CheckFail.TheVariants as fail
 use Rattle.fm_base.specs.declared.rule.Refusal.{Refusal}
 use Rattle.fm_base.specs.Rules.{refusal_text}
+use Rattle.fm_base.specs.Verdict.{IsClean, IsLeast}
+use Rattle.fm_cards.specs.Cards.{cards_of}
 use Rattle.fm_io.specs.Streams.{WritesFront}
-use Rattle.fm_sched.specs.Schedule.{play, IsLegal, IsEnding, Settles}
-use Rattle.fm_mean.specs.declared.tree.Placed.{Placed}
-use Rattle.fm_net.specs.Machine.{Place}
-use Rattle.fm_mean.specs.Meaning.{step, first}
-use Rattle.fm_mean.specs.Outcome.{outcome_of, report_text}
+use Rattle.fm_sched.specs.Schedule.{play, used, IsLegal, IsEnding, Settles}
+use Rattle.fm_tree.specs.declared.program_unit.Placed.{Placed}
+use Rattle.fm_net.specs.Machine.{Place, State}
+use Rattle.fm_mean.specs.declared.program.Program.{Program}
+use Rattle.fm_mean.specs.declared.outcome.FaultAt.{FaultAt}
+use Rattle.fm_mean.specs.declared.outcome.Outcome.{Outcome}
+use Rattle.fm_mean.specs.Process.{Proc}
+use Rattle.fm_mean.specs.Steps.{step, first}
+use Rattle.fm_mean.specs.Starts.{starts_of, choices_of}
+use Rattle.fm_mean.specs.Report.{outcome_of, report_text}
+use Rattle.fm_front.specs.Verdict.{IsBrokenForm, AreStatementsOf}
+use Rattle.fm_front.specs.Program.{IsProgramOf, IsRefusalOf}
+use Rattle.fm_words.specs.Words.{command_of}
+use Rattle.fm_words.specs.declared.command.Command.{Command}
+use Rattle.fm_words.specs.declared.command.Command.TheVariants as command
 use Rattle.fmc.specs.declared.answer.Exit.{Exit}
 use Rattle.fmc.specs.declared.answer.Exit.TheVariants.{Done, Faulted, Deadlocked, Refused, Spent, Usage, ReadFault, WriteFault, NoMemory, TooLong, Malformed, Illegal, Unfinished}
-use Rattle.fmc.specs.declared.words.Command.{Command}
-use Rattle.fmc.specs.declared.words.Command.TheVariants.{Run}
-use Rattle.fmc.specs.Words.{command_of}
-use Rattle.fmc.specs.Run.{exit_of}
-use Rattle.fmc.specs.Verdict.{IsVerdictOn, IsProgramOf}
+use Rattle.fmc.specs.Listing.{listed_text}
 
 abbrev pub usage_text : List ℕ
 usage_text = codes "usage: fmc run or trace or replay or check or list or make N or demo N\n"
@@ -31,36 +36,56 @@ usage_text = codes "usage: fmc run or trace or replay or check or list or make N
 abbrev pub source_limit : ℕ
 source_limit = 1000000
 
-abbrev pub place_in : Arc Path Global → Place
-place_in a = arc_value a
+-- `spent T`
+abbrev pub spent_text : ℕ → List ℕ
+spent_text turns = codes "spent " ++ decimal turns ++ 10 ∷ []
 
--- k steps of the n-th process for each turn, or none where there is no n-th process
-abbrev pub choices_of : List Turn → List Place → Option (List Place)
-choices_of [] places = Some []
-choices_of (t ∷ ts) places = option_and_then (λ p. option_map (λ cs. replicate t.steps p ++ cs) (choices_of ts places)) (slice_get places t.number)
+-- the exit of a run that ended
+abbrev pub exit_by : List FaultAt → Bool → Exit
+exit_by [] true = Done
+exit_by [] false = Deadlocked
+exit_by (f ∷ fs) ended = Faulted
 
--- the processes in the order of their starting: main alone, in this language
-abbrev pub starts_of : List Placed → List Place → List Place
-starts_of program choices = [] ∷ []
+abbrev pub exit_of : Outcome → Exit
+exit_of o = exit_by o.faults o.main_ended
 
--- the kept schedule is one of the program, which breaks no rule
-pub record IsKept (source : List ℕ) (program : List Placed) (history : List Turn) (places choices : List Place) : Type 0 where
+-- the state that a schedule of a program leads to, and what it costs
+abbrev pub played : Program → List Place → State Proc
+played program choices = play (step program) (first program) choices
+
+abbrev pub paid : Program → List Place → ℕ
+paid program choices = used (step program) (first program) choices
+
+-- the kept schedule is one of the program of the source, with its processes in the order of starting
+pub record IsKept (source : List ℕ) (program : Program) (history : List Turn) (places choices : List Place) : Type 0 where
   pub lawful : IsProgramOf source program
   pub kept : choices_of history places ≡ Some choices
   pub starts : places ≡ starts_of program choices
-  pub legal : IsLegal (step program) first choices
+  pub legal : IsLegal (step program) (first program) choices
 
--- the kept schedule ends the program, and exit and text are those of the state in which it and every other schedule ends
-pub record IsEnded (source : List ℕ) (exit : Exit) (history : List Turn) (places : List Place) (text : List ℕ) : Type 0 where
+-- the kept schedule ends the program within the turns, and exit and text are those of the state in which it and every other schedule ends
+pub record IsEnded (source : List ℕ) (turns : ℕ) (vars : Bool) (exit : Exit) (history : List Turn) (places : List Place) (text : List ℕ) : Type 0 where
   pub within : length source ≤ source_limit
-  pub program : List Placed
+  pub program : Program
   pub choices : List Place
   pub kept : IsKept source program history places choices
-  pub ends : IsEnding (step program) first choices
-  pub exit_is : exit ≡ exit_of (outcome_of (play (step program) first choices))
-  pub text_is : text ≡ report_text (outcome_of (play (step program) first choices))
+  pub ends : IsEnding (step program) (first program) choices
+  pub in_turns : paid program choices ≤ turns
+  pub exit_is : exit ≡ exit_of (outcome_of program (paid program choices) (played program choices))
+  pub text_is : text ≡ report_text vars (outcome_of program (paid program choices) (played program choices))
   -- so it is under every other schedule: it goes on to an end, and one that ends gives the same state at the same cost
-  pub one_outcome : Settles (step program) first choices
+  pub one_outcome : Settles (step program) (first program) choices
+
+-- the kept schedule costs more than the turns
+pub record IsSpent (source : List ℕ) (turns : ℕ) (history : List Turn) (places : List Place) (text : List ℕ) : Type 0 where
+  pub within : length source ≤ source_limit
+  pub program : Program
+  pub choices : List Place
+  pub kept : IsKept source program history places choices
+  pub over : turns < paid program choices
+  pub text_is : text ≡ spent_text turns
+  -- so does every schedule that ends
+  pub spent_for_all : (others : List Place) → IsEnding (step program) (first program) others → turns < paid program others
 
 -- nothing was played, and this is the text
 pub record IsUnplayed (history : List Turn) (places : List Place) (text told : List ℕ) : Type 0 where
@@ -68,25 +93,53 @@ pub record IsUnplayed (history : List Turn) (places : List Place) (text told : L
   pub no_places : places ≡ []
   pub text_is : text ≡ told
 
+-- the statements of the source, each on a line, and nothing was played
+pub record IsListed (source : List ℕ) (history : List Turn) (places : List Place) (text : List ℕ) : Type 0 where
+  pub within : length source ≤ source_limit
+  pub clean : IsClean (IsBrokenForm source)
+  pub statements : List Placed
+  pub read : AreStatementsOf (cards_of source) statements
+  pub unplayed : IsUnplayed history places text (listed_text statements)
+
 -- nothing was played, or the schedule that was kept is one of the source's program
 abbrev pub HasHistory : List ℕ → List Turn → List Place → Type 0
-HasHistory source history places = ((history ≡ []) × (places ≡ [])) ⊎ ((program : List Placed) × (choices : List Place) × IsKept source program history places choices)
+HasHistory source history places = ((history ≡ []) × (places ≡ [])) ⊎ ((program : Program) × (choices : List Place) × IsKept source program history places choices)
+
+-- the command refuses the source for this: a run for the verdict or a statement that isn't built, a list for the form of text and statements alone
+abbrev pub IsRefusedFor : Command → List ℕ → Refusal → Type 0
+IsRefusedFor (command.Run turns vars) source v = IsRefusalOf source (fail.Refused v)
+IsRefusedFor command.List source v = IsLeast (IsBrokenForm source) v
+
+-- the command does its work on the source
+abbrev pub IsAccepted : Command → List ℕ → Type 0
+IsAccepted (command.Run turns vars) source = (program : Program) × IsProgramOf source program
+IsAccepted command.List source = IsClean (IsBrokenForm source)
+
+pub record IsRefused (command : Command) (source : List ℕ) (history : List Turn) (places : List Place) (text : List ℕ) : Type 0 where
+  pub within : length source ≤ source_limit
+  pub refusal : Refusal
+  pub refused : IsRefusedFor command source refusal
+  pub unplayed : IsUnplayed history places text (refusal_text refusal)
 
 -- the exit, with schedule and text, is one of the command for these bytes
 abbrev pub Says : Command → List ℕ → Exit → List Turn → List Place → List ℕ → Type 0
-Says Run b Done h ps t = IsEnded b Done h ps t
-Says Run b Faulted h ps t = IsEnded b Faulted h ps t
-Says Run b Deadlocked h ps t = IsEnded b Deadlocked h ps t
-Says Run b Refused h ps t = (v : Refusal) × (length b ≤ source_limit) × IsVerdictOn b (Some v) × IsUnplayed h ps t (refusal_text v)
-Says Run b Spent h ps t = ⊥
-Says Run b Usage h ps t = ⊥
-Says Run b ReadFault h ps t = IsUnplayed h ps t (codes "read fault\n")
-Says Run b WriteFault h ps t = ⊥
-Says Run b NoMemory h ps t = IsUnplayed h ps t (codes "no memory\n")
-Says Run b TooLong h ps t = (source_limit < length b) × IsUnplayed h ps t (codes "source too long\n")
-Says Run b Malformed h ps t = ⊥
-Says Run b Illegal h ps t = ⊥
-Says Run b Unfinished h ps t = ⊥
+Says (command.Run turns vars) b Done h ps t = IsEnded b turns vars Done h ps t
+Says command.List b Done h ps t = IsListed b h ps t
+Says (command.Run turns vars) b Faulted h ps t = IsEnded b turns vars Faulted h ps t
+Says command.List b Faulted h ps t = ⊥
+Says (command.Run turns vars) b Deadlocked h ps t = IsEnded b turns vars Deadlocked h ps t
+Says command.List b Deadlocked h ps t = ⊥
+Says c b Refused h ps t = IsRefused c b h ps t
+Says (command.Run turns vars) b Spent h ps t = IsSpent b turns h ps t
+Says command.List b Spent h ps t = ⊥
+Says c b Usage h ps t = ⊥
+Says c b ReadFault h ps t = IsUnplayed h ps t (codes "read fault\n")
+Says c b WriteFault h ps t = ⊥
+Says c b NoMemory h ps t = IsUnplayed h ps t (codes "no memory\n")
+Says c b TooLong h ps t = (source_limit < length b) × IsUnplayed h ps t (codes "source too long\n")
+Says c b Malformed h ps t = ⊥
+Says c b Illegal h ps t = ⊥
+Says c b Unfinished h ps t = ⊥
 
 -- and of words that are no command
 abbrev pub SaysOf : Option Command → List ℕ → Exit → List Turn → List Place → List ℕ → Type 0
@@ -100,9 +153,10 @@ pub record Answers (words : List (List ℕ)) (b : List ℕ) (exit : Exit) (histo
   -- a front of the text of another exit was written
   pub cut_short : exit ≡ WriteFault → (other : Exit) × (text : List ℕ) × SaysOf (command_of words) b other history places text × WritesFront old new text
 
--- a program that breaks no rule is run to its end, unless memory runs out
-abbrev pub IsCompleted : Exit → Type 0
-IsCompleted exit = ((exit ≡ Done) ⊎ ((exit ≡ Faulted) ⊎ (exit ≡ Deadlocked))) ⊎ (exit ≡ NoMemory)
+-- the command did its work to the end, or as far as its turns, or found no memory
+abbrev pub IsCompleted : Command → Exit → Type 0
+IsCompleted (command.Run turns vars) exit = ((exit ≡ Done) ⊎ ((exit ≡ Faulted) ⊎ (exit ≡ Deadlocked))) ⊎ ((exit ≡ Spent) ⊎ (exit ≡ NoMemory))
+IsCompleted command.List exit = (exit ≡ Done) ⊎ (exit ≡ NoMemory)
 
 abbrev pub IsRefusedExit : Exit → Type 0
 IsRefusedExit exit = (exit ≡ Refused) ⊎ (exit ≡ NoMemory)
@@ -110,10 +164,10 @@ IsRefusedExit exit = (exit ≡ Refused) ⊎ (exit ≡ NoMemory)
 abbrev pub IsTooLongExit : Exit → Type 0
 IsTooLongExit exit = (exit ≡ TooLong) ⊎ (exit ≡ NoMemory)
 
+-- what a source that is handed in comes to under choices that are handed in: a run that ended, or was spent
+abbrev pub IsPlayedExit : Exit → Type 0
+IsPlayedExit exit = ((exit ≡ Done) ⊎ ((exit ≡ Faulted) ⊎ (exit ≡ Deadlocked))) ⊎ (exit ≡ Spent)
+
 -- the words are a command
 abbrev pub IsCommand : List (List ℕ) → Type 0
 IsCommand words = is_none (command_of words) ≡ false
-
--- two verdicts on one source are one
-abbrev pub OneVerdict : Type 0
-OneVerdict = (source : List ℕ) (v w : Option Refusal) → IsVerdictOn source v → IsVerdictOn source w → v ≡ w

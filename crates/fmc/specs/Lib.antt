@@ -1,12 +1,4 @@
-pub mod Lines
-pub mod Cards
-pub mod Words
 pub mod Exits
-pub mod Run
-pub mod Pieces
-pub mod Forms
-pub mod Front
-pub mod Plain
-pub mod Verdict
+pub mod Listing
 pub mod Answer
 pub mod Reply

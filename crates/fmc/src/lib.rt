@@ -1,17 +1,11 @@
-//! Checks and runs Fortran M programs. The call of the program is `fmc`.
+//! Checks and runs Fortran M programs. The call of the program is `fmc`; `play_choices` runs a source
+//! under a schedule of the caller's.
 #![tactic(auto)]
 
 mod answer;
-mod check;
-mod forms;
-mod frame;
-mod pieces;
-mod play;
+mod listing;
 mod response;
-mod scan;
 mod top;
-mod words;
 
 pub use answer::{Exit, Ran};
-pub use top::{fmc, one_verdict};
-pub use words::{Command, command_of};
+pub use top::{fmc, one_verdict, play_choices};

@@ -1,20 +1,25 @@
 //! The top call.
 
-ghost use Rattle.std.specs.Prelude.{◌≡◌, ◌≢◌, ◌≤◌, ◌<◌, ◌⊎◌, ℕ, true, false, List, map, length, IfSome, Some, None, is_none, is_some};
+ghost use Rattle.std.specs.Prelude.{◌≡◌, ◌≢◌, ◌≤◌, ◌<◌, ◌⊎◌, ℕ, true, false, List, map, length, IfSome, IfOk, IfErr, Some, None, is_none, is_some};
 ghost use Rattle.std.specs.Io.KnownBytes.{Appends, IsAtEnd};
 ghost use Rattle.fm_base.specs.declared.rule.Refusal.{Refusal};
 ghost use Rattle.fm_io.specs.Causes.{Rose};
 ghost use Rattle.fm_io.specs.Streams.{WritesFront};
-ghost use Rattle.fmc.specs.Words.{command_of};
+ghost use Rattle.fm_front.specs.Laws.{OneVerdict};
+ghost use Rattle.fm_front.specs.Program.{IsRefusalOf};
+ghost use Rattle.fm_words.specs.Words.{command_of};
+ghost use Rattle.fm_words.specs.declared.command.Command.{Command};
+ghost use Rattle.fm_words.specs.declared.command.Command.TheVariants as command;
 ghost use Rattle.fmc.specs.Exits.{is_usage, is_read};
-ghost use Rattle.fmc.specs.Verdict.{IsVerdictOn};
-ghost use Rattle.fmc.specs.Answer.{Answers, Says, SaysOf, HasHistory, IsCompleted, IsRefusedExit, IsTooLongExit, IsCommand, OneVerdict, source_limit};
+ghost use Rattle.fmc.specs.Answer.{Answers, Says, SaysOf, HasHistory, IsAccepted, IsRefusedFor, IsCompleted, IsRefusedExit, IsTooLongExit, IsPlayedExit, IsCommand, source_limit};
 ghost use Rattle.fmc.specs.Reply.{bytes_of, places_in};
 
 use crate::answer::{Exit, Ran, Reply, Text};
-use crate::response::{reply, unplayed};
-use crate::words::{Command, command_of};
+use crate::response::{reply, run_source, unplayed};
+use fm_base::CheckFail;
+use fm_front::one_program;
 use fm_io::{ReadFail, Sink, Source, WriteFail, read_all, write_all};
+use fm_words::{Command, words as command_in};
 use std::alloc::Global;
 
 const LIMIT: usize = 1_000_000;
@@ -47,7 +52,7 @@ fn respond<S: Source>(alloc: Global, words: &[&str], source: &mut S) -> Reply
     ensures read { is_read result.ran.exit ≡ true → IsAtEnd (S.left source.new) }
     ensures later { S.faults source.old ≤ S.faults source.new }
 {
-    match command_of(words) {
+    match command_in(words) {
         Some(command) => respond_to(alloc, command, source),
         None => unplayed(alloc, Exit::Usage, Text::Fixed(USAGE)),
     }
@@ -100,18 +105,42 @@ pub fn fmc<S: Source, K: Sink>(alloc: Global, words: &[&str], source: &mut S, si
     ensures all_read { is_read result.exit ≡ true → IsAtEnd (S.left source.new) }
 
     // Nothing but the bytes and the memory decides, where nothing fails.
-    ensures complete { IsCommand (map (λ w. w.now) words.now) → ¬ Rose (S.faults source.old) (S.faults source.new) → ¬ Rose (K.faults sink.old) (K.faults sink.new)
-        → IfSome (S.left source.old) (λ b. length b ≤ source_limit → IsVerdictOn b None → IsCompleted result.exit) }
-    ensures refused { IsCommand (map (λ w. w.now) words.now) → ¬ Rose (S.faults source.old) (S.faults source.new) → ¬ Rose (K.faults sink.old) (K.faults sink.new)
-        → IfSome (S.left source.old) (λ b. length b ≤ source_limit → (v : Refusal) → IsVerdictOn b (Some v) → IsRefusedExit result.exit) }
+    ensures complete { (command : Command) → command_of (map (λ w. w.now) words.now) ≡ Some command → ¬ Rose (S.faults source.old) (S.faults source.new) → ¬ Rose (K.faults sink.old) (K.faults sink.new)
+        → IfSome (S.left source.old) (λ b. length b ≤ source_limit → IsAccepted command b → IsCompleted command result.exit) }
+    ensures refused { (command : Command) → command_of (map (λ w. w.now) words.now) ≡ Some command → ¬ Rose (S.faults source.old) (S.faults source.new) → ¬ Rose (K.faults sink.old) (K.faults sink.new)
+        → IfSome (S.left source.old) (λ b. length b ≤ source_limit → (v : Refusal) → IsRefusedFor command b v → IsRefusedExit result.exit) }
     ensures too_long { IsCommand (map (λ w. w.now) words.now) → ¬ Rose (S.faults source.old) (S.faults source.new) → ¬ Rose (K.faults sink.old) (K.faults sink.new)
         → IfSome (S.left source.old) (λ b. source_limit < length b → IsTooLongExit result.exit) }
 {
+    one_program();
     let reply = respond(alloc, words, source);
     finish(sink, reply)
 }
 
-/// A source has one list of statements, and so one verdict.
+/// Does with a source of these bytes what `run` does, under a schedule of the caller's: piece i, of at
+/// most 1,000 steps and an event, goes to the process at place `choices[i]`, modulo their number, in
+/// the list of those that can step, and to the first one when the choices are used up. Gives the exit
+/// with the kept schedule, and the text.
+pub fn play_choices(
+    alloc: Global,
+    source: &[u8],
+    choices: &[u64],
+    turns: u64,
+    vars: bool,
+) -> Result<(Ran, Vec<u8>), CheckFail>
+    requires size { length source.now ≤ source_limit }
+    requires some_turns { 1 ≤ turns }
+    requires few_turns { turns ≤ 1_000_000_000 }
+    ensures answers { IfOk result (λ r. Says (command.Run turns vars) source.now r.0.exit r.0.history.items (places_in r.0) r.1.items) }
+    ensures exit { IfOk result (λ r. IsPlayedExit r.0.exit) }
+    ensures refused { IfErr result (IsRefusalOf source.now) }
+{
+    run_source(alloc, source, choices, turns, vars)
+}
+
+/// A source has one verdict.
 pub fn one_verdict()
     ensures { OneVerdict }
-{}
+{
+    fm_front::one_verdict();
+}

@@ -1,7 +1,7 @@
 //! Programs, and the whole texts and exits that they are answered with.
 
 use fm_io::{MemSink, MemSource};
-use fmc::{Exit, Ran, fmc};
+use fmc::{Exit, Ran, fmc, play_choices};
 use std::alloc::Global;
 use std::test::Fail;
 
@@ -15,16 +15,156 @@ fn answer(alloc: Global, words: &[&str], source: &[u8]) -> Result<(Ran, Vec<u8>)
     Ok((ran, Vec::from_slice(alloc, sink.bytes())?))
 }
 
-/// A source, and the exit and the text of its run.
+/// A source, and the exit and the text for it.
 struct Row {
     source: &'static [u8],
     exit: Exit,
     text: &'static [u8],
 }
 
-const ROWS: [Row; 15] = [
+const LEAST: &[u8] = b"      PROGRAM P\n      PRINT *, 1\n      END\n";
+
+const PAIR: &[u8] = b"      PROGRAM PAIR
+      INPORT (INTEGER) P
+      OUTPORT (INTEGER) Q
+      CHANNEL(IN=P,OUT=Q)
+      PROCESSES
+      PROCESSCALL A(Q)
+      PROCESSCALL B(P)
+      ENDPROCESSES
+      END
+      PROCESS A(Q)
+      OUTPORT (INTEGER) Q
+      SEND(Q) 3
+      SEND(Q) 4
+      ENDCHANNEL(Q)
+      END
+      PROCESS B(P)
+      INPORT (INTEGER) P
+      RECEIVE(P) I
+      RECEIVE(P) J
+      PRINT *, J-I, I*J
+      END
+";
+
+const PAIR_TEXT: &[u8] = b" 1 12\nvar P = NULL\nvar Q = NULL\nturns 33\n";
+
+/// Two processes that both receive first.
+const DEAD: &[u8] = b"      PROGRAM DEAD
+      INPORT (INTEGER) A, B
+      OUTPORT (INTEGER) C, D
+      CHANNEL(IN=A,OUT=C)
+      CHANNEL(IN=B,OUT=D)
+      PROCESSES
+      PROCESSCALL X(A,D)
+      PROCESSCALL X(B,C)
+      ENDPROCESSES
+      END
+      PROCESS X(P,Q)
+      INPORT (INTEGER) P
+      OUTPORT (INTEGER) Q
+      RECEIVE(P) I
+      SEND(Q) I
+      END
+";
+
+/// Numbers and a port that come back from children, in the order of the calls.
+const BACK: &[u8] = b"      PROGRAM BACK
+      INPORT (INTEGER) P
+      OUTPORT (INTEGER) Q
+      CHANNEL(IN=P,OUT=Q)
+      I = 5
+      K = 7
+      PROCESSES
+      PROCESSCALL A(I,(K),1,Q)
+      PROCESSCALL B(I,K)
+      ENDPROCESSES
+      PRINT *, I, K
+      RECEIVE(P) J
+      PRINT *, J
+      END
+      PROCESS A(I,K,N,Q)
+      OUTPORT (INTEGER) Q
+      I = I+N
+      K = 0
+      SEND(Q) I
+      END
+      PROCESS B(I,K)
+      I = I+K
+      K = 1
+      END
+";
+
+/// A port that is passed twice: the first child gets it, the second gets NULL.
+const TWICE: &[u8] = b"      PROGRAM TWICE
+      INPORT (INTEGER) P
+      OUTPORT (INTEGER) Q
+      CHANNEL(IN=P,OUT=Q)
+      PROCESSES
+      PROCESSCALL A(Q)
+      PROCESSCALL A(Q)
+      ENDPROCESSES
+      END
+      PROCESS A(Q)
+      OUTPORT (INTEGER) Q
+      SEND(Q) 1
+      END
+";
+
+/// Nineteen continuation lines.
+const ONES: &[u8] = b"      PROGRAM P
+      PRINT *, 1
+     +,1
+     +,1
+     +,1
+     +,1
+     +,1
+     +,1
+     +,1
+     +,1
+     +,1
+     +,1
+     +,1
+     +,1
+     +,1
+     +,1
+     +,1
+     +,1
+     +,1
+     +,1
+     +,1
+      END
+";
+
+/// And twenty.
+const TOO_MANY_ONES: &[u8] = b"      PROGRAM P
+      PRINT *, 1
+     +,1
+     +,1
+     +,1
+     +,1
+     +,1
+     +,1
+     +,1
+     +,1
+     +,1
+     +,1
+     +,1
+     +,1
+     +,1
+     +,1
+     +,1
+     +,1
+     +,1
+     +,1
+     +,1
+     +,1
+      END
+";
+
+const RUNS: [Row; 26] = [
     Row {
-        source: b"      PROGRAM P\n      PRINT *, 1\n      END\n",
+        source: LEAST,
         exit: Exit::Done,
         text: b" 1\n",
     },
@@ -59,11 +199,6 @@ const ROWS: [Row; 15] = [
         text: b"line 2: E10 no statement of the grammar\n",
     },
     Row {
-        source: b"      PROGRAM P\n      A = 1\n      END\n",
-        exit: Exit::Refused,
-        text: b"line 2: E10 no statement of the grammar\n",
-    },
-    Row {
         source: b"      PROGRAM P\n   10 PRINT *, 1\n      END\n",
         exit: Exit::Refused,
         text: b"line 2: E10 no statement of the grammar\n",
@@ -81,12 +216,12 @@ const ROWS: [Row; 15] = [
     Row {
         source: b"\n      PROGRAM P\n",
         exit: Exit::Refused,
-        text: b"line 1: E26 not exactly one PROGRAM\n",
+        text: b"line 2: E10 no statement of the grammar\n",
     },
     Row {
         source: b"      PROGRAM P\n      PROGRAM Q\n      END\n",
         exit: Exit::Refused,
-        text: b"line 2: E10 no statement of the grammar\n",
+        text: b"line 2: E26 not exactly one PROGRAM\n",
     },
     Row {
         source: b"      PROGRAM P\n      PRINT *, 1                                                      ,2,3\n      END\n",
@@ -94,15 +229,156 @@ const ROWS: [Row; 15] = [
         text: b" 1 2\n",
     },
     Row {
-        source: b"      PROGRAM P\n      I = 1234567890123456789\n      END\n",
+        source: b"      PROGRAM P\n      I = 9223372036854775808\n      END\n",
         exit: Exit::Refused,
-        text: b"line 2: E10 no statement of the grammar\n",
+        text: b"line 2: E11 number too large\n",
+    },
+    Row {
+        source: b"      PROGRAM P\n      PRINT *, 'AB\n     1CD'\n      END\n",
+        exit: Exit::Done,
+        text: b" AB                                                      CD\n",
+    },
+    Row {
+        source: ONES,
+        exit: Exit::Done,
+        text: b" 1 1 1 1 1 1 1 1 1 1 1 1 1 1 1 1 1 1 1 1\n",
+    },
+    Row {
+        source: TOO_MANY_ONES,
+        exit: Exit::Refused,
+        text: b"line 22: E04 too many continuations\n",
+    },
+    Row {
+        source: DEAD,
+        exit: Exit::Deadlocked,
+        text: b"wait main line 9 join\nwait main/1.1 line 14 receive main:1\nwait main/1.2 line 14 receive main:2\n",
+    },
+    Row {
+        source: PAIR,
+        exit: Exit::Done,
+        text: b" 1 12\n",
+    },
+    Row {
+        source: BACK,
+        exit: Exit::Done,
+        text: b" 12 1\n 6\n",
+    },
+    Row {
+        source: TWICE,
+        exit: Exit::Faulted,
+        text: b"fault main/1.2 line 12 NullPort\nwait main line 8 join\n",
+    },
+    Row {
+        source: b"      PROGRAM P\n      INPORT (INTEGER) A\n      OUTPORT (INTEGER) B\n      CHANNEL(IN=A,OUT=B)\n      SEND(B) 1\n      ENDCHANNEL(B)\n      RECEIVE(A) I\n      PRINT *, I\n      RECEIVE(A) I\n      END\n",
+        exit: Exit::Faulted,
+        text: b" 1\nfault main line 9 EndOfChannel\n",
+    },
+    Row {
+        source: b"      PROGRAM P\n      PROCESSES\n      PROCESSCALL C(1)\n      ENDPROCESSES\n      END\n",
+        exit: Exit::Refused,
+        text: b"line 3: E10 no statement of the grammar\n",
+    },
+    Row {
+        source: b"      PROGRAM P\n      PROCESSES\n      PRINT *, 1\n      ENDPROCESSES\n      END\n",
+        exit: Exit::Refused,
+        text: b"line 3: E10 no statement of the grammar\n",
+    },
+    Row {
+        source: b"      PROGRAM P\n      OUTPORT (INTEGER) A\n      RECEIVE(A) I\n      END\n",
+        exit: Exit::Refused,
+        text: b"line 3: E10 no statement of the grammar\n",
+    },
+    Row {
+        source: b"      PROGRAM P\n      INPORT (INTEGER) A\n      PROCESSES\n      PROCESSCALL B(A)\n      ENDPROCESSES\n      END\n      PROCESS B(I)\n      END\n",
+        exit: Exit::Refused,
+        text: b"line 4: E10 no statement of the grammar\n",
+    },
+];
+
+/// Words, and the answer for a source.
+struct Call {
+    words: &'static [&'static str],
+    row: Row,
+}
+
+const CALLS: [Call; 9] = [
+    Call {
+        words: &["run", "--vars"],
+        row: Row {
+            source: LEAST,
+            exit: Exit::Done,
+            text: b" 1\nturns 5\n",
+        },
+    },
+    Call {
+        words: &["run", "--turns", "5"],
+        row: Row {
+            source: LEAST,
+            exit: Exit::Done,
+            text: b" 1\n",
+        },
+    },
+    Call {
+        words: &["run", "--turns=4"],
+        row: Row {
+            source: LEAST,
+            exit: Exit::Spent,
+            text: b"spent 4\n",
+        },
+    },
+    Call {
+        words: &["run", "--vars"],
+        row: Row {
+            source: PAIR,
+            exit: Exit::Done,
+            text: PAIR_TEXT,
+        },
+    },
+    Call {
+        words: &["list"],
+        row: Row {
+            source: LEAST,
+            exit: Exit::Done,
+            text: b"     1       PROGRAMP\n     2       PRINT*,1\n     3       END\n",
+        },
+    },
+    Call {
+        words: &["list"],
+        row: Row {
+            source: b"      do 10 i = 1 , 3\n\n   10 continue",
+            exit: Exit::Done,
+            text: b"     1       DO10I=1,3\n     3    10 CONTINUE\n",
+        },
+    },
+    Call {
+        words: &["list"],
+        row: Row {
+            source: b"      I = 2*-3\n",
+            exit: Exit::Refused,
+            text: b"line 1: E10 no statement of the grammar\n",
+        },
+    },
+    Call {
+        words: &["list", "--vars"],
+        row: Row {
+            source: LEAST,
+            exit: Exit::Usage,
+            text: USAGE,
+        },
+    },
+    Call {
+        words: &["check"],
+        row: Row {
+            source: LEAST,
+            exit: Exit::Usage,
+            text: USAGE,
+        },
     },
 ];
 
 #[test]
-fn rows(rt: HostRuntime) -> Result<(), Fail> {
-    for row in &ROWS {
+fn runs(rt: HostRuntime) -> Result<(), Fail> {
+    for row in &RUNS {
         let (ran, text) = answer(rt.alloc(), &["run"], row.source)?;
         assert_eq!(rt; text.as_slice(), row.text);
         assert_eq!(rt; ran.exit, row.exit);
@@ -111,21 +387,37 @@ fn rows(rt: HostRuntime) -> Result<(), Fail> {
 }
 
 #[test]
-fn words_that_are_no_command(rt: HostRuntime) -> Result<(), Fail> {
-    let (none, text) = answer(rt.alloc(), &[], b"")?;
-    assert_eq!(rt; none.exit, Exit::Usage);
-    assert_eq!(rt; text.as_slice(), USAGE);
-    let (two, text) = answer(rt.alloc(), &["run", "run"], b"")?;
-    assert_eq!(rt; two.exit.status(), 5);
-    assert_eq!(rt; text.as_slice(), USAGE);
+fn words(rt: HostRuntime) -> Result<(), Fail> {
+    for call in &CALLS {
+        let (ran, text) = answer(rt.alloc(), call.words, call.row.source)?;
+        assert_eq!(rt; text.as_slice(), call.row.text);
+        assert_eq!(rt; ran.exit, call.row.exit);
+    }
     Ok(())
 }
 
 #[test]
 fn the_kept_schedule(rt: HostRuntime) -> Result<(), Fail> {
-    let (ran, _) = answer(rt.alloc(), &["run"], ROWS[2].source)?;
+    let (ran, _) = answer(rt.alloc(), &["run"], RUNS[2].source)?;
     assert_eq!(rt; ran.history.len(), 1);
     assert_eq!(rt; (ran.history[0].number, ran.history[0].steps), (0, 3));
     assert_eq!(rt; ran.paths.len(), 1);
+    let (ran, _) = answer(rt.alloc(), &["run"], PAIR)?;
+    assert_eq!(rt; ran.paths.len(), 3);
+    Ok(())
+}
+
+#[test]
+fn choices_of_the_caller(rt: HostRuntime) -> Result<(), Fail> {
+    let schedules: [&[u64]; 3] = [
+        &[],
+        &[1, 1, 1, 1, 1, 1, 1, 1, 1, 1, 1, 1, 1, 1, 1, 1],
+        &[1, 0, 1, 0, 1, 0, 1, 0, 1, 0, 1, 0, 1, 0, 1, 0],
+    ];
+    for choices in schedules {
+        let (ran, text) = play_choices(rt.alloc(), PAIR, choices, 1_000, true).map_err(|_| "no memory")?;
+        assert_eq!(rt; text.as_slice(), PAIR_TEXT);
+        assert_eq!(rt; ran.exit, Exit::Done);
+    }
     Ok(())
 }
