@@ -415,7 +415,9 @@ fn choices_of_the_caller(rt: HostRuntime) -> Result<(), Fail> {
         &[1, 0, 1, 0, 1, 0, 1, 0, 1, 0, 1, 0, 1, 0, 1, 0],
     ];
     for choices in schedules {
-        let (ran, text) = play_choices(rt.alloc(), PAIR, choices, 1_000, true).map_err(|_| "no memory")?;
+        let (ran, text) = play_choices(rt.alloc(), PAIR, choices, 1_000, true).map_err(
+            |_| "no memory",
+        )?;
         assert_eq!(rt; text.as_slice(), PAIR_TEXT);
         assert_eq!(rt; ran.exit, Exit::Done);
     }
