@@ -423,3 +423,20 @@ fn choices_of_the_caller(rt: HostRuntime) -> Result<(), Fail> {
     }
     Ok(())
 }
+
+/// The number of the process that made the fourth piece of PAIR under these choices.
+fn fourth(alloc: Global, choices: &[u64]) -> Result<u32, Fail> {
+    let (ran, _) = play_choices(alloc, PAIR, choices, 1_000, true).map_err(|_| "no memory")?;
+    match ran.history.get(3) {
+        Some(turn) => Ok(turn.number),
+        None => Ok(0),
+    }
+}
+
+#[test]
+fn choices_are_followed(rt: HostRuntime) -> Result<(), Fail> {
+    assert_eq!(rt; fourth(rt.alloc(), &[])?, 2);
+    assert_eq!(rt; fourth(rt.alloc(), &[0, 0, 0, 1])?, 1);
+    assert_eq!(rt; fourth(rt.alloc(), &[0, 0, 0, 2])?, 2);
+    Ok(())
+}
