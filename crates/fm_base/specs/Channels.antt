@@ -1,6 +1,6 @@
 -- Channels as plain data, and what events do to one channel.
 -- Source: the Fortran M report (channels, SEND, RECEIVE, ENDCHANNEL), with this profile's rules on discarding.
-use Rattle.std.specs.Prelude.{ℕ, zero, suc, ℤ, ◌+◌, ◌==◌, Bool, true, false, not, cond, Option, Some, None, List, [], ◌∷◌, ◌++◌, length, filter, sum_by}
+use Rattle.std.specs.Prelude.{ℕ, zero, suc, ℤ, ◌+◌, ◌==◌, Bool, true, false, not, cond, Option, Some, None, List, [], ◌∷◌, ◌++◌, length, filter, sum_by, nat_le, ◌&&◌}
 use Rattle.std.specs.List.{flat_map, filter_map}
 use Rattle.std.specs.FinMap as map
 use Rattle.fm_base.specs.declared.path.ChanName.{ChanName}
@@ -37,14 +37,40 @@ message_ports = flat_map item_ports
 abbrev pub queue_ports : List Message → List PortValue
 queue_ports = flat_map message_ports
 
--- a channel that was just made, with one writer
-abbrev pub fresh : Chan
-fresh = record { queue = []; writers = 0 ∷ []; lives = true }
+-- so many numbers from this one on
+abbrev pub numbers_from : (first count : ℕ) → List ℕ
+numbers_from i zero = []
+numbers_from i (suc n) = i ∷ numbers_from (suc i) n
 
--- what an event asks of a channel: to put a message last, or to take the first one
+-- a channel that was just made, with so many writers
+abbrev pub fresh : (writers : ℕ) → Chan
+fresh n = record { queue = []; writers = numbers_from 0 n; lives = true }
+
+abbrev pub item_length : Item → ℕ
+item_length (Words ws) = length ws
+item_length (Ports ps) = length ps
+
+-- the most elements that a receive takes for each item in turn, or none where any number is taken.
+-- Items behind the last limit have none.
+abbrev pub Limits : Type 0
+Limits = List (Option ℕ)
+
+abbrev pub is_within : Option ℕ → Item → Bool
+is_within None i = true
+is_within (Some n) i = nat_le (item_length i) n
+
+-- no item of the message has more elements than its limit
+abbrev pub fits_limits : Limits → Message → Bool
+fits_limits [] m = true
+fits_limits (l ∷ ls) [] = true
+fits_limits (l ∷ ls) (i ∷ m) = is_within l i && fits_limits ls m
+
+-- what an event asks of a channel: to put a message last, to take the first one if it fits the limits,
+-- or to look whether a receive would wait
 pub data ChannelOp : Type 0 where
   Push : (writer : ℕ) → (message : Message) → ChannelOp
-  Pop : ChannelOp
+  Pop : (limits : Limits) → ChannelOp
+  Look : ChannelOp
 
 -- a receive is ready where a message is there, or no writer is open
 abbrev pub can_pop : List Message → List ℕ → Bool
@@ -55,30 +81,58 @@ can_pop [] (w ∷ ws) = false
 -- whether the event has its step at the channel
 abbrev pub is_ready : ChannelOp → Chan → Bool
 is_ready (Push w m) ch = true
-is_ready Pop ch = can_pop ch.queue ch.writers
+is_ready (Pop limits) ch = can_pop ch.queue ch.writers
+is_ready Look ch = true
 
-abbrev pub behind_first : List Message → List Message
-behind_first [] = []
-behind_first (m ∷ ms) = ms
+-- the queue without its first message, if that fits
+abbrev pub behind_first : Limits → List Message → List Message
+behind_first limits [] = []
+behind_first limits (m ∷ ms) = cond (fits_limits limits m) ms (m ∷ ms)
 
-abbrev pub first_message : List Message → Option Message
-first_message [] = None
-first_message (m ∷ ms) = Some m
+-- the first message, if it fits
+abbrev pub first_message : Limits → List Message → Option Message
+first_message limits [] = None
+first_message limits (m ∷ ms) = cond (fits_limits limits m) (Some m) None
+
+-- whether there is a first message that doesn't fit
+abbrev pub first_exceeds : Limits → List Message → Bool
+first_exceeds limits [] = false
+first_exceeds limits (m ∷ ms) = not (fits_limits limits m)
 
 -- the channel after the event
 abbrev pub changed : ChannelOp → Chan → Chan
 changed (Push w m) ch = record ch { queue = cond ch.lives (ch.queue ++ m ∷ []) ch.queue }
-changed Pop ch = record ch { queue = behind_first ch.queue }
+changed (Pop limits) ch = record ch { queue = behind_first limits ch.queue }
+changed Look ch = ch
 
--- the message that the event brings, or none at the end of the channel
+-- the message that the event brings; none where the first one exceeds its limits, or at the end of the channel
 abbrev pub gives : ChannelOp → Chan → Option Message
 gives (Push w m) ch = None
-gives Pop ch = first_message ch.queue
+gives (Pop limits) ch = first_message limits ch.queue
+gives Look ch = None
+
+-- whether a message is there that exceeds the limits of the receive, and so stays
+abbrev pub exceeds : ChannelOp → Chan → Bool
+exceeds (Push w m) ch = false
+exceeds (Pop limits) ch = first_exceeds limits ch.queue
+exceeds Look ch = false
+
+-- whether a receive would wait, where the event looks for that
+abbrev pub tells : ChannelOp → Chan → Bool
+tells (Push w m) ch = false
+tells (Pop limits) ch = false
+tells Look ch = not (can_pop ch.queue ch.writers)
 
 -- the ports of a message to a channel whose inport is gone
 abbrev pub spills : ChannelOp → Chan → List PortValue
 spills (Push w m) ch = cond ch.lives [] (message_ports m)
-spills Pop ch = []
+spills (Pop limits) ch = []
+spills Look ch = []
+
+-- and where there is no channel, none
+abbrev pub spills_at : ChannelOp → Option Chan → List PortValue
+spills_at a None = []
+spills_at a (Some ch) = spills a ch
 
 -- Discarding a port.
 

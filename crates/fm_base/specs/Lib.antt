@@ -1,8 +1,10 @@
 pub mod Texts
 pub mod PathOrder
 pub mod Rules
-pub mod Values
+pub mod Letters
+pub mod Integers
 pub mod Output
 pub mod Verdict
 pub mod Tokens
 pub mod Channels
+pub mod Positions

@@ -1,5 +1,5 @@
 -- The bytes of an output line.
--- Source: ANSI X3.9-1978, section 12.9.5.2 (list-directed output), in one fixed form of this profile.
+-- Source: ANSI X3.9-1978, section 13.6.2 (list-directed output), in one fixed form of this profile.
 use Rattle.std.specs.Prelude.{ℕ, Bool, true, false, List, [], ◌∷◌}
 use Rattle.std.specs.List.{flat_map}
 use Rattle.std.specs.Fmt.{signed_decimal}

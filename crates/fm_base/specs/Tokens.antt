@@ -1,5 +1,6 @@
 -- How tokens are written in a source text.
--- Source: ANSI X3.9-1978, sections 3.2, 4.2 and 6, and the Fortran M report for the words of processes and channels.
+-- Source: ANSI X3.9-1978, sections 2.2 (names, keywords), 4.3.1, 4.7.1 and 4.8.1 (integer, logical and character
+-- constants), 6.1.1, 6.3.1 and 6.4.1 (operators), and the Fortran M report for the words of processes and channels.
 use Rattle.std.specs.Prelude.{ℕ, if◌then◌else◌, ◌==◌, List, [], ◌∷◌, ◌++◌, codes}
 use Rattle.std.specs.List.{flat_map}
 use Rattle.std.specs.Fmt.{signed_decimal}

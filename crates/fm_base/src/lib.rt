@@ -1,13 +1,14 @@
-//! What every layer of fmc shares: names and places, rules and faults, tokens, the arithmetic of
-//! INTEGER values, printed lines, and the verdict over a set of rules.
+//! What every layer of fmc shares: names and places, rules and faults, tokens, printed lines, and
+//! the verdict over a set of rules.
 #![tactic(auto)]
 
-mod arithmetic;
 mod fault;
 mod judging;
+mod letters;
 mod memory;
 mod name;
 mod output;
+mod parse_fail;
 mod path;
 mod port;
 mod rule;
@@ -15,14 +16,15 @@ mod schedule;
 mod seq;
 mod token;
 
-pub use arithmetic::{add, multiply, negate, subtract};
 pub use fault::Fault;
 pub use judging::{
     Judge, first_verdict, keep_earlier, least_law, phases_join, verdict, verdicts_join,
 };
+pub use letters::{are_name_bytes, is_name_byte, is_name_text};
 pub use memory::NoMemory;
 pub use name::{Label, Line, Name};
 pub use output::{Printed, output_line};
+pub use parse_fail::ParseFail;
 pub use path::{ChanName, Path, order_of_channels, order_of_paths, orders_are_total_and_exact};
 pub use port::PortValue;
 pub use rule::{CheckFail, Refusal, Rule};

@@ -2,6 +2,7 @@
 
 ghost use Rattle.std.specs.Prelude.{◌≡◌, [], ◌∷◌, ◌++◌, IfOk, OnOk};
 ghost use Rattle.std.specs.Cmp.{IsTotalOrder};
+ghost use Rattle.std.specs.Fmt.{decimal};
 ghost use Rattle.std.specs.FinMap.{IsAntisymmetric};
 ghost use Rattle.fm_base.specs.Texts.{path_text, child_text, channel_text};
 ghost use Rattle.fm_base.specs.PathOrder.{path_cmp, channel_cmp};
@@ -30,14 +31,20 @@ impl Model for Path {
     ghost inverse = { λ pairs. record { pairs = pairs } };
 }
 
+// Adds a mark and a number in decimal.
+fn push_number(alloc: Global, out: &mut Vec<u8>, mark: u8, number: u32) -> Result<(), NoMemory>
+    ensures { OnOk result (out.new.items ≡ out.old.items ++ (mark ∷ decimal number)) }
+{
+    out.push(mark)?;
+    out.extend_from_slice(number.to_string(alloc)?.as_bytes())?;
+    Ok(())
+}
+
 fn push_child(alloc: Global, out: &mut Vec<u8>, pair: (u32, u32)) -> Result<(), NoMemory>
     ensures { OnOk result (out.new.items ≡ out.old.items ++ child_text pair) }
 {
-    out.push(b'/')?;
-    out.extend_from_slice(pair.0.to_string(alloc)?.as_bytes())?;
-    out.push(b'.')?;
-    out.extend_from_slice(pair.1.to_string(alloc)?.as_bytes())?;
-    Ok(())
+    push_number(alloc, out, b'/', pair.0)?;
+    push_number(alloc, out, b'.', pair.1)
 }
 
 impl Path {
@@ -108,8 +115,7 @@ impl ChanName {
         ensures { IfOk result (λ v. v.items ≡ channel_text self.now.maker self.now.number) }
     {
         let mut out = self.maker.text(alloc)?;
-        out.push(b':')?;
-        out.extend_from_slice(self.number.to_string(alloc)?.as_bytes())?;
+        push_number(alloc, &mut out, b':', self.number)?;
         Ok(out)
     }
 }
