@@ -1,0 +1,8 @@
+use Rattle.std.proofs.Common.{◌≡◌, take}
+use Rattle.std.specs.Int.{int_min}
+use Rattle.std.specs.List.{fold}
+use Rattle.fm_values.specs.Intrinsics.{argument}
+use Rattle.fm_values.proofs.intrinsic.least.Given as goal
+
+abbrev pub invariant-loop-value : goal.invariant-loop-value
+invariant-loop-value l = l.least ≡ fold int_min (argument 0 l.arguments) (take l.value-index l.arguments)

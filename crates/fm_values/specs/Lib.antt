@@ -1,0 +1,5 @@
+pub mod Values
+pub mod Operations
+pub mod Intrinsics
+pub mod Trips
+pub mod Places
