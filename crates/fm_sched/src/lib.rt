@@ -11,6 +11,7 @@
 
 ghost use Rattle.std.specs.Prelude.{◌≡◌, ◌+◌, ◌<◌, ◌≤◌, ◌++◌, [], ◌∷◌, ℕ, Option, Some, None, List, Bool, length, replicate};
 ghost use Rattle.fm_sched.specs.Schedule.{Step, Can, next, cost, play, IsLegal, used, IsEnding, NotIn, Stays, Diamond, IsReached, Leads, Throughout, Settles};
+ghost use Rattle.fm_sched.specs.Simulation.{ReadsAs, IsBisimulation, DoTheSame};
 ghost use Rattle.fm_sched.specs.Counters.{counter_step};
 
 /// Where an actor has its step, that gives its next state and its cost; where it has none, the state
@@ -128,6 +129,14 @@ pub fn spent_for_all<S, A>()
         Throughout step (Diamond step) start → (turns : ℕ) (cs : List A) → IsLegal step start cs →
         turns < used step start cs → (ds : List A) → IsEnding step start ds →
         turns < used step start ds }
+{}
+
+/// Of two machines that simulate each other the runs are the same. Here states of the second that pass a
+/// test are read as those of the first; the law for any relation is `do_the_same` of
+/// `proofs/Simulations.antt`.
+pub fn machines_alike<S, T, A>()
+    ensures { (step : Step S A) (other : Step T A) (read : T → S) (is_good : T → Bool) →
+        IsBisimulation step other (ReadsAs read is_good) → DoTheSame step other (ReadsAs read is_good) }
 {}
 
 /// The premise of the exchange law can be met: the steps of two counters commute, so each schedule
