@@ -6,6 +6,8 @@ use Rattle.std.specs.Cmp.{tied_itself, nat_cmp_total, on_total, Equal-is}
 use Rattle.std.specs.Cmp.Lexicographic.{slice_cmp, nat_list_cmp_total}
 use Rattle.std.specs.FinMap.{nat_cmp-IsAntisymmetric, slice_cmp-IsAntisymmetric}
 use Rattle.std.specs.declared.cmp.Ordering.{Ordering}
+use Rattle.fm_base.specs.PathOrder.{path_cmp, channel_cmp}
+use Rattle.fm_base.proofs.PathLaws.{path_total, path_exact, channel_total, channel_exact}
 use Rattle.fm_maps.specs.Keys.{IsKeyOrder}
 
 not_true : (b : Bool) → (b ≡ true → ⊥) → b ≡ false
@@ -51,6 +53,13 @@ nat_order = record { total = nat_cmp_total; exact = nat_cmp-IsAntisymmetric }
 
 pub nat_list_order : IsKeyOrder (slice_cmp nat_cmp)
 nat_list_order = record { total = nat_list_cmp_total; exact = slice_cmp-IsAntisymmetric nat_cmp-IsAntisymmetric }
+
+-- the orders of paths and of names of channels
+pub path_order : IsKeyOrder path_cmp
+path_order = record { total = path_total; exact = path_exact }
+
+pub channel_order : IsKeyOrder channel_cmp
+channel_order = record { total = channel_total; exact = channel_exact }
 
 -- keys ordered by a function of them that tells them apart
 pub order_on : {K N : Type 0} {R : N → N → Ordering} → IsKeyOrder R → (number : K → N) → ((x y : K) → number x ≡ number y → x ≡ y) → IsKeyOrder (on number R)

@@ -5,3 +5,4 @@ pub mod Alters
 pub mod Entries
 pub mod Sums
 pub mod Facts
+pub mod Maps

@@ -2,3 +2,5 @@ pub mod Keys
 pub mod Changes
 pub mod Sums
 pub mod Facts
+pub mod Map
+pub mod Lends

@@ -1,9 +1,22 @@
-//! Finite maps: a change at a key, lists of changes that commute, and sums over the values.
+//! Finite maps: `Map` and `NameMap`, which contracts see as finite maps, and the laws of changes at a
+//! key, of lists of changes that commute, and of sums over the values.
+//!
+//! `NameMap<V>` has values by names, and is seen as `FinMap (slice_cmp nat_cmp) V`: `get self.now name.now`,
+//! `self.new ≡ insert self.old name value`. `Map<K, V>` has any `Key`, and is seen as the list of its
+//! entries in order; `map_of R m` is the finite map of these (`path_cmp` for `Path`, `channel_cmp` for
+//! `ChanName`). A struct over a `Map` whose values have a reading of their own, as a body in memory has
+//! as a plain record, has the view `map_values reading (map_of R m)`: `proofs/Maps.antt` has what `get`,
+//! `insert`, `remove`, `entries` and a change through `get_mut` are to it (`get-map_values`,
+//! `map_values-insert`, `map_values-adjust` and the like), and `proofs/Keys.antt` the orders of keys
+//! (`nat_list_order`, `path_order`, `channel_order`).
 //!
 //! The laws hold for every total order of keys in which only equal keys tie (`IsKeyOrder`). The
 //! definitions stand in `specs/`. Each function here has an empty body: its contract is a law. Laws over
 //! every fact of entries, which a contract can't state, are lemmas in `proofs/Facts.antt`.
 #![tactic(auto)]
+
+mod map;
+mod name_map;
 
 ghost use Rattle.std.specs.Prelude.{◌≡◌, ◌≢◌, ◌⊎◌, ◌+◌, ◌<◌, ◌≤◌, ◌++◌, [], ◌∷◌, ℕ, Option, Some, None, List, option_map};
 ghost use Rattle.std.specs.Ordering.{on, nat_cmp};
@@ -11,8 +24,12 @@ ghost use Rattle.std.specs.Cmp.Lexicographic.{slice_cmp};
 ghost use Rattle.std.specs.FinMap.{FinMap, empty, get, insert, remove, len};
 ghost use Rattle.std.specs.declared.cmp.Ordering.{Ordering};
 ghost use Rattle.fm_maps.specs.Keys.{IsKeyOrder};
+ghost use Rattle.fm_maps.specs.Map.{map_values};
 ghost use Rattle.fm_maps.specs.Changes.{Change, adjust, alter, alters, Off, Apart, EachOnce};
 ghost use Rattle.fm_maps.specs.Sums.{total, value_or_zero, sum_before, sum_after};
+
+pub use map::{Key, Map};
+pub use name_map::NameMap;
 
 /// Numbers and lists of numbers are keys, and so is whatever has such a key of its own. Equality of
 /// keys can be decided.
@@ -128,6 +145,18 @@ pub fn sum_after_change<K, X>()
     ensures altered_by_list { (R : K → K → Ordering) → IsKeyOrder R → (f : X → ℕ) (ws : List (Change K X))
         (m : FinMap R X) → EachOnce ws →
         total f (alters ws m) + sum_before f m ws ≡ total f m + sum_after f m ws }
+{}
+
+/// Values that are read through a function: each key has what the function gives of its value, and an
+/// insertion or a removal is one of what is read.
+pub fn reading<K, X, Y>()
+    ensures found { (R : K → K → Ordering) (f : X → Y) (m : FinMap R X) (q : K) →
+        get (map_values f m) q ≡ option_map f (get m q) }
+    ensures nothing { (R : K → K → Ordering) (f : X → Y) → map_values f (empty {R = R}) ≡ empty }
+    ensures inserted { (R : K → K → Ordering) (f : X → Y) → IsKeyOrder R → (m : FinMap R X) (k : K) (x : X) →
+        map_values f (insert m k x) ≡ insert (map_values f m) k (f x) }
+    ensures removed { (R : K → K → Ordering) (f : X → Y) → IsKeyOrder R → (m : FinMap R X) (k : K) →
+        map_values f (remove m k) ≡ remove (map_values f m) k }
 {}
 
 /// What one key or two keys have is at most the sum, and a sum over 0 has a value over 0.
