@@ -1,22 +1,14 @@
 -- The step of a process, by what it asks.
-use Rattle.std.proofs.Common.{◌≡◌, ℕ, zero, suc, Option, Some, None, List, [], ◌∷◌, ◌++◌, Bool, true, false, cond, option_map, refl, ap, ◌∙◌, append-nil}
+use Rattle.std.proofs.Common.{◌≡◌, ℕ, Option, Some, None, List, [], ◌∷◌, ◌++◌, Bool, true, false, cond, option_map, refl, ap, ◌∙◌, append-nil}
 use Rattle.std.specs.FinMap.{get, insert}
 use Rattle.fm_base.specs.declared.path.ChanName.{ChanName}
-use Rattle.fm_base.specs.Channels.{Chan, Chans, ChannelOp, is_ready, changed, gives, spills, fresh, shed, weight, all_shed}
+use Rattle.fm_base.specs.Channels.{Chan, ChannelOp, is_ready, changed, spills, spills_at, fresh, all_shed}
 use Rattle.fm_maps.specs.Changes.{alter, alters}
 use Rattle.fm_maps.proofs.Adjusts.{adjust-insert}
-use Rattle.fm_net.specs.Machine.{Place, Procs, Need, Nothing, Event, New, Reply, Onward, Ask, Stop, Go, State, made, spills_at, served, served_at, start_changes, going, act, act_of, finished}
+use Rattle.fm_net.specs.Machine.{Place, Procs, Need, Nothing, Event, New, Reply, Onward, Ask, Stop, Go, State, made, reply_with, reply_at, served, served_at, start_changes, going, act, act_of, finished}
 use Rattle.fm_net.specs.Language.{Language, language_step}
 use Rattle.fm_net.specs.Owned.{name_of}
 use Rattle.fm_net.proofs.Keys.{channel_order}
-
-shed_nothing : (n : ℕ) (m : Chans) → shed n [] m ≡ m
-shed_nothing zero m = refl
-shed_nothing (suc n) m = refl
-
--- nothing to discard changes nothing
-pub all_shed-nil : (m : Chans) → all_shed [] m ≡ m
-all_shed-nil m = shed_nothing (weight [] m) m
 
 -- where no child starts and none is joined, the process itself alone changes
 only_self : {Proc : Type 0} (m : Procs Proc) (p : Place) (b : ℕ) (x : Proc) (starts : List Proc) → starts ≡ [] → alters ((p, λ o. Some x) ∷ (start_changes p b 1 starts ++ [])) m ≡ insert m p x
@@ -26,9 +18,6 @@ only_self m p b x starts none = ap (λ xs. alters ((p, λ o. Some x) ∷ (start_
 module _ {Proc : Type 0} (language : Language Proc) (s : State Proc) (p : Place) where
   abbrev step : Option (State Proc × ℕ)
   step = language_step language s p
-
-  abbrev reply_alone : Reply Proc
-  reply_alone = record { message = None; children = [] }
 
   pub step_absent : get s.procs p ≡ None → step ≡ None
   step_absent is = ap (λ o. option_map finished (act_of language.ask language.has_ended language.emptied s.procs s.chans p o)) is
@@ -54,33 +43,33 @@ module _ {Proc : Type 0} (language : Language Proc) (s : State Proc) (p : Place)
       step_served r serves = step_replies (Some r) serves
 
     -- a process that needs nothing and starts nobody
-    pub local_step : (f : ChanName → Reply Proc → Onward Proc) (o : Onward Proc) → language.ask x ≡ Go Nothing f → f (name_of p 0) reply_alone ≡ o → o.starts ≡ []
+    pub local_step : (f : ChanName → Reply Proc → Onward Proc) (o : Onward Proc) → language.ask x ≡ Go Nothing f → f (name_of p 0) (reply_with []) ≡ o → o.starts ≡ []
         → step ≡ Some (record { procs = insert s.procs p o.self; chans = all_shed o.drops s.chans }, o.cost)
     local_step f o asks out none =
-        step_served Nothing f asks reply_alone refl
+        step_served Nothing f asks (reply_with []) refl
         ∙ ap (λ (o : Onward Proc). Some (finished (going language.emptied s.procs s.chans p Nothing o))) out
         ∙ λ i. Some (record { procs = only_self s.procs p o.block o.self o.starts none i; chans = all_shed (append-nil o.drops i) s.chans }, o.cost)
 
     -- a process that makes a channel
-    pub channel_step : (n : ℕ) (f : ChanName → Reply Proc → Onward Proc) (o : Onward Proc) → language.ask x ≡ Go (New n) f → f (name_of p n) reply_alone ≡ o → o.starts ≡ []
-        → step ≡ Some (record { procs = insert s.procs p o.self; chans = all_shed o.drops (insert s.chans (name_of p n) fresh) }, o.cost)
-    channel_step n f o asks out none =
-        step_served (New n) f asks reply_alone refl
-        ∙ ap (λ (o : Onward Proc). Some (finished (going language.emptied s.procs s.chans p (New n) o))) out
-        ∙ λ i. Some (record { procs = only_self s.procs p o.block o.self o.starts none i; chans = all_shed (append-nil o.drops i) (insert s.chans (name_of p n) fresh) }, o.cost)
+    pub channel_step : (n k : ℕ) (f : ChanName → Reply Proc → Onward Proc) (o : Onward Proc) → language.ask x ≡ Go (New n k) f → f (name_of p n) (reply_with []) ≡ o → o.starts ≡ []
+        → step ≡ Some (record { procs = insert s.procs p o.self; chans = all_shed o.drops (insert s.chans (name_of p n) (fresh k)) }, o.cost)
+    channel_step n k f o asks out none =
+        step_served (New n k) f asks (reply_with []) refl
+        ∙ ap (λ (o : Onward Proc). Some (finished (going language.emptied s.procs s.chans p (New n k) o))) out
+        ∙ λ i. Some (record { procs = only_self s.procs p o.block o.self o.starts none i; chans = all_shed (append-nil o.drops i) (insert s.chans (name_of p n) (fresh k)) }, o.cost)
 
     -- an event at a channel
     module _ (c : ChanName) (a : ChannelOp) (f : ChanName → Reply Proc → Onward Proc) (asks : language.ask x ≡ Go (Event c a) f) (ch : Chan) (has : get s.chans c ≡ Some ch) where
-      served_is : (b : Bool) → is_ready a ch ≡ b → served language.has_ended s.procs s.chans p (Event c a) ≡ cond b (Some (record { message = gives a ch; children = [] })) None
-      served_is b ready = ap (served_at a) has ∙ ap (λ b. cond b (Some (record { message = gives a ch; children = [] })) None) ready
+      served_is : (b : Bool) → is_ready a ch ≡ b → served language.has_ended s.procs s.chans p (Event c a) ≡ cond b (Some (reply_at a ch)) None
+      served_is b ready = ap (served_at a) has ∙ ap (λ b. cond b (Some (reply_at a ch)) None) ready
 
       pub event_waits : is_ready a ch ≡ false → step ≡ None
       event_waits ready = step_waits (Event c a) f asks (served_is false ready)
 
-      pub event_step : (o : Onward Proc) → f (name_of p 0) (record { message = gives a ch; children = [] }) ≡ o → o.starts ≡ [] → is_ready a ch ≡ true
+      pub event_step : (o : Onward Proc) → f (name_of p 0) (reply_at a ch) ≡ o → o.starts ≡ [] → is_ready a ch ≡ true
           → step ≡ Some (record { procs = insert s.procs p o.self; chans = all_shed (o.drops ++ spills a ch) (insert s.chans c (changed a ch)) }, o.cost)
       event_step o out none ready =
-          step_served (Event c a) f asks (record { message = gives a ch; children = [] }) (served_is true ready)
+          step_served (Event c a) f asks (reply_at a ch) (served_is true ready)
           ∙ ap (λ (o : Onward Proc). Some (finished (going language.emptied s.procs s.chans p (Event c a) o))) out
           ∙ λ i. Some (
             record {

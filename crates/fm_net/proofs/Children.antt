@@ -1,9 +1,10 @@
 -- Places of children, the changes that a step makes at them, and the children of a block that have ended.
 use Rattle.std.proofs.Common.{◌≡◌, ◌≢◌, ℕ, zero, suc, ◌+◌, ◌≤◌, ◌<◌, Option, Some, None, List, [], ◌∷◌, ◌++◌, Bool, true, false, cond, option_map, refl, sym, ap, ap₂, ◌∙◌, arith}
 use Rattle.std.specs.FinMap.{get}
+use Rattle.fm_base.specs.Channels.{Chans}
 use Rattle.fm_maps.specs.Changes.{Change, Off, Apart}
 use Rattle.fm_maps.proofs.Alters.{Off-append, Apart-append}
-use Rattle.fm_net.specs.Machine.{Place, Procs, Need, Nothing, Event, New, Children, Onward, child, with_child, gathered, start_changes, child_changes, need_changes, changes}
+use Rattle.fm_net.specs.Machine.{Place, Procs, Need, Nothing, Event, New, Children, Reply, Onward, child, reply_with, with_child, gathered, served, start_changes, child_changes, need_changes, changes}
 use native.Mathlib.Decide.{ℕ_discrete}
 
 -- ---- places
@@ -56,19 +57,19 @@ module _ {Proc : Type 0} where
     abbrev pub IsNoChild : Place → Place → Need → Type 0
     IsNoChild r q Nothing = Unit {0}
     IsNoChild r q (Event c a) = Unit {0}
-    IsNoChild r q (New n) = Unit {0}
+    IsNoChild r q (New n w) = Unit {0}
     IsNoChild r q (Children b n) = (i : ℕ) → 1 ≤ i → i < n + 1 → r ≢ child q b i
 
     off_need : (r q : Place) (need : Need) → IsNoChild r q need → Off r (need_changes emptied q need)
     off_need r q Nothing h = tt
     off_need r q (Event c a) h = tt
-    off_need r q (New n) h = tt
+    off_need r q (New n w) h = tt
     off_need r q (Children b n) h = off_children r q b 1 n h
 
     pub off_own_need : (p : Place) (need : Need) → Off p (need_changes emptied p need)
     off_own_need p Nothing = tt
     off_own_need p (Event c a) = tt
-    off_own_need p (New n) = tt
+    off_own_need p (New n w) = tt
     off_own_need p (Children b n) = off_children p p b 1 n (λ i l m. not_own_child p (b, i))
 
     pub off_changes : (r q : Place) (need : Need) (o : Onward Proc) → (r ≢ q) → ((i : ℕ) → r ≢ child q o.block i) → IsNoChild r q need → Off r (changes emptied q need o)
@@ -82,13 +83,13 @@ module _ {Proc : Type 0} where
     abbrev pub ChildrenOff : Place → Need → List (Change Place Proc) → Type 0
     ChildrenOff p Nothing ws = Unit {0}
     ChildrenOff p (Event c a) ws = Unit {0}
-    ChildrenOff p (New n) ws = Unit {0}
+    ChildrenOff p (New n w) ws = Unit {0}
     ChildrenOff p (Children b n) ws = (i : ℕ) → 1 ≤ i → i < n + 1 → Off (child p b i) ws
 
     apart_need : (p : Place) (need : Need) (ws : List (Change Place Proc)) → ChildrenOff p need ws → Apart (need_changes emptied p need) ws
     apart_need p Nothing ws h = tt
     apart_need p (Event c a) ws h = tt
-    apart_need p (New n) ws h = tt
+    apart_need p (New n w) ws h = tt
     apart_need p (Children b n) ws h = apart_children p b 1 n ws h
 
     pub apart_changes : (p : Place) (need : Need) (o : Onward Proc) (ws : List (Change Place Proc)) → Off p ws → ((i : ℕ) → Off (child p o.block i) ws) → ChildrenOff p need ws → Apart (changes emptied p need o) ws
@@ -127,3 +128,14 @@ module _ {Proc : Type 0} where
           | yes same ↦ (g.head, ap (λ k. get m (child p b k)) same ∙ g.is, g.done)
           | no off ↦ child_there m p b (suc i) n g.tail g.others j (omega arith) (omega arith)
         ]
+
+    -- the reply to who joins has the children that have ended
+    pub served_children : (m : Procs Proc) (cs : Chans) (p : Place) (b n : ℕ) (r : Reply Proc) → served has_ended m cs p (Children b n) ≡ Some r → (ys : List Proc) × (gathered has_ended m p b 1 n ≡ Some ys) × (reply_with ys ≡ r)
+    served_children m cs p b n r e = go (gathered has_ended m p b 1 n) refl e
+      where
+        go : (o : Option (List Proc)) → gathered has_ended m p b 1 n ≡ o → option_map reply_with o ≡ Some r → (ys : List Proc) × (gathered has_ended m p b 1 n ≡ Some ys) × (reply_with ys ≡ r)
+        go None is e' = absurd (cc e')
+        go (Some ys) is e' = (ys, is, cc e')
+
+    pub joined_child : (m : Procs Proc) (cs : Chans) (p : Place) (b n : ℕ) (r : Reply Proc) → served has_ended m cs p (Children b n) ≡ Some r → (i : ℕ) → 1 ≤ i → i < n + 1 → (x : Proc) × (get m (child p b i) ≡ Some x) × (has_ended x ≡ true)
+    joined_child m cs p b n r e i l h = let k = served_children m cs p b n r e in child_there m p b 1 n k.0 k.1 i l h

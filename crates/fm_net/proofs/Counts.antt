@@ -5,7 +5,7 @@ use Rattle.std.specs.FinMap.{get}
 use Rattle.fm_base.specs.declared.path.ChanName.{ChanName}
 use Rattle.fm_base.specs.declared.port.PortValue.{PortValue}
 use Rattle.fm_base.specs.declared.port.PortValue.TheVariants.{Writer, Reader}
-use Rattle.fm_base.specs.Channels.{Message, message_ports, Chan, Chans, ChannelOp, Push, Pop, changed, gives, spills, queue_ports, channel_of, discarded, freed, behind_first, first_message, without, shut, shut_at}
+use Rattle.fm_base.specs.Channels.{Message, message_ports, Chan, Chans, ChannelOp, Limits, fits_limits, Push, Pop, Look, changed, gives, spills, queue_ports, channel_of, discarded, freed, behind_first, first_message, without, shut, shut_at}
 use Rattle.fm_maps.specs.Changes.{adjust, adjust_found}
 use Rattle.fm_maps.specs.Sums.{total, value_or_zero}
 use Rattle.fm_maps.proofs.Keys.{tie, tie_self, decide}
@@ -75,7 +75,7 @@ one_once x y z n = elim (port_decide x z) [
   | no m ↦ omega (arith, one_small y z, one_apart x z m)
 ]
 
--- ---- places in lists
+-- ---- ports in lists
 
 pub count-nil : (x : PortValue) → count x [] ≡ 0
 unfolding count
@@ -192,8 +192,10 @@ unfolding open_at
 opened_same a y None = refl
 opened_same (Push w m) (Writer d v) (Some ch) = refl
 opened_same (Push w m) (Reader d) (Some ch) = refl
-opened_same Pop (Writer d v) (Some ch) = refl
-opened_same Pop (Reader d) (Some ch) = refl
+opened_same (Pop l) (Writer d v) (Some ch) = refl
+opened_same (Pop l) (Reader d) (Some ch) = refl
+opened_same Look (Writer d v) (Some ch) = refl
+opened_same Look (Reader d) (Some ch) = refl
 
 -- an event closes nothing
 pub opened_changed : (m : Chans) (c : ChanName) (a : ChannelOp) (y : PortValue) → opened (adjust m c (changed a)) y ≡ opened m y
@@ -213,16 +215,20 @@ freed_count (Reader c) y (Some ch) = omega (arith, count-nil y)
 pub queued_shut : (m : Chans) (x y : PortValue) → total (queued y) (closed x m) + count y (freed x (get m (channel_of x))) ≡ total (queued y) m
 queued_shut m x y = omega (arith, total-adjust channel_order (queued y) m (channel_of x) (discarded x), freed_count x y (get m (channel_of x)))
 
-popped_count : (y : PortValue) (ms : List Message) → count y (queue_ports (behind_first ms)) + count y [] + count y (got (first_message ms)) ≡ count y (queue_ports ms) + count y []
-popped_count y [] = omega (arith, count-nil y)
-popped_count y (m ∷ ms) = omega (arith, count-append y (message_ports m) (queue_ports ms))
+popped_count : (y : PortValue) (l : Limits) (ms : List Message) → count y (queue_ports (behind_first l ms)) + count y [] + count y (got (first_message l ms)) ≡ count y (queue_ports ms) + count y []
+popped_count y l [] = omega (arith, count-nil y)
+popped_count y l (m ∷ ms) = elim (fits_limits l m) as (λ b. count y (queue_ports (cond b ms (m ∷ ms))) + count y [] + count y (got (cond b (Some m) None)) ≡ count y (queue_ports (m ∷ ms)) + count y []) [
+  | true ↦ omega (arith, count-append y (message_ports m) (queue_ports ms))
+  | false ↦ omega (arith, count-nil y)
+]
 
 changed_count : (a : ChannelOp) (y : PortValue) (ch : Chan) → queued y (changed a ch) + count y (spills a ch) + count y (got (gives a ch)) ≡ queued y ch + count y (sent_ports a)
 changed_count (Push w m) y ch = elim ch.lives as (λ b. count y (queue_ports (cond b (ch.queue ++ m ∷ []) ch.queue)) + count y (cond b [] (message_ports m)) + count y [] ≡ count y (queue_ports ch.queue) + count y (message_ports m)) [
   | true ↦ omega (arith, ap (count y) (queue_ports-append ch.queue (m ∷ [])), count-append y (queue_ports ch.queue) (message_ports m ++ []), count-append y (message_ports m) [], count-nil y)
   | false ↦ omega (arith, count-nil y)
 ]
-changed_count Pop y ch = popped_count y ch.queue
+changed_count (Pop l) y ch = popped_count y l ch.queue
+changed_count Look y ch = omega (arith, count-nil y)
 
 -- what an event gives and takes is what the queues take and give
 pub queued_changed : (m : Chans) (c : ChanName) (a : ChannelOp) (ch : Chan) (y : PortValue) → get m c ≡ Some ch

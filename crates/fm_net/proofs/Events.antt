@@ -4,11 +4,12 @@ use Rattle.std.specs.FinMap.{get}
 use Rattle.fm_base.specs.declared.path.ChanName.{ChanName}
 use Rattle.fm_base.specs.declared.port.PortValue.{PortValue}
 use Rattle.fm_base.specs.declared.port.PortValue.TheVariants.{Writer, Reader}
-use Rattle.fm_base.specs.Channels.{Message, message_ports, Chan, Chans, ChannelOp, Push, Pop, can_pop, is_ready, changed, gives, spills, queue_ports, channel_of, discarded, freed, without}
+use Rattle.fm_base.specs.Channels.{Message, message_ports, Chan, Chans, ChannelOp, Limits, fits_limits, Push, Pop, Look, can_pop, is_ready, changed, gives, exceeds, tells, spills, queue_ports, channel_of, discarded, freed, without}
 use Rattle.fm_maps.proofs.Keys.{decide}
 use Rattle.fm_maps.proofs.Adjusts.{adjust_there}
 use Rattle.fm_net.specs.Owned.{count, has, open_at}
 use Rattle.fm_net.specs.Lawful.{port_of, Brings}
+use Rattle.fm_net.specs.Plain.{IsSure}
 use Rattle.fm_net.proofs.Keys.{channel_order}
 use Rattle.fm_net.proofs.Counts.{closed, count-nil, count-append, queue_ports-append, without_swap, adjust_at}
 
@@ -19,36 +20,52 @@ can_pop_more [] w [] h = refl
 can_pop_more [] w (v ∷ ws) h = absurd (cc)
 can_pop_more (m ∷ ms) w ws h = refl
 
--- the event a at its channel state_after x is discarded: as before, and what goes loose is the same in all
-pub record Beside (a : ChannelOp) (x : PortValue) (ch later : Chan) (before state_after : Option Chan) : Type 0 where
+-- the event a at its channel after x is discarded: as before, and what goes loose is the same in all
+pub record Beside (a : ChannelOp) (x : PortValue) (ch later : Chan) (before after : Option Chan) : Type 0 where
   pub can : is_ready a later ≡ true
   pub same : gives a later ≡ gives a ch
-  pub even : (z : PortValue) → count z (freed x before) + count z (spills a later) ≡ count z (spills a ch) + count z (freed x state_after)
+  pub more : exceeds a later ≡ exceeds a ch
+  pub told : tells a later ≡ tells a ch
+  pub even : (z : PortValue) → count z (freed x before) + count z (spills a later) ≡ count z (spills a ch) + count z (freed x after)
 
 reader_open : (b : Bool) → 1 ≤ cond b 1 0 → b ≡ true
 reader_open true h = refl
 reader_open false h = absurd (omega arith)
 
-pub beside : (c : ChanName) (a : ChannelOp) (x : PortValue) (ch : Chan) → (x ≢ port_of c a) → channel_of x ≡ c → 1 ≤ open_at x (Some ch) → is_ready a ch ≡ true
+-- a discard leaves an event ready
+pub ready_beside : (c : ChanName) (a : ChannelOp) (x : PortValue) (ch : Chan) → (x ≢ port_of c a) → channel_of x ≡ c → is_ready a ch ≡ true → is_ready a (discarded x ch) ≡ true
+ready_beside c (Push w m) (Writer d v) ch off e can = refl
+ready_beside c (Push w m) (Reader d) ch off e can = refl
+ready_beside c (Pop l) (Writer d v) ch off e can = can_pop_more ch.queue v ch.writers can
+ready_beside c (Pop l) (Reader d) ch off e can = absurd (off (ap Reader e))
+ready_beside c Look (Writer d v) ch off e can = refl
+ready_beside c Look (Reader d) ch off e can = refl
+
+pub beside : (c : ChanName) (a : ChannelOp) (x : PortValue) (ch : Chan) → IsSure a → (x ≢ port_of c a) → channel_of x ≡ c → 1 ≤ open_at x (Some ch) → is_ready a ch ≡ true
     → Beside a x ch (discarded x ch) (Some ch) (Some (changed a ch))
 unfolding open_at
-beside c (Push w m) (Writer d v) ch off e h can = record { can = refl; same = refl; even = λ z. omega (arith, count-nil z) }
-beside c (Push w m) (Reader d) ch off e h can =
+beside c (Push w m) (Writer d v) ch sure off e h can = record { can = refl; same = refl; more = refl; told = refl; even = λ z. omega (arith, count-nil z) }
+beside c (Push w m) (Reader d) ch sure off e h can =
     let lives : ch.lives ≡ true = reader_open ch.lives h in
     record {
       can = refl;
       same = refl;
+      more = refl;
+      told = refl;
       even = λ z. subst (λ b. count z (queue_ports ch.queue) + count z (message_ports m) ≡ count z (cond b [] (message_ports m)) + count z (queue_ports (cond b (ch.queue ++ m ∷ []) ch.queue))) (sym lives)
           (omega (arith, ap (count z) (queue_ports-append ch.queue (m ∷ [])), count-append z (queue_ports ch.queue) (message_ports m ++ []), count-append z (message_ports m) [], count-nil z));
     }
-beside c Pop (Writer d v) ch off e h can = record { can = can_pop_more ch.queue v ch.writers can; same = refl; even = λ z. omega (arith, count-nil z) }
-beside c Pop (Reader d) ch off e h can = absurd (off (ap Reader e))
+beside c (Pop l) (Writer d v) ch sure off e h can = record { can = can_pop_more ch.queue v ch.writers can; same = refl; more = refl; told = refl; even = λ z. omega (arith, count-nil z) }
+beside c (Pop l) (Reader d) ch sure off e h can = absurd (off (ap Reader e))
+beside c Look x ch sure off e h can = absurd sure
 
 pub beside_swap : (a : ChannelOp) (x : PortValue) (ch : Chan) → changed a (discarded x ch) ≡ discarded x (changed a ch)
 beside_swap (Push w m) (Writer d v) ch = refl
 beside_swap (Push w m) (Reader d) ch = refl
-beside_swap Pop (Writer d v) ch = refl
-beside_swap Pop (Reader d) ch = refl
+beside_swap (Pop l) (Writer d v) ch = refl
+beside_swap (Pop l) (Reader d) ch = refl
+beside_swap Look (Writer d v) ch = refl
+beside_swap Look (Reader d) ch = refl
 
 -- ---- two events at one channel
 
@@ -58,41 +75,78 @@ pub record Cross (a b : ChannelOp) (ch : Chan) : Type 0 where
   pub one_chan : changed a (changed b ch) ≡ changed b (changed a ch)
   pub gives_a : gives a (changed b ch) ≡ gives a ch
   pub gives_b : gives b (changed a ch) ≡ gives b ch
+  pub exceeds_a : exceeds a (changed b ch) ≡ exceeds a ch
+  pub tells_a : tells a (changed b ch) ≡ tells a ch
+  pub exceeds_b : exceeds b (changed a ch) ≡ exceeds b ch
+  pub tells_b : tells b (changed a ch) ≡ tells b ch
   pub spills_a : spills a (changed b ch) ≡ spills a ch
   pub spills_b : spills b (changed a ch) ≡ spills b ch
 
 pub turn : (a b : ChannelOp) (ch : Chan) → Cross a b ch → Cross b a ch
-turn a b ch x = record { ready_a = x.ready_b; ready_b = x.ready_a; one_chan = sym x.one_chan; gives_a = x.gives_b; gives_b = x.gives_a; spills_a = x.spills_b; spills_b = x.spills_a }
+turn a b ch x = record { ready_a = x.ready_b; ready_b = x.ready_a; one_chan = sym x.one_chan; gives_a = x.gives_b; gives_b = x.gives_a; exceeds_a = x.exceeds_b; exceeds_b = x.exceeds_a; tells_a = x.tells_b; tells_b = x.tells_a; spills_a = x.spills_b; spills_b = x.spills_a }
 
-pub push_pop : (w : ℕ) (m : Message) (ms : List Message) (ws : List ℕ) (lives : Bool) → can_pop ms ws ≡ true → has w ws ≡ true → Cross (Push w m) Pop (record { queue = ms; writers = ws; lives = lives })
-push_pop w m [] [] lives can h = absurd (cc)
-push_pop w m [] (v ∷ ws) lives can h = absurd (cc)
-push_pop w m (x ∷ ms) ws true can h = record { ready_a = refl; ready_b = refl; one_chan = refl; gives_a = refl; gives_b = refl; spills_a = refl; spills_b = refl }
-push_pop w m (x ∷ ms) ws false can h = record { ready_a = refl; ready_b = refl; one_chan = refl; gives_a = refl; gives_b = refl; spills_a = refl; spills_b = refl }
+-- the queue where a message is put last and the first one is taken, if it fits
+push_behind : (fits : Bool) (x : Message) (ms : List Message) (m : Message) → cond fits ms (x ∷ ms) ++ m ∷ [] ≡ cond fits (ms ++ m ∷ []) (x ∷ ms ++ m ∷ [])
+push_behind true x ms m = refl
+push_behind false x ms m = refl
+
+pub push_pop : (w : ℕ) (m : Message) (l : Limits) (ms : List Message) (ws : List ℕ) (lives : Bool) → can_pop ms ws ≡ true → has w ws ≡ true → Cross (Push w m) (Pop l) (record { queue = ms; writers = ws; lives = lives })
+push_pop w m l [] [] lives can h = absurd (cc)
+push_pop w m l [] (v ∷ ws) lives can h = absurd (cc)
+push_pop w m l (x ∷ ms) ws true can h = record {
+  ready_a = refl;
+  ready_b = refl;
+  one_chan = λ i. record { queue = push_behind (fits_limits l x) x ms m i; writers = ws; lives = true };
+  gives_a = refl;
+  gives_b = refl;
+  exceeds_a = refl;
+  exceeds_b = refl;
+  tells_a = refl;
+  tells_b = refl;
+  spills_a = refl;
+  spills_b = refl;
+}
+push_pop w m l (x ∷ ms) ws false can h = record { ready_a = refl; ready_b = refl; one_chan = refl; gives_a = refl; gives_b = refl; exceeds_a = refl; exceeds_b = refl; tells_a = refl; tells_b = refl; spills_a = refl; spills_b = refl }
 
 pub has_open : (c : ChanName) (w : ℕ) (ch : Chan) → 1 ≤ open_at (Writer c w) (Some ch) → has w ch.writers ≡ true
 unfolding open_at
 has_open c w ch h = reader_open (has w ch.writers) h
 
--- a after b at one channel: still ready, with the same reply. Here a channel may have more writers
+-- a after b at one channel is still ready, whatever they are and however many writers the channel has
+pub ready_later : (c : ChanName) (a b : ChannelOp) (ch : Chan) → (port_of c a ≢ port_of c b) → 1 ≤ open_at (port_of c b) (Some ch) → is_ready a ch ≡ true → is_ready a (changed b ch) ≡ true
+ready_later c (Push w m) b ch apart j r = refl
+ready_later c Look b ch apart j r = refl
+ready_later c (Pop l) (Push v n) ch apart j r = (push_pop v n l ch.queue ch.writers ch.lives r (has_open c v ch j)).ready_b
+ready_later c (Pop l) (Pop k) ch apart j r = absurd (apart refl)
+ready_later c (Pop l) Look ch apart j r = r
+
+-- and where nobody looks, it has the same reply. Here too a channel may have more writers
 pub record Calm (a b : ChannelOp) (ch : Chan) : Type 0 where
   pub ready_a : is_ready a (changed b ch) ≡ true
   pub gives_a : gives a (changed b ch) ≡ gives a ch
+  pub exceeds_a : exceeds a (changed b ch) ≡ exceeds a ch
+  pub tells_a : tells a (changed b ch) ≡ tells a ch
   pub spills_a : spills a (changed b ch) ≡ spills a ch
 
-pub calm : (c : ChanName) (a b : ChannelOp) (ch : Chan) → (port_of c a ≢ port_of c b) → 1 ≤ open_at (port_of c a) (Some ch) → 1 ≤ open_at (port_of c b) (Some ch) → is_ready a ch ≡ true → is_ready b ch ≡ true → Calm a b ch
-calm c (Push w m) (Push v n) ch apart i j r t = record { ready_a = refl; gives_a = refl; spills_a = refl }
-calm c (Push w m) Pop ch apart i j r t = record { ready_a = refl; gives_a = refl; spills_a = refl }
-calm c Pop (Push v n) ch apart i j r t = let x = push_pop v n ch.queue ch.writers ch.lives r (has_open c v ch j) in record { ready_a = x.ready_b; gives_a = x.gives_b; spills_a = x.spills_b }
-calm c Pop Pop ch apart i j r t = absurd (apart refl)
+pub calm : (c : ChanName) (a b : ChannelOp) (ch : Chan) → IsSure a → IsSure b → (port_of c a ≢ port_of c b) → 1 ≤ open_at (port_of c a) (Some ch) → 1 ≤ open_at (port_of c b) (Some ch) → is_ready a ch ≡ true → is_ready b ch ≡ true → Calm a b ch
+calm c (Push w m) (Push v n) ch sa sb apart i j r t = record { ready_a = refl; gives_a = refl; exceeds_a = refl; tells_a = refl; spills_a = refl }
+calm c (Push w m) (Pop l) ch sa sb apart i j r t = record { ready_a = refl; gives_a = refl; exceeds_a = refl; tells_a = refl; spills_a = refl }
+calm c (Pop l) (Push v n) ch sa sb apart i j r t = let x = push_pop v n l ch.queue ch.writers ch.lives r (has_open c v ch j) in record { ready_a = x.ready_b; gives_a = x.gives_b; exceeds_a = x.exceeds_b; tells_a = x.tells_b; spills_a = x.spills_b }
+calm c (Pop l) (Pop k) ch sa sb apart i j r t = absurd (apart refl)
+calm c Look b ch sa sb apart i j r t = absurd sa
+calm c (Push w m) Look ch sa sb apart i j r t = absurd sb
+calm c (Pop l) Look ch sa sb apart i j r t = absurd sb
 
 -- and where it has one, both orders leave one channel
-pub crosses : (c : ChanName) (a b : ChannelOp) (ch : Chan) → (port_of c a ≢ port_of c b) → ((w : ℕ) → 1 ≤ open_at (Writer c w) (Some ch) → w ≡ 0)
+pub crosses : (c : ChanName) (a b : ChannelOp) (ch : Chan) → IsSure a → IsSure b → (port_of c a ≢ port_of c b) → ((w : ℕ) → 1 ≤ open_at (Writer c w) (Some ch) → w ≡ 0)
     → 1 ≤ open_at (port_of c a) (Some ch) → 1 ≤ open_at (port_of c b) (Some ch) → is_ready a ch ≡ true → is_ready b ch ≡ true → Cross a b ch
-crosses c (Push w m) (Push v n) ch apart single i j r t = absurd (apart (ap (Writer c) (single w i ∙ sym (single v j))))
-crosses c (Push w m) Pop ch apart single i j r t = push_pop w m ch.queue ch.writers ch.lives t (has_open c w ch i)
-crosses c Pop (Push v n) ch apart single i j r t = turn _ _ _ (push_pop v n ch.queue ch.writers ch.lives r (has_open c v ch j))
-crosses c Pop Pop ch apart single i j r t = absurd (apart refl)
+crosses c (Push w m) (Push v n) ch sa sb apart single i j r t = absurd (apart (ap (Writer c) (single w i ∙ sym (single v j))))
+crosses c (Push w m) (Pop l) ch sa sb apart single i j r t = push_pop w m l ch.queue ch.writers ch.lives t (has_open c w ch i)
+crosses c (Pop l) (Push v n) ch sa sb apart single i j r t = turn _ _ _ (push_pop v n l ch.queue ch.writers ch.lives r (has_open c v ch j))
+crosses c (Pop l) (Pop k) ch sa sb apart single i j r t = absurd (apart refl)
+crosses c Look b ch sa sb apart single i j r t = absurd sa
+crosses c (Push w m) Look ch sa sb apart single i j r t = absurd sb
+crosses c (Pop l) Look ch sa sb apart single i j r t = absurd sb
 
 -- ---- two discards
 
@@ -119,7 +173,8 @@ discarded_swap (Reader c) (Reader d) ch = refl
 
 pub brings : (a : ChannelOp) (ch : Chan) → Brings a (gives a ch)
 brings (Push w m) ch = refl
-brings Pop ch = tt
+brings (Pop l) ch = tt
+brings Look ch = refl
 
 pub same_some : (u v : Chan) (o : Option Chan) → o ≡ Some u → o ≡ Some v → u ≡ v
 same_some u v o e f = cc

@@ -1,11 +1,11 @@
 -- Parts of steps: each leaves another its own, and where no channel has a second writer, both orders meet.
-use Rattle.std.proofs.Common.{◌≡◌, ◌≢◌, ℕ, zero, suc, ◌+◌, ◌-◌, ◌≤◌, ◌<◌, Option, Some, None, List, [], ◌++◌, true, cond, option_map, refl, sym, ap, ap₂, ◌∙◌, subst, arith}
+use Rattle.std.proofs.Common.{◌≡◌, ◌≢◌, ℕ, zero, suc, ◌+◌, ◌-◌, ◌≤◌, ◌<◌, Option, Some, None, List, [], ◌++◌, true, option_map, refl, sym, ap, ap₂, ◌∙◌, subst, arith}
 use mathlib.Core.Path.{fun_ext}
 use Rattle.std.specs.FinMap.{get}
 use Rattle.fm_base.specs.declared.path.ChanName.{ChanName}
 use Rattle.fm_base.specs.declared.port.PortValue.{PortValue}
 use Rattle.fm_base.specs.declared.port.PortValue.TheVariants.{Writer, Reader}
-use Rattle.fm_base.specs.Channels.{Chan, ChannelOp, Push, Pop, is_ready, changed, channel_of, discarded, freed, fresh}
+use Rattle.fm_base.specs.Channels.{Chan, ChannelOp, Push, Pop, Look, is_ready, changed, channel_of, discarded, freed, fresh, spills_at}
 use Rattle.fm_maps.specs.Changes.{Change, adjust, alters, Off, Apart}
 use Rattle.fm_maps.specs.Sums.{total, value_or_zero}
 use Rattle.fm_maps.proofs.Keys.{decide}
@@ -14,20 +14,21 @@ use Rattle.fm_maps.proofs.Adjusts.{adjust_there, adjust_swap, adjust_past_insert
 use Rattle.fm_maps.proofs.Alters.{alters_there, alters_swap}
 use Rattle.fm_maps.proofs.Sums.{one_of_total, two_of_total}
 use Rattle.fm_sched.proofs.Moves.{MovesMeet}
-use Rattle.fm_net.specs.Machine.{Place, Need, Nothing, Event, New, Children, Reply, Onward, child, made, chans_after, spills_at, spilt, with_child, gathered, served_at, served, changes}
+use Rattle.fm_net.specs.Machine.{Place, Need, Nothing, Event, New, Children, Reply, Onward, child, made, chans_after, reply_with, spilt, with_child, gathered, served_at, served, changes}
 use Rattle.fm_net.specs.Language.{Language}
 use Rattle.fm_net.specs.Owned.{one, count, queued, open_at, opened, present, name_of, HasOneWriter}
+use Rattle.fm_net.specs.Plain.{IsSure, IsSingle, IsPlainAsk, KeepsPlain, AllPlain}
 use Rattle.fm_net.specs.Lawful.{port_of, Uses, Numbered, IsLawfulStep, IsLawfulAsk, IsLawfulLanguage}
 use Rattle.fm_net.proofs.Keys.{path_order, channel_order}
 use Rattle.fm_net.proofs.Counts.{closed, one_apart, one_below, one_once, count-append, opened_small, adjust_at}
-use Rattle.fm_net.proofs.Events.{Beside, beside, beside_swap, calm, crosses, freed_same, discarded_swap, same_some}
+use Rattle.fm_net.proofs.Events.{Beside, ready_beside, ready_later, beside, beside_swap, calm, crosses, freed_same, discarded_swap, same_some}
 use Rattle.fm_net.proofs.Parts.{Midway, Part, Run, Discard, one_place, one_place_apart, Start, Move, end}
-use Rattle.fm_net.proofs.Children.{one_parent, IsNoChild, ChildrenOff, off_changes, apart_changes, child_there}
-use Rattle.fm_net.proofs.Needs.{absent, no_value, Ready, IsCalm, Commutes, chans_swap, left, served_event}
+use Rattle.fm_net.proofs.Children.{one_parent, IsNoChild, ChildrenOff, off_changes, apart_changes, joined_child}
+use Rattle.fm_net.proofs.Needs.{absent, no_value, Ready, IsReadyLater, IsCalm, Commutes, chans_swap, ready_after, reply_same, left, ready_serves, served_event}
 
--- ownership between two parts: a loose port has its place there
+-- ownership between two parts: a loose port stands there
 pub record IsSound {Proc : Type 0} (language : Language Proc) (mid : Midway Proc) : Type 0 where
-  pub places : (z : PortValue) → total (λ x. count z (language.held x)) mid.procs + total (queued z) mid.chans + mid.loose z ≡ opened mid.chans z
+  pub stands : (z : PortValue) → total (λ x. count z (language.held x)) mid.procs + total (queued z) mid.chans + mid.loose z ≡ opened mid.chans z
   pub born : (q : Place) (b i : ℕ) → 1 ≤ present (get mid.procs (child q b i)) → b < value_or_zero language.next_block (get mid.procs q)
   pub named : (q : Place) (n : ℕ) → 1 ≤ present (get mid.chans (name_of q n)) → n < value_or_zero language.next_channel (get mid.procs q)
 
@@ -46,7 +47,7 @@ module _ {Proc : Type 0} (language : Language Proc) where
     most z = opened_small z (get mid.chans (channel_of z))
 
     pub loose_open : (z : PortValue) → 1 ≤ mid.loose z → 1 ≤ opened mid.chans z
-    loose_open z h = omega (arith, good.places z)
+    loose_open z h = omega (arith, good.stands z)
 
     holder : (p : Place) (x : Proc) (z : PortValue) → get mid.procs p ≡ Some x → holds z x ≤ total (holds z) mid.procs
     holder p x z is = subst (λ o. value_or_zero (holds z) o ≤ total (holds z) mid.procs) is (one_of_total path_order (holds z) mid.procs p)
@@ -55,15 +56,15 @@ module _ {Proc : Type 0} (language : Language Proc) where
     holders p q x y z n is_x is_y = omega (arith, two_of_total path_order (holds z) mid.procs p q n, ap (value_or_zero (holds z)) is_x, ap (value_or_zero (holds z)) is_y)
 
     held_open : (p : Place) (x : Proc) (z : PortValue) → get mid.procs p ≡ Some x → 1 ≤ holds z x → 1 ≤ opened mid.chans z
-    held_open p x z is h = omega (arith, good.places z, holder p x z is)
+    held_open p x z is h = omega (arith, good.stands z, holder p x z is)
 
     not_loose : (p : Place) (x : Proc) (z y : PortValue) → get mid.procs p ≡ Some x → 1 ≤ holds z x → 1 ≤ mid.loose y → y ≢ z
     not_loose p x z y is h l e = let l' : 1 ≤ mid.loose z = subst (λ w. 1 ≤ mid.loose w) e l in
-        omega (arith, good.places z, holder p x z is, most z)
+        omega (arith, good.stands z, holder p x z is, most z)
 
     not_both : (p q : Place) (x y : Proc) (z w : PortValue) → (p ≢ q) → get mid.procs p ≡ Some x → get mid.procs q ≡ Some y → 1 ≤ holds z x → 1 ≤ holds w y → z ≢ w
     not_both p q x y z w n is_x is_y h g e = let g' : 1 ≤ holds z y = subst (λ u. 1 ≤ holds u y) (sym e) g in
-        omega (arith, good.places z, holders p q x y z n is_x is_y, most z)
+        omega (arith, good.stands z, holders p q x y z n is_x is_y, most z)
 
     -- ---- the processes that a step touches
 
@@ -79,34 +80,41 @@ module _ {Proc : Type 0} (language : Language Proc) where
         let self : x ≡ t.self = cc in
         cc (sym (laws.stops x done) ∙ ap language.ask self ∙ t.asks)
 
-    joined_child : (p : Place) (b n : ℕ) (r : Reply Proc) → served language.has_ended mid.procs mid.chans p (Children b n) ≡ Some r → (i : ℕ) → 1 ≤ i → i < n + 1 → (x : Proc) × (get mid.procs (child p b i) ≡ Some x) × (language.has_ended x ≡ true)
-    joined_child p b n r e i l h = go (gathered language.has_ended mid.procs p b 1 n) refl e
-      where
-        go : (o : Option (List Proc)) → gathered language.has_ended mid.procs p b 1 n ≡ o → option_map (λ ys. record { message = None; children = ys }) o ≡ Some r → (x : Proc) × (get mid.procs (child p b i) ≡ Some x) × (language.has_ended x ≡ true)
-        go None is e' = absurd (cc e')
-        go (Some ys) is e' = child_there language.has_ended mid.procs p b 1 n ys is i l h
-
     pub ready_need : (p : Place) (x : Proc) (need : Need) (r : Reply Proc) → get mid.procs p ≡ Some x → Numbered (language.next_channel x) need → served language.has_ended mid.procs mid.chans p need ≡ Some r → Ready mid.chans p need
     ready_need p x Nothing r is n e = tt
     ready_need p x (Event c a) r is n e = let h = served_event a (get mid.chans c) r e in (h.0, h.1, h.2)
-    ready_need p x (New k) r is n e = no_value _ (λ h. let g = good.named p k h in let w : value_or_zero language.next_channel (get mid.procs p) ≡ language.next_channel x = ap (value_or_zero language.next_channel) is in omega arith)
+    ready_need p x (New k w) r is n e = no_value _ (λ h. let g = good.named p k h in let v : value_or_zero language.next_channel (get mid.procs p) ≡ language.next_channel x = ap (value_or_zero language.next_channel) is in omega arith)
     ready_need p x (Children b k) r is n e = tt
 
     open_here : (p : Place) (x : Proc) (c : ChanName) (a : ChannelOp) (ch : Chan) → get mid.procs p ≡ Some x → get mid.chans c ≡ Some ch → 1 ≤ holds (port_of c a) x → 1 ≤ open_at (port_of c a) (Some ch)
     open_here p x c (Push w m) ch is has h = subst (λ o. 1 ≤ open_at (Writer c w) o) has (held_open p x (Writer c w) is h)
-    open_here p x c Pop ch is has h = subst (λ o. 1 ≤ open_at (Reader c) o) has (held_open p x (Reader c) is h)
+    open_here p x c (Pop l) ch is has h = subst (λ o. 1 ≤ open_at (Reader c) o) has (held_open p x (Reader c) is h)
+    open_here p x c Look ch is has h = subst (λ o. 1 ≤ open_at (Reader c) o) has (held_open p x (Reader c) is h)
+
+    ready_later_need : (p q : Place) (x y : Proc) (need other : Need) → (p ≢ q) → get mid.procs p ≡ Some x → get mid.procs q ≡ Some y → Uses (language.held x) need → Uses (language.held y) other → IsReadyLater mid.chans need other
+    ready_later_need p q x y Nothing other n is_x is_y u v = tt
+    ready_later_need p q x y (New k w) other n is_x is_y u v = tt
+    ready_later_need p q x y (Children b k) other n is_x is_y u v = tt
+    ready_later_need p q x y (Event c a) Nothing n is_x is_y u v = tt
+    ready_later_need p q x y (Event c a) (New k w) n is_x is_y u v = tt
+    ready_later_need p q x y (Event c a) (Children b k) n is_x is_y u v = tt
+    ready_later_need p q x y (Event c a) (Event d b) n is_x is_y u v = λ e ch is r.
+        ready_later c a b ch
+        (λ w. not_both p q x y (port_of c a) (port_of d b) n is_x is_y u v (w ∙ ap (λ k. port_of k b) e))
+        (subst (λ k. 1 ≤ open_at (port_of k b) (Some ch)) (sym e) (open_here q y d b ch is_y (ap (get mid.chans) (sym e) ∙ is) v))
+        r
 
     calm_need : (p q : Place) (x y : Proc) (need other : Need) → (p ≢ q) → get mid.procs p ≡ Some x → get mid.procs q ≡ Some y → Uses (language.held x) need → Uses (language.held y) other
-        → Ready mid.chans p need → Ready mid.chans q other → IsCalm mid.chans need other
-    calm_need p q x y Nothing other n is_x is_y u v r s = tt
-    calm_need p q x y (New k) other n is_x is_y u v r s = tt
-    calm_need p q x y (Children b k) other n is_x is_y u v r s = tt
-    calm_need p q x y (Event c a) Nothing n is_x is_y u v r s = tt
-    calm_need p q x y (Event c a) (New k) n is_x is_y u v r s = tt
-    calm_need p q x y (Event c a) (Children b k) n is_x is_y u v r s = tt
-    calm_need p q x y (Event c a) (Event d b) n is_x is_y u v r s = λ e ch is.
+        → IsSingle need → IsSingle other → Ready mid.chans p need → Ready mid.chans q other → IsCalm mid.chans need other
+    calm_need p q x y Nothing other n is_x is_y u v su sv r s = tt
+    calm_need p q x y (New k w) other n is_x is_y u v su sv r s = tt
+    calm_need p q x y (Children b k) other n is_x is_y u v su sv r s = tt
+    calm_need p q x y (Event c a) Nothing n is_x is_y u v su sv r s = tt
+    calm_need p q x y (Event c a) (New k w) n is_x is_y u v su sv r s = tt
+    calm_need p q x y (Event c a) (Children b k) n is_x is_y u v su sv r s = tt
+    calm_need p q x y (Event c a) (Event d b) n is_x is_y u v su sv r s = λ e ch is.
         let at_d : get mid.chans d ≡ Some ch = ap (get mid.chans) (sym e) ∙ is in
-        calm c a b ch
+        calm c a b ch su sv
         (λ w. not_both p q x y (port_of c a) (port_of d b) n is_x is_y u v (w ∙ ap (λ k. port_of k b) e))
         (open_here p x c a ch is_x is u)
         (subst (λ k. 1 ≤ open_at (port_of k b) (Some ch)) (sym e) (open_here q y d b ch is_y at_d v))
@@ -128,13 +136,13 @@ module _ {Proc : Type 0} (language : Language Proc) where
       no_busy_child : (need : Need) (r : Reply Proc) → served language.has_ended mid.procs mid.chans q need ≡ Some r → IsNoChild language.emptied p q need
       no_busy_child Nothing r e = tt
       no_busy_child (Event c a) r e = tt
-      no_busy_child (New n) r e = tt
-      no_busy_child (Children b n) r e = λ i l h w. let k = joined_child q b n r e i l h in busy p (child q b i) t k.0 k.1 k.2 (sym w)
+      no_busy_child (New n w) r e = tt
+      no_busy_child (Children b n) r e = λ i l h w. let k = joined_child language.has_ended mid.procs mid.chans q b n r e i l h in busy p (child q b i) t k.0 k.1 k.2 (sym w)
 
       no_other_child : (b i : ℕ) (need : Need) → IsNoChild language.emptied (child p b i) q need
       no_other_child b i Nothing = tt
       no_other_child b i (Event c a) = tt
-      no_other_child b i (New n) = tt
+      no_other_child b i (New n w) = tt
       no_other_child b i (Children d n) = λ j l h. one_parent p q b i d j apart
 
       off_self : Off p other_changes
@@ -149,8 +157,8 @@ module _ {Proc : Type 0} (language : Language Proc) where
       off_joined : (need : Need) (r : Reply Proc) → served language.has_ended mid.procs mid.chans p need ≡ Some r → ChildrenOff language.emptied p need other_changes
       off_joined Nothing r e = tt
       off_joined (Event c a) r e = tt
-      off_joined (New n) r e = tt
-      off_joined (Children b n) r e = λ i l h. off_child b i (let k = joined_child p b n r e i l h in busy q (child p b i) u k.0 k.1 k.2)
+      off_joined (New n w) r e = tt
+      off_joined (Children b n) r e = λ i l h. off_child b i (let k = joined_child language.has_ended mid.procs mid.chans p b n r e i l h in busy q (child p b i) u k.0 k.1 k.2)
 
       apart_both : Apart (changes language.emptied p t.need out) other_changes
       apart_both = apart_changes language.emptied p t.need out other_changes off_self off_started (off_joined t.need t.reply t.serves)
@@ -162,13 +170,13 @@ module _ {Proc : Type 0} (language : Language Proc) where
       module _ (need : Need) (r : Reply Proc) (serves : served language.has_ended mid.procs mid.chans p need ≡ Some r) (there : Ready mid.chans p need) (other_there : Ready mid.chans q u.need) (cross : IsCalm mid.chans need u.need) where
         still_served : (k : Need) → need ≡ k → served language.has_ended (alters other_changes mid.procs) (chans_after q u.need mid.chans) p k ≡ served language.has_ended mid.procs mid.chans p k
         still_served Nothing e = refl
-        still_served (New n) e = refl
-        still_served (Children b n) e = ap (option_map (λ ys. record { message = None; children = ys })) (gathered_same b 1 n (subst (λ k. ChildrenOff language.emptied p k other_changes) e (off_joined need r serves)))
+        still_served (New n w) e = refl
+        still_served (Children b n) e = ap (option_map reply_with) (gathered_same b 1 n (subst (λ k. ChildrenOff language.emptied p k other_changes) e (off_joined need r serves)))
         still_served (Event c a) e = (left {Proc = Proc} mid.chans p q c a u.need (subst (Ready mid.chans p) e there) other_there (subst (λ k. IsCalm mid.chans k u.need) e cross)).served_same
 
         still_spilt : (k : Need) → need ≡ k → spilt k (chans_after q u.need mid.chans) ≡ spilt k mid.chans
         still_spilt Nothing e = refl
-        still_spilt (New n) e = refl
+        still_spilt (New n w) e = refl
         still_spilt (Children b n) e = refl
         still_spilt (Event c a) e = (left {Proc = Proc} mid.chans p q c a u.need (subst (Ready mid.chans p) e there) other_there (subst (λ k. IsCalm mid.chans k u.need) e cross)).spilt_same
 
@@ -178,23 +186,51 @@ module _ {Proc : Type 0} (language : Language Proc) where
       ready_other : Ready mid.chans q u.need
       ready_other = ready_need q u.self u.need u.reply u.is (going_of q u).numbered u.serves
 
-      calm_both : IsCalm mid.chans t.need u.need
-      calm_both = calm_need p q t.self u.self t.need u.need apart t.is u.is (going_of p t).uses (going_of q u).uses ready_self ready_other
+      -- the process is still served, maybe with another reply
+      still_serves : (k : Need) → t.need ≡ k → (r : Reply Proc) × (served language.has_ended (alters other_changes mid.procs) (chans_after q u.need mid.chans) p k ≡ Some r)
+      still_serves Nothing e = (reply_with [], refl)
+      still_serves (New n w) e = (reply_with [], refl)
+      still_serves (Children b n) e = (
+        t.reply,
+        ap (option_map reply_with) (gathered_same b 1 n (subst (λ k. ChildrenOff language.emptied p k other_changes) e (off_joined t.need t.reply t.serves)))
+            ∙ subst (λ k. served language.has_ended mid.procs mid.chans p k ≡ Some t.reply) e t.serves,
+      )
+      still_serves (Event c a) e =
+          ready_serves (chans_after q u.need mid.chans) p c a
+          (ready_after mid.chans p q c a u.need (subst (Ready mid.chans p) e ready_self) ready_other (subst (λ k. IsReadyLater mid.chans k u.need) e (ready_later_need p q t.self u.self t.need u.need apart t.is u.is (going_of p t).uses (going_of q u).uses)))
 
-      -- the same step is still there
-      later : Start language (alters other_changes mid.procs) (chans_after q u.need mid.chans) p
-      later = record {
-        self = t.self;
-        is = alters_there path_order other_changes mid.procs p off_self ∙ t.is;
-        need = t.need;
-        goes = t.goes;
-        asks = t.asks;
-        reply = t.reply;
-        serves = still_served t.need t.reply t.serves ready_self ready_other calm_both t.need refl ∙ t.serves;
-      }
+      -- so it still has a step
+      later_step : Start language (alters other_changes mid.procs) (chans_after q u.need mid.chans) p
+      later_step =
+          let h = still_serves t.need refl in
+          record {
+            self = t.self;
+            is = alters_there path_order other_changes mid.procs p off_self ∙ t.is;
+            need = t.need;
+            goes = t.goes;
+            asks = t.asks;
+            reply = h.0;
+            serves = h.1;
+          }
 
-      spilt_later : spilt t.need (chans_after q u.need mid.chans) ≡ spilt t.need mid.chans
-      spilt_later = still_spilt t.need t.reply t.serves ready_self ready_other calm_both t.need refl
+      module _ (sure : IsSingle t.need) (other_sure : IsSingle u.need) where
+        calm_both : IsCalm mid.chans t.need u.need
+        calm_both = calm_need p q t.self u.self t.need u.need apart t.is u.is (going_of p t).uses (going_of q u).uses sure other_sure ready_self ready_other
+
+        -- and the same one, where nobody looks
+        later : Start language (alters other_changes mid.procs) (chans_after q u.need mid.chans) p
+        later = record {
+          self = t.self;
+          is = alters_there path_order other_changes mid.procs p off_self ∙ t.is;
+          need = t.need;
+          goes = t.goes;
+          asks = t.asks;
+          reply = t.reply;
+          serves = still_served t.need t.reply t.serves ready_self ready_other calm_both t.need refl ∙ t.serves;
+        }
+
+        spilt_later : spilt t.need (chans_after q u.need mid.chans) ≡ spilt t.need mid.chans
+        spilt_later = still_spilt t.need t.reply t.serves ready_self ready_other calm_both t.need refl
 
     -- ---- a process beside a discard
 
@@ -203,20 +239,39 @@ module _ {Proc : Type 0} (language : Language Proc) where
     open_there x None h = absurd (omega arith)
     open_there x (Some ch) h = (ch, refl)
 
+    -- a discard leaves a process its step, maybe with another reply
+    discard_ready : (x : PortValue) (p : Place) (c : ChanName) (a : ChannelOp) → (x ≢ port_of c a) → Ready mid.chans p (Event c a) → Ready (closed x mid.chans) p (Event c a)
+    discard_ready x p c a off r = elim (decide channel_order (channel_of x) c) [
+      | yes e ↦ (discarded x r.0, adjust_at mid.chans (channel_of x) c (discarded x) (sym e) ∙ ap (option_map (discarded x)) r.1, ready_beside c a x r.0 off e r.2)
+      | no n ↦ (r.0, adjust_there channel_order mid.chans (channel_of x) (discarded x) c (λ e. n (sym e)) ∙ r.1, r.2)
+    ]
+
+    discard_serves : (x : PortValue) (p : Place) (t : Starts p) → 1 ≤ mid.loose x → (k : Need) → t.need ≡ k → (r : Reply Proc) × (served language.has_ended mid.procs (closed x mid.chans) p k ≡ Some r)
+    discard_serves x p t l Nothing e = (reply_with [], refl)
+    discard_serves x p t l (New n w) e = (reply_with [], refl)
+    discard_serves x p t l (Children b n) e = (t.reply, subst (λ k. served language.has_ended mid.procs mid.chans p k ≡ Some t.reply) e t.serves)
+    discard_serves x p t l (Event c a) e =
+        let uses = subst (Uses (language.held t.self)) e (going_of p t).uses in
+        ready_serves (closed x mid.chans) p c a
+        (discard_ready x p c a (not_loose p t.self (port_of c a) x t.is uses l) (subst (Ready mid.chans p) e (ready_need p t.self t.need t.reply t.is (going_of p t).numbered t.serves)))
+
+    step_beside : (p : Place) (x : PortValue) (t : Starts p) → 1 ≤ mid.loose x → Start language mid.procs (closed x mid.chans) p
+    step_beside p x t l = let h = discard_serves x p t l t.need refl in record { self = t.self; is = t.is; need = t.need; goes = t.goes; asks = t.asks; reply = h.0; serves = h.1 }
+
     record Seen (x : PortValue) (p : Place) (need : Need) : Type 0 where
       served_same : served language.has_ended mid.procs (closed x mid.chans) p need ≡ served language.has_ended mid.procs mid.chans p need
       even : (z : PortValue) → count z (freed x (get mid.chans (channel_of x))) + count z (spilt need (closed x mid.chans)) ≡ count z (spilt need mid.chans) + count z (freed x (get (chans_after p need mid.chans) (channel_of x)))
       one_chans : chans_after p need (closed x mid.chans) ≡ closed x (chans_after p need mid.chans)
 
-    seen_event : (x : PortValue) (p : Place) (c : ChanName) (a : ChannelOp) → (x ≢ port_of c a) → 1 ≤ mid.loose x → Ready mid.chans p (Event c a) → Seen x p (Event c a)
-    seen_event x p c a off loose r = elim (decide channel_order (channel_of x) c) [
+    seen_event : (x : PortValue) (p : Place) (c : ChanName) (a : ChannelOp) → IsSure a → (x ≢ port_of c a) → 1 ≤ mid.loose x → Ready mid.chans p (Event c a) → Seen x p (Event c a)
+    seen_event x p c a sure off loose r = elim (decide channel_order (channel_of x) c) [
       | yes e ↦
           let at : get mid.chans (channel_of x) ≡ Some r.0 = ap (get mid.chans) e ∙ r.1 in
           let later : get (adjust mid.chans c (changed a)) (channel_of x) ≡ Some (changed a r.0) = adjust_at mid.chans c (channel_of x) (changed a) e ∙ ap (option_map (changed a)) at in
           let gone : get (closed x mid.chans) c ≡ Some (discarded x r.0) = adjust_at mid.chans (channel_of x) c (discarded x) (sym e) ∙ ap (option_map (discarded x)) r.1 in
-          let w : Beside a x r.0 (discarded x r.0) (Some r.0) (Some (changed a r.0)) = beside c a x r.0 off e (subst (λ o. 1 ≤ open_at x o) at (loose_open x loose)) r.2 in
+          let w : Beside a x r.0 (discarded x r.0) (Some r.0) (Some (changed a r.0)) = beside c a x r.0 sure off e (subst (λ o. 1 ≤ open_at x o) at (loose_open x loose)) r.2 in
           record {
-            served_same = ap (served_at {Proc = Proc} a) gone ∙ ap₂ (λ t g. cond t (Some (record { message = g; children = [] })) None) (w.can ∙ sym r.2) w.same ∙ ap (served_at a) (sym r.1);
+            served_same = ap (served_at {Proc = Proc} a) gone ∙ reply_same (w.can ∙ sym r.2) w.same w.more w.told ∙ ap (served_at a) (sym r.1);
             even = λ z. omega (arith, w.even z, ap (λ o. count z (freed x o)) at, ap (λ o. count z (freed x o)) later, ap (λ o. count z (spills_at a o)) gone, ap (λ o. count z (spills_at a o)) r.1);
             one_chans = adjust_swap channel_order mid.chans c (channel_of x) (changed a) (discarded x) (λ e ch is. beside_swap a x ch);
           }
@@ -229,46 +284,49 @@ module _ {Proc : Type 0} (language : Language Proc) where
           }
     ]
 
-    seen : (x : PortValue) (p : Place) (y : Proc) (need : Need) → get mid.procs p ≡ Some y → Uses (language.held y) need → 1 ≤ mid.loose x → Ready mid.chans p need → Seen x p need
-    seen x p y Nothing is u l r = record { served_same = refl; even = λ z. omega arith; one_chans = refl }
-    seen x p y (Children b n) is u l r = record { served_same = refl; even = λ z. omega arith; one_chans = refl }
-    seen x p y (Event c a) is u l r = seen_event x p c a (not_loose p y (port_of c a) x is u l) l r
-    seen x p y (New n) is u l r =
+    seen : (x : PortValue) (p : Place) (y : Proc) (need : Need) → IsSingle need → get mid.procs p ≡ Some y → Uses (language.held y) need → 1 ≤ mid.loose x → Ready mid.chans p need → Seen x p need
+    seen x p y Nothing sure is u l r = record { served_same = refl; even = λ z. omega arith; one_chans = refl }
+    seen x p y (Children b n) sure is u l r = record { served_same = refl; even = λ z. omega arith; one_chans = refl }
+    seen x p y (Event c a) sure is u l r = seen_event x p c a sure (not_loose p y (port_of c a) x is u l) l r
+    seen x p y (New n w) sure is u l r =
         let h = open_there x (get mid.chans (channel_of x)) (loose_open x l) in
         let off : channel_of x ≢ (name_of p n) = absent (get mid.chans) (channel_of x) (name_of p n) h.0 h.1 r in
         record {
           served_same = refl;
-          even = λ z. omega (arith, ap (λ o. count z (freed x o)) (insert_there channel_order mid.chans (name_of p n) fresh (channel_of x) off));
-          one_chans = sym (adjust_past_insert channel_order mid.chans (channel_of x) (name_of p n) (discarded x) fresh off);
+          even = λ z. omega (arith, ap (λ o. count z (freed x o)) (insert_there channel_order mid.chans (name_of p n) (fresh w) (channel_of x) off));
+          one_chans = sym (adjust_past_insert channel_order mid.chans (channel_of x) (name_of p n) (discarded x) (fresh w) off);
         }
 
-    seen_by : (p : Place) (x : PortValue) (t : Starts p) → 1 ≤ mid.loose x → Seen x p t.need
-    seen_by p x t l = seen x p t.self t.need t.is (going_of p t).uses l (ready_need p t.self t.need t.reply t.is (going_of p t).numbered t.serves)
+    seen_by : (p : Place) (x : PortValue) (t : Starts p) → IsSingle t.need → 1 ≤ mid.loose x → Seen x p t.need
+    seen_by p x t sure l = seen x p t.self t.need sure t.is (going_of p t).uses l (ready_need p t.self t.need t.reply t.is (going_of p t).numbered t.serves)
 
-    beside_discard : (p : Place) (x : PortValue) (t : Starts p) → 1 ≤ mid.loose x → Start language mid.procs (closed x mid.chans) p
-    beside_discard p x t l = record { self = t.self; is = t.is; need = t.need; goes = t.goes; asks = t.asks; reply = t.reply; serves = (seen_by p x t l).served_same ∙ t.serves }
+    beside_discard : (p : Place) (x : PortValue) (t : Starts p) → IsSingle t.need → 1 ≤ mid.loose x → Start language mid.procs (closed x mid.chans) p
+    beside_discard p x t sure l = record { self = t.self; is = t.is; need = t.need; goes = t.goes; asks = t.asks; reply = t.reply; serves = (seen_by p x t sure l).served_same ∙ t.serves }
 
     -- of every language: a part is still there after another
     pub stay : (a b : Part) → (a ≢ b) → (m : Move language mid a) (n : Move language mid b) → Move language (end language mid b n).0 a
-    stay (Run p) (Run q) apart (h, t) (g, u) = (omega (arith, one_place_apart q p (λ e. apart (ap Run (sym e)))), later p q (λ e. apart (ap Run e)) t u)
+    stay (Run p) (Run q) apart (h, t) (g, u) = (omega (arith, one_place_apart q p (λ e. apart (ap Run (sym e)))), later_step p q (λ e. apart (ap Run e)) t u)
     stay (Discard x) (Run q) apart l n = omega arith
     stay (Discard x) (Discard y) apart l n = omega (arith, one_apart y x (λ e. apart (ap Discard (sym e))))
-    stay (Run p) (Discard x) apart (h, t) l = (h, beside_discard p x t l)
+    stay (Run p) (Discard x) apart (h, t) l = (h, step_beside p x t l)
 
     -- ---- where no channel has a second writer
 
-    module _ (single : HasOneWriter mid.chans) where
+    module _ (IsPlain : Proc → Type 0) (plain : KeepsPlain language IsPlain) (all : AllPlain language IsPlain mid.procs) (single : HasOneWriter mid.chans) where
+      sure_of : (p : Place) (t : Starts p) → IsSingle t.need
+      sure_of p t = (subst (IsPlainAsk language IsPlain) t.asks (plain.goes t.self (all p t.self t.is))).single
+
       commuting_need : (p q : Place) (x y : Proc) (need other : Need) → (p ≢ q) → get mid.procs p ≡ Some x → get mid.procs q ≡ Some y → Uses (language.held x) need → Uses (language.held y) other
-          → Ready mid.chans p need → Ready mid.chans q other → Commutes mid.chans need other
-      commuting_need p q x y Nothing other n is_x is_y u v r s = tt
-      commuting_need p q x y (New k) other n is_x is_y u v r s = tt
-      commuting_need p q x y (Children b k) other n is_x is_y u v r s = tt
-      commuting_need p q x y (Event c a) Nothing n is_x is_y u v r s = tt
-      commuting_need p q x y (Event c a) (New k) n is_x is_y u v r s = tt
-      commuting_need p q x y (Event c a) (Children b k) n is_x is_y u v r s = tt
-      commuting_need p q x y (Event c a) (Event d b) n is_x is_y u v r s = λ e ch is.
+          → IsSingle need → IsSingle other → Ready mid.chans p need → Ready mid.chans q other → Commutes mid.chans need other
+      commuting_need p q x y Nothing other n is_x is_y u v su sv r s = tt
+      commuting_need p q x y (New k w) other n is_x is_y u v su sv r s = tt
+      commuting_need p q x y (Children b k) other n is_x is_y u v su sv r s = tt
+      commuting_need p q x y (Event c a) Nothing n is_x is_y u v su sv r s = tt
+      commuting_need p q x y (Event c a) (New k w) n is_x is_y u v su sv r s = tt
+      commuting_need p q x y (Event c a) (Children b k) n is_x is_y u v su sv r s = tt
+      commuting_need p q x y (Event c a) (Event d b) n is_x is_y u v su sv r s = λ e ch is.
           let at_d : get mid.chans d ≡ Some ch = ap (get mid.chans) (sym e) ∙ is in
-          (crosses c a b ch
+          (crosses c a b ch su sv
           (λ w. not_both p q x y (port_of c a) (port_of d b) n is_x is_y u v (w ∙ ap (λ k. port_of k b) e))
           (λ w l. single c w (subst (λ o. 1 ≤ open_at (Writer c w) o) (sym is) l))
           (open_here p x c a ch is_x is u)
@@ -280,16 +338,18 @@ module _ {Proc : Type 0} (language : Language Proc) where
       unfolding later
       runs p q apart (h, t) (g, u) =
           let off = λ (e : q ≡ p). apart (sym e) in
+          let st = sure_of p t in
+          let su = sure_of q u in
           record {
-            first = (omega (arith, one_place_apart q p off), later p q apart t u);
-            second = (omega (arith, one_place_apart p q apart), later q p off u t);
+            first = (omega (arith, one_place_apart q p off), later p q apart t u st su);
+            second = (omega (arith, one_place_apart p q apart), later q p off u t su st);
             one_state = λ i. record {
               procs = alters_swap path_order (changes language.emptied p t.need (out p q apart t u)) (changes language.emptied q u.need (other_out p q apart t u)) mid.procs (apart_both p q apart t u) i;
-              chans = chans_swap mid.chans p q t.need u.need apart (ready_self p q apart t u) (ready_other p q apart t u) (commuting_need p q t.self u.self t.need u.need apart t.is u.is (going_of p t).uses (going_of q u).uses (ready_self p q apart t u) (ready_other p q apart t u)) i;
+              chans = chans_swap mid.chans p q t.need u.need apart (ready_self p q apart t u) (ready_other p q apart t u) (commuting_need p q t.self u.self t.need u.need apart t.is u.is (going_of p t).uses (going_of q u).uses st su (ready_self p q apart t u) (ready_other p q apart t u)) i;
               loose = fun_ext {f = λ z. mid.loose z + count z ((u.goes (made q u.need) u.reply).drops ++ spilt u.need mid.chans) + count z ((t.goes (made p t.need) t.reply).drops ++ spilt t.need (chans_after q u.need mid.chans))}
                   {g = λ z. mid.loose z + count z ((t.goes (made p t.need) t.reply).drops ++ spilt t.need mid.chans) + count z ((u.goes (made q u.need) u.reply).drops ++ spilt u.need (chans_after p t.need mid.chans))}
-                  (λ z. let e₁ = ap (λ s. count z ((t.goes (made p t.need) t.reply).drops ++ s)) (spilt_later p q apart t u) in
-                  let e₂ = ap (λ s. count z ((u.goes (made q u.need) u.reply).drops ++ s)) (spilt_later q p off u t) in
+                  (λ z. let e₁ = ap (λ s. count z ((t.goes (made p t.need) t.reply).drops ++ s)) (spilt_later p q apart t u st su) in
+                  let e₂ = ap (λ s. count z ((u.goes (made q u.need) u.reply).drops ++ s)) (spilt_later q p off u t su st) in
                   omega arith) i;
               remaining = fun_ext {f = λ r. (mid.remaining r - one_place q r) - one_place p r} {g = λ r. (mid.remaining r - one_place p r) - one_place q r} (λ r. omega arith) i;
             };
@@ -300,10 +360,11 @@ module _ {Proc : Type 0} (language : Language Proc) where
       run_beside : (p : Place) (x : PortValue) (m : Move language mid (Run p)) (l : 1 ≤ mid.loose x) → MovesMeet (Move language) (end language) mid (Run p) (Discard x) m l
       unfolding beside_discard
       run_beside p x (h, t) l =
-          let s = seen_by p x t l in
+          let st = sure_of p t in
+          let s = seen_by p x t st l in
           let o = t.goes (made p t.need) t.reply in
           record {
-            first = (h, beside_discard p x t l);
+            first = (h, beside_discard p x t st l);
             second = omega arith;
             one_state = λ i. record {
               procs = alters (changes language.emptied p t.need (t.goes (made p t.need) t.reply)) mid.procs;

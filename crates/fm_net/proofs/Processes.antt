@@ -9,11 +9,11 @@ use Rattle.fm_maps.specs.Sums.{total, value_or_zero}
 use Rattle.fm_maps.proofs.Keys.{tie}
 use Rattle.fm_maps.proofs.Alters.{Off-append, alters_there, alter_here, get-alter, alters-append}
 use Rattle.fm_maps.proofs.Sums.{total-alter}
-use Rattle.fm_net.specs.Machine.{Place, Procs, Need, Nothing, Event, New, Children, Reply, Onward, child, gathered, served, start_changes, child_changes, need_changes, changes}
+use Rattle.fm_net.specs.Machine.{Place, Procs, Need, Nothing, Event, New, Children, Reply, Onward, child, reply_with, gathered, served, start_changes, child_changes, need_changes, changes}
 use Rattle.fm_net.specs.Owned.{present}
 use Rattle.fm_net.specs.Lawful.{sum_of}
 use Rattle.fm_net.proofs.Keys.{path_order}
-use Rattle.fm_net.proofs.Children.{other_child, not_own_child, off_starts, off_children, off_own_need, first_gathered}
+use Rattle.fm_net.proofs.Children.{other_child, not_own_child, off_starts, off_children, off_own_need, first_gathered, served_children}
 use Rattle.fm_net.proofs.Needs.{no_value, served_event}
 
 module _ {Proc : Type 0} where
@@ -59,18 +59,15 @@ module _ {Proc : Type 0} where
         omega (arith, total_children f m p b (suc i) n g.tail g.others, total-alter path_order f rest (child p b i) (option_map emptied), ap (value_or_zero f) here, ap (λ o. value_or_zero f (option_map emptied o)) here, ap (sum_of f) g.all, ap (sum_of (λ k. f (emptied k))) g.all)
 
     total_need : (f : Proc → ℕ) (m : Procs Proc) (cs : Chans) (p : Place) (need : Need) (r : Reply Proc) → served has_ended m cs p need ≡ Some r → total f (alters (need_changes emptied p need) m) + sum_of f r.children ≡ total f m + sum_of (λ k. f (emptied k)) r.children
-    total_need f m cs p Nothing r e = let none : record { message = None; children = [] } ≡ r = cc in omega (arith, ap (λ (r : Reply Proc). sum_of f r.children) none, ap (λ (r : Reply Proc). sum_of (λ k. f (emptied k)) r.children) none)
-    total_need f m cs p (New n) r e = let none : record { message = None; children = [] } ≡ r = cc in omega (arith, ap (λ (r : Reply Proc). sum_of f r.children) none, ap (λ (r : Reply Proc). sum_of (λ k. f (emptied k)) r.children) none)
+    total_need f m cs p Nothing r e = let none : reply_with [] ≡ r = cc in omega (arith, ap (λ (r : Reply Proc). sum_of f r.children) none, ap (λ (r : Reply Proc). sum_of (λ k. f (emptied k)) r.children) none)
+    total_need f m cs p (New n w) r e = let none : reply_with [] ≡ r = cc in omega (arith, ap (λ (r : Reply Proc). sum_of f r.children) none, ap (λ (r : Reply Proc). sum_of (λ k. f (emptied k)) r.children) none)
     total_need f m cs p (Event c a) r e =
         let h = served_event a (get cs c) r e in
         let none : r.children ≡ [] = ap (λ (r : Reply Proc). r.children) h.3 in
         omega (arith, ap (sum_of f) none, ap (sum_of (λ k. f (emptied k))) none)
-    total_need f m cs p (Children b n) r e = go (gathered has_ended m p b 1 n) refl e
-      where
-        go : (o : Option (List Proc)) → gathered has_ended m p b 1 n ≡ o → option_map (λ ys. record { message = None; children = ys }) o ≡ Some r → total f (alters (child_changes emptied p b 1 n) m) + sum_of f r.children ≡ total f m + sum_of (λ k. f (emptied k)) r.children
-        go None is e' = absurd (cc e')
-        go (Some ys) is e' = let same : record { message = None; children = ys } ≡ r = cc e' in
-            omega (arith, total_children f m p b 1 n ys is, ap (λ (r : Reply Proc). sum_of f r.children) same, ap (λ (r : Reply Proc). sum_of (λ k. f (emptied k)) r.children) same)
+    total_need f m cs p (Children b n) r e =
+        let k = served_children has_ended m cs p b n r e in
+        omega (arith, total_children f m p b 1 n k.0 k.1, ap (λ (r : Reply Proc). sum_of f r.children) k.2, ap (λ (r : Reply Proc). sum_of (λ k. f (emptied k)) r.children) k.2)
 
     -- joining keeps what `emptied` keeps
     same_children : (f : Proc → ℕ) → ((x : Proc) → f (emptied x) ≡ f x) → (m : Procs Proc) (p : Place) (b i n : ℕ) (q : Place) → value_or_zero f (get (alters (child_changes emptied p b i n) m) q) ≡ value_or_zero f (get m q)
@@ -87,7 +84,7 @@ module _ {Proc : Type 0} where
     same_need : (f : Proc → ℕ) → ((x : Proc) → f (emptied x) ≡ f x) → (m : Procs Proc) (p : Place) (need : Need) (q : Place) → value_or_zero f (get (alters (need_changes emptied p need) m) q) ≡ value_or_zero f (get m q)
     same_need f same m p Nothing q = refl
     same_need f same m p (Event c a) q = refl
-    same_need f same m p (New n) q = refl
+    same_need f same m p (New n w) q = refl
     same_need f same m p (Children b n) q = same_children f same m p b 1 n q
 
     none_need : (m : Procs Proc) (p r : Place) (need : Need) → get m r ≡ None → get (alters (need_changes emptied p need) m) r ≡ None

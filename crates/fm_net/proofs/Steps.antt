@@ -12,14 +12,16 @@ use Rattle.fm_sched.proofs.Fronts.{settles}
 use Rattle.fm_sched.proofs.Moves.{MovesMeet, next_is, stays_by_moves, diamond}
 use Rattle.fm_net.specs.Machine.{Place, Procs, State, Begun, finished, begun, machine_step}
 use Rattle.fm_net.specs.Language.{Language}
-use Rattle.fm_net.specs.Owned.{one, count, IsOwned, HasOneWriter}
+use Rattle.fm_net.specs.Owned.{one, count, IsOwned, HasOneWriter, GoneIsEmpty}
 use Rattle.fm_net.specs.Lawful.{IsLawfulLanguage}
+use Rattle.fm_net.specs.Plain.{KeepsPlain, AllPlain}
 use Rattle.fm_net.proofs.Keys.{path_order}
 use Rattle.fm_net.proofs.Counts.{shut-closed, one_self, count-nil, count-cons, count-append, port_decide}
-use Rattle.fm_net.proofs.Discards.{weight_falls, no_weight}
+use Rattle.fm_discards.proofs.Shedding.{weight-cons, no_weight}
 use Rattle.fm_net.proofs.Parts.{Midway, Part, Run, Discard, one_place, one_place_self, Move, end, ran, without_port, part_step, took, takes}
 use Rattle.fm_net.proofs.Meeting.{IsSound, stay, meet}
-use Rattle.fm_net.proofs.Keeping.{keeps, keeps_single}
+use Rattle.fm_net.proofs.Keeping.{keeps, keeps_plain, keeps_single}
+use Rattle.fm_net.proofs.Gone.{keeps_empty}
 
 place_of : Part → Place → Place
 place_of (Run p) d = p
@@ -57,7 +59,7 @@ module _ {Proc : Type 0} (language : Language Proc) where
   discarding (suc n) [] m procs remaining h = leads_nowhere part (midway procs m [] remaining)
   discarding (suc n) (x ∷ ds) m procs remaining h =
       let more = freed x (get m (channel_of x)) ++ ds in
-      let rest = discarding n more (shut x m) procs remaining (omega (arith, weight_falls x ds m)) in
+      let rest = discarding n more (shut x m) procs remaining (omega (arith, weight-cons x ds m)) in
       let same : without_port language (midway procs m (x ∷ ds) remaining) x ≡ midway procs (shut x m) more remaining =
       λ i. record {
         procs = procs;
@@ -188,19 +190,22 @@ module _ {Proc : Type 0} (language : Language Proc) where
 
   sound_at : (s : State Proc) (remaining : Place → ℕ) → Owned s → Sound (at s remaining)
   unfolding midway
-  sound_at s remaining o = record { places = λ z. omega (arith, o.places z, count-nil z); born = o.born; named = o.named }
+  sound_at s remaining o = record { stands = λ z. omega (arith, o.stands z, count-nil z); born = o.born; named = o.named }
 
   owned_at : (s : State Proc) (remaining : Place → ℕ) → Sound (at s remaining) → Owned s
   unfolding midway
-  owned_at s remaining g = record { places = λ z. omega (arith, g.places z, count-nil z); born = g.born; named = g.named }
+  owned_at s remaining g = record { stands = λ z. omega (arith, g.stands z, count-nil z); born = g.born; named = g.named }
 
-  -- with one writer a channel
-  abbrev Sole : Midway Proc → Type 0
-  Sole mid = Sound mid × HasOneWriter mid.chans
+  -- where all processes are plain and no channel has a second writer
+  abbrev pub IsSoleState : (Proc → Type 0) → State Proc → Type 0
+  IsSoleState IsPlain s = AllPlain language IsPlain s.procs × HasOneWriter s.chans
 
-  sole_at : (s : State Proc) (remaining : Place → ℕ) → Owned s → HasOneWriter s.chans → Sole (at s remaining)
+  abbrev Sole : (Proc → Type 0) → Midway Proc → Type 0
+  Sole IsPlain mid = Sound mid × (AllPlain language IsPlain mid.procs × HasOneWriter mid.chans)
+
+  sole_at : (IsPlain : Proc → Type 0) (s : State Proc) (remaining : Place → ℕ) → Owned s → IsSoleState IsPlain s → Sole IsPlain (at s remaining)
   unfolding midway
-  sole_at s remaining o single = (sound_at s remaining o, single)
+  sole_at IsPlain s remaining o sole = (sound_at s remaining o, sole)
 
   module _ (laws : IsLawfulLanguage language) where
     part_next : (mid : Midway Proc) (a : Part) (m : Move language mid a) → next part mid a ≡ (end language mid a m).0
@@ -211,16 +216,8 @@ module _ {Proc : Type 0} (language : Language Proc) where
         let m = took language mid a can.0 can.1 in
         subst Sound (sym (part_next mid a m)) (keeps language laws mid good a m)
 
-    sole_keeps : (mid : Midway Proc) (a : Part) → Sole mid → Can part mid a → Sole (next part mid a)
-    sole_keeps mid a good can =
-        let m = took language mid a can.0 can.1 in
-        (part_keeps mid a good.0 can, subst (λ (after : Midway Proc). HasOneWriter after.chans) (sym (part_next mid a m)) (keeps_single language laws mid good.0 good.1 a m))
-
     part_stays : (mid : Midway Proc) → Sound mid → Stays part mid
     part_stays mid good = stays_by_moves part (Move language) (end language) (took language) (takes language) mid (λ a b apart m n. stay language laws mid good a b apart m n)
-
-    part_diamond : (mid : Midway Proc) → Sole mid → Diamond part mid
-    part_diamond mid good = diamond part (Move language) (end language) (took language) (takes language) mid (λ a b apart m n. meet language laws mid good.0 good.1 a b apart m n)
 
     -- ---- steps keep ownership
 
@@ -262,8 +259,8 @@ module _ {Proc : Type 0} (language : Language Proc) where
           subst Fact (sym (whole_next s p m))
           (at_fact (finished m.0).0 (less p (one_place p)) (subst SoundFact l.there (good_after part SoundFact fact_keeps (parts p m.0) (at s (one_place p)) (fact_at s (one_place p) owned fact) l.legal)))
 
-    pub step_keeps_single : (s : State Proc) (p : Place) → Owned s → HasOneWriter s.chans → Can step s p → HasOneWriter (next step s p).chans
-    step_keeps_single = step_keeps_fact (λ s. HasOneWriter s.chans) (λ mid a good single m. keeps_single language laws mid good single a m)
+    pub step_keeps_empty : (s : State Proc) (p : Place) → Owned s → GoneIsEmpty s.chans → Can step s p → GoneIsEmpty (next step s p).chans
+    step_keeps_empty = step_keeps_fact (λ s. GoneIsEmpty s.chans) (λ mid a good all m. keeps_empty language mid all a m)
 
     -- ---- a step of q leaves p its step
 
@@ -279,39 +276,54 @@ module _ {Proc : Type 0} (language : Language Proc) where
     pub steps_stay : (s : State Proc) → Owned s → Stays step s
     steps_stay s owned = stays_by_moves step Whole whole_end whole_took whole_takes s (λ p q apart m n. still_begun s p q owned apart m n)
 
-    -- ---- with one writer a channel, both orders meet
+    -- ---- with plain processes and one writer a channel, both orders meet
 
-    -- after p's step q has its own, at the same cost
-    follows : (s : State Proc) (p q : Place) (remaining : Place → ℕ) → Owned s → HasOneWriter s.chans → (p ≢ q) → 1 ≤ remaining p → 1 ≤ remaining q → (m : Whole s p) (n : Whole s q) → (b : Begun Proc) × (begun language.ask language.has_ended language.emptied (finished m.0).0 q ≡ Some b) × (b.cost ≡ n.0.cost)
-    unfolding price
-    follows s p q remaining owned single apart h g m n =
-        let l = parts_lead s p m.0 remaining m.1 h in
-        let e = run_first s q n.0 remaining n.1 g in
-        let after_p = stays_after part Sole sole_keeps part_diamond (parts p m.0) (at s remaining) (Run q) (sole_at s remaining owned single) l.legal (not_in_parts p q m.0 apart) ((midway n.0.procs n.0.chans n.0.drops (less q remaining), n.0.cost), e) in
-        let there : part (at (finished m.0).0 (less p remaining)) (Run q) ≡ Some after_p.0.0 = ap (λ x. part x (Run q)) (sym l.there) ∙ after_p.0.1 in
-        let b = run_begun (finished m.0).0 q (less p remaining) after_p.0.0 there in
-        (b.0, b.1, b.2 ∙ sym (ap price after_p.0.1) ∙ after_p.1 ∙ ap price e)
+    module _ (IsPlain : Proc → Type 0) (plain : KeepsPlain language IsPlain) where
+      sole_keeps : (mid : Midway Proc) (a : Part) → Sole IsPlain mid → Can part mid a → Sole IsPlain (next part mid a)
+      sole_keeps mid a good can =
+          let m = took language mid a can.0 can.1 in (
+            part_keeps mid a good.0 can,
+            subst (λ (after : Midway Proc). AllPlain language IsPlain after.procs × HasOneWriter after.chans) (sym (part_next mid a m))
+                (keeps_plain language laws mid good.0 IsPlain plain good.1.0 a m, keeps_single language laws mid good.0 IsPlain plain good.1.0 good.1.1 a m),
+          )
 
-    whole_meet : (s : State Proc) → Owned s → HasOneWriter s.chans → (p q : Place) → (p ≢ q) → (m : Whole s p) (n : Whole s q) → MovesMeet Whole whole_end s p q m n
-    unfolding midway
-    whole_meet s owned single p q apart m n =
-        let remaining = both p q in
-        let b = follows s p q remaining owned single apart (both_first p q) (both_second p q) m n in
-        let a = follows s q p remaining owned single (λ e. apart (sym e)) (both_second p q) (both_first p q) n m in
-        let first = leads_on part (at s remaining) (at (finished m.0).0 (less p remaining)) (at (finished b.0).0 (less q (less p remaining))) (parts p m.0) (parts q b.0) _ _
-        (parts_lead s p m.0 remaining m.1 (both_first p q)) (parts_lead (finished m.0).0 q b.0 (less p remaining) b.1 (second_left p q)) in
-        let second = leads_on part (at s remaining) (at (finished n.0).0 (less q remaining)) (at (finished a.0).0 (less p (less q remaining))) (parts q n.0) (parts p a.0) _ _
-        (parts_lead s q n.0 remaining n.1 (both_second p q)) (parts_lead (finished n.0).0 p a.0 (less q remaining) a.1 (first_left p q)) in
-        let all = settles part part_decide Sole sole_keeps part_diamond (at s remaining) (parts p m.0 ++ parts q b.0) (sole_at s remaining owned single)
-        (ends_at (at s remaining) (finished b.0).0 (less q (less p remaining)) (parts p m.0 ++ parts q b.0) _ first (none_left p q)) in
-        let one_end = all.one_state (parts q n.0 ++ parts p a.0) (ends_at (at s remaining) (finished a.0).0 (less p (less q remaining)) (parts q n.0 ++ parts p a.0) _ second (none_left_turned p q)) in
-        record {
-          first = (a.0, a.1);
-          second = (b.0, b.1);
-          one_state = ap state_of (sym second.there ∙ one_end ∙ first.there);
-          first_cost = a.2;
-          second_cost = b.2;
-        }
+      part_diamond : (mid : Midway Proc) → Sole IsPlain mid → Diamond part mid
+      part_diamond mid good = diamond part (Move language) (end language) (took language) (takes language) mid (λ a b apart m n. meet language laws mid good.0 IsPlain plain good.1.0 good.1.1 a b apart m n)
 
-    pub steps_commute : (s : State Proc) → Owned s → HasOneWriter s.chans → Diamond step s
-    steps_commute s owned single = diamond step Whole whole_end whole_took whole_takes s (whole_meet s owned single)
+      pub step_keeps_sole : (s : State Proc) (p : Place) → Owned s → IsSoleState IsPlain s → Can step s p → IsSoleState IsPlain (next step s p)
+      step_keeps_sole = step_keeps_fact (IsSoleState IsPlain) (λ mid a good sole m. (keeps_plain language laws mid good IsPlain plain sole.0 a m, keeps_single language laws mid good IsPlain plain sole.0 sole.1 a m))
+
+      -- after p's step q has its own, at the same cost
+      follows : (s : State Proc) (p q : Place) (remaining : Place → ℕ) → Owned s → IsSoleState IsPlain s → (p ≢ q) → 1 ≤ remaining p → 1 ≤ remaining q → (m : Whole s p) (n : Whole s q) → (b : Begun Proc) × (begun language.ask language.has_ended language.emptied (finished m.0).0 q ≡ Some b) × (b.cost ≡ n.0.cost)
+      unfolding price
+      follows s p q remaining owned sole apart h g m n =
+          let l = parts_lead s p m.0 remaining m.1 h in
+          let e = run_first s q n.0 remaining n.1 g in
+          let after_p = stays_after part (Sole IsPlain) sole_keeps part_diamond (parts p m.0) (at s remaining) (Run q) (sole_at IsPlain s remaining owned sole) l.legal (not_in_parts p q m.0 apart) ((midway n.0.procs n.0.chans n.0.drops (less q remaining), n.0.cost), e) in
+          let there : part (at (finished m.0).0 (less p remaining)) (Run q) ≡ Some after_p.0.0 = ap (λ x. part x (Run q)) (sym l.there) ∙ after_p.0.1 in
+          let b = run_begun (finished m.0).0 q (less p remaining) after_p.0.0 there in
+          (b.0, b.1, b.2 ∙ sym (ap price after_p.0.1) ∙ after_p.1 ∙ ap price e)
+
+      whole_meet : (s : State Proc) → Owned s → IsSoleState IsPlain s → (p q : Place) → (p ≢ q) → (m : Whole s p) (n : Whole s q) → MovesMeet Whole whole_end s p q m n
+      unfolding midway
+      whole_meet s owned sole p q apart m n =
+          let remaining = both p q in
+          let b = follows s p q remaining owned sole apart (both_first p q) (both_second p q) m n in
+          let a = follows s q p remaining owned sole (λ e. apart (sym e)) (both_second p q) (both_first p q) n m in
+          let first = leads_on part (at s remaining) (at (finished m.0).0 (less p remaining)) (at (finished b.0).0 (less q (less p remaining))) (parts p m.0) (parts q b.0) _ _
+          (parts_lead s p m.0 remaining m.1 (both_first p q)) (parts_lead (finished m.0).0 q b.0 (less p remaining) b.1 (second_left p q)) in
+          let second = leads_on part (at s remaining) (at (finished n.0).0 (less q remaining)) (at (finished a.0).0 (less p (less q remaining))) (parts q n.0) (parts p a.0) _ _
+          (parts_lead s q n.0 remaining n.1 (both_second p q)) (parts_lead (finished n.0).0 p a.0 (less q remaining) a.1 (first_left p q)) in
+          let all = settles part part_decide (Sole IsPlain) sole_keeps part_diamond (at s remaining) (parts p m.0 ++ parts q b.0) (sole_at IsPlain s remaining owned sole)
+          (ends_at (at s remaining) (finished b.0).0 (less q (less p remaining)) (parts p m.0 ++ parts q b.0) _ first (none_left p q)) in
+          let one_end = all.one_state (parts q n.0 ++ parts p a.0) (ends_at (at s remaining) (finished a.0).0 (less p (less q remaining)) (parts q n.0 ++ parts p a.0) _ second (none_left_turned p q)) in
+          record {
+            first = (a.0, a.1);
+            second = (b.0, b.1);
+            one_state = ap state_of (sym second.there ∙ one_end ∙ first.there);
+            first_cost = a.2;
+            second_cost = b.2;
+          }
+
+      pub steps_commute : (s : State Proc) → Owned s → IsSoleState IsPlain s → Diamond step s
+      steps_commute s owned sole = diamond step Whole whole_end whole_took whole_takes s (whole_meet s owned sole)

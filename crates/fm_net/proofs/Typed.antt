@@ -1,24 +1,21 @@
 -- A fact of every process and of every message, relative to a type for each channel, is kept. A clause
 -- can't quantify over facts, so these laws stand here alone.
-use Rattle.std.proofs.Common.{◌≡◌, ℕ, zero, suc, ◌≤◌, Option, Some, None, List, [], ◌∷◌, ◌++◌, Bool, true, false, cond, option_map, refl, sym, ap, ◌∙◌, subst, arith}
-use Rattle.std.specs.FinMap.{FinMap, get, get-insert}
+use Rattle.std.proofs.Common.{◌≡◌, ◌≤◌, Option, Some, None, List, [], ◌∷◌, ◌++◌, Bool, true, false, cond, option_map, refl, sym, ap, ◌∙◌, subst, arith}
+use Rattle.std.specs.FinMap.{get, get-insert}
 use Rattle.std.specs.Ordering.{eq_by_cmp}
-use Rattle.std.specs.declared.cmp.Ordering.{Ordering}
 use Rattle.fm_base.specs.declared.path.ChanName.{ChanName}
 use Rattle.fm_base.specs.declared.port.PortValue.{PortValue}
 use Rattle.fm_base.specs.declared.port.PortValue.TheVariants.{Writer, Reader}
 use Rattle.fm_base.specs.PathOrder.{channel_cmp}
-use Rattle.fm_base.specs.Channels.{Message, message_ports, Chan, Chans, ChannelOp, Push, Pop, changed, gives, channel_of, discarded, queue_ports, behind_first, first_message, fresh}
-use Rattle.fm_maps.specs.Keys.{IsKeyOrder}
-use Rattle.fm_maps.specs.Changes.{Change, adjust, alter, alters}
+use Rattle.fm_base.specs.Channels.{Message, message_ports, Chan, Chans, ChannelOp, Limits, fits_limits, Push, Pop, Look, changed, gives, channel_of, discarded, queue_ports, behind_first, first_message, fresh}
+use Rattle.fm_maps.specs.Changes.{adjust}
 use Rattle.fm_maps.specs.Sums.{total, value_or_zero}
 use Rattle.fm_maps.proofs.Keys.{tie, tie_self, tie_not}
 use Rattle.fm_maps.proofs.Adjusts.{get-adjust}
-use Rattle.fm_maps.proofs.Alters.{get-alter}
 use Rattle.fm_maps.proofs.Sums.{one_of_total}
 use Rattle.fm_sched.specs.Schedule.{Can, next, Throughout}
 use Rattle.fm_sched.proofs.Along.{throughout}
-use Rattle.fm_net.specs.Machine.{Place, Procs, Need, Nothing, Event, New, Children, Reply, Onward, State, child, made, chans_after, gathered, served, start_changes, child_changes, need_changes, changes}
+use Rattle.fm_net.specs.Machine.{Place, Procs, Need, Nothing, Event, New, Children, Reply, State, made, chans_after, served}
 use Rattle.fm_net.specs.Language.{Language, language_step}
 use Rattle.fm_net.specs.Owned.{count, queued, opened, name_of, IsOwned}
 use Rattle.fm_net.specs.Lawful.{IsLawfulLanguage}
@@ -26,42 +23,13 @@ use Rattle.fm_net.specs.Typed.{AllIn, SentFits, CameFits, MadeFits, IsTypedStep,
 use Rattle.fm_net.proofs.Keys.{path_order, channel_order}
 use Rattle.fm_net.proofs.Counts.{count-append}
 use Rattle.fm_net.proofs.Parts.{Midway, Part, Run, Discard, Move, end}
-use Rattle.fm_net.proofs.Children.{first_gathered}
+use Rattle.fm_net.proofs.Facts.{the_value, served_fine, step_fine}
 use Rattle.fm_net.proofs.Needs.{Ready, served_event}
 use Rattle.fm_net.proofs.Meeting.{IsSound, going_of, ready_need}
-use Rattle.fm_net.proofs.Places.{channel_there}
+use Rattle.fm_net.proofs.Holders.{channel_there}
 use Rattle.fm_net.proofs.Steps.{state_of, step_keeps, step_keeps_fact}
 
 -- ---- facts of all values of a map
-
-module _ {K X : Type 0} {R : K → K → Ordering} (o : IsKeyOrder R) (Fact : X → Type 0) where
-  abbrev Each : FinMap R X → Type 0
-  Each m = (q : K) (x : X) → get m q ≡ Some x → Fact x
-
-  abbrev At : Option X → Type 0
-  At v = (x : X) → v ≡ Some x → Fact x
-
-  Each-alter : (m : FinMap R X) (k : K) (f : Option X → Option X) → Each m → ((v : Option X) → At v → At (f v)) → Each (alter m k f)
-  Each-alter m k f each keeps q x is = go (eq_by_cmp R q k) (sym (get-alter o m k f q) ∙ is)
-    where
-      go : (b : Bool) → cond b (f (get m q)) (get m q) ≡ Some x → Fact x
-      go true e = keeps (get m q) (each q) x e
-      go false e = each q x e
-
-  abbrev AllKeep : List (Change K X) → Type 0
-  AllKeep [] = Unit {0}
-  AllKeep (w ∷ ws) = ((v : Option X) → At v → At (w.1 v)) × AllKeep ws
-
-  AllKeep-append : (ws vs : List (Change K X)) → AllKeep ws → AllKeep vs → AllKeep (ws ++ vs)
-  AllKeep-append [] vs h g = g
-  AllKeep-append (w ∷ ws) vs h g = (h.0, AllKeep-append ws vs h.1 g)
-
-  Each-alters : (ws : List (Change K X)) (m : FinMap R X) → AllKeep ws → Each m → Each (alters ws m)
-  Each-alters [] m keep each = each
-  Each-alters (w ∷ ws) m keep each = Each-alter (alters ws m) w.0 w.1 (Each-alters ws m keep.1 each) keep.0
-
-the_value : {X : Type 0} (u v : X) → Some u ≡ Some v → u ≡ v
-the_value u v e = cc
 
 AllIn-push : {X : Type 0} (Fact : X → Type 0) (xs : List X) (x : X) → AllIn Fact xs → Fact x → AllIn Fact (xs ++ x ∷ [])
 AllIn-push Fact [] x h g = (g, tt)
@@ -83,78 +51,46 @@ module _ {Proc T : Type 0} (language : Language Proc) (IsFine : (ChanName → T)
 
   after_event : (types : ChanName → T) (c : ChanName) (a : ChannelOp) (ch : Chan) → SentFits language IsFine Fits types (Event c a) → AllIn (Fits types c) ch.queue → AllIn (Fits types c) (changed a ch).queue
   after_event types c (Push w m) ch s all = elim ch.lives as (λ b. AllIn (Fits types c) (cond b (ch.queue ++ m ∷ []) ch.queue)) [ true ↦ AllIn-push (Fits types c) ch.queue m all s | false ↦ all ]
-  after_event types c Pop ch s all = go ch.queue all
+  after_event types c Look ch s all = all
+  after_event types c (Pop l) ch s all = go ch.queue all
     where
-      go : (ms : List Message) → AllIn (Fits types c) ms → AllIn (Fits types c) (behind_first ms)
+      go : (ms : List Message) → AllIn (Fits types c) ms → AllIn (Fits types c) (behind_first l ms)
       go [] h = h
-      go (m ∷ ms) h = h.1
+      go (m ∷ ms) h = elim (fits_limits l m) as (λ b. AllIn (Fits types c) (cond b ms (m ∷ ms))) [ true ↦ h.1 | false ↦ h ]
 
   after_discard : (types : ChanName → T) (c : ChanName) (x : PortValue) (ch : Chan) → AllIn (Fits types c) ch.queue → AllIn (Fits types c) (discarded x ch).queue
   after_discard types c (Writer d w) ch all = all
   after_discard types c (Reader d) ch all = tt
 
-  first_fits : (types : ChanName → T) (c : ChanName) (ms : List Message) (m : Message) → AllIn (Fits types c) ms → first_message ms ≡ Some m → Fits types c m
-  first_fits types c [] m h e = absurd (cc)
-  first_fits types c (x ∷ ms) m h e = subst (Fits types c) (the_value x m e) h.0
+  first_fits : (types : ChanName → T) (c : ChanName) (l : Limits) (ms : List Message) (m : Message) → AllIn (Fits types c) ms → first_message l ms ≡ Some m → Fits types c m
+  first_fits types c l [] m h e = absurd (cc)
+  first_fits types c l (x ∷ ms) m h e = go (fits_limits l x) e
+    where
+      go : (b : Bool) → cond b (Some x) None ≡ Some m → Fits types c m
+      go true e' = subst (Fits types c) (the_value x m e') h.0
+      go false e' = absurd (cc e')
 
   queues_after : (types : ChanName → T) (p : Place) (need : Need) (m : Chans) → SentFits language IsFine Fits types need → ((d : ChanName) (ch : Chan) → get m d ≡ Some ch → AllIn (Fits types d) ch.queue)
       → (d : ChanName) (ch : Chan) → get (chans_after p need m) d ≡ Some ch → AllIn (Fits types d) ch.queue
   queues_after types p Nothing m s all = all
   queues_after types p (Children b n) m s all = all
   queues_after types p (Event c a) m s all = λ d. kept_at types d m c (changed a) all (λ ch is h. after_event types c a ch s h)
-  queues_after types p (New n) m s all = λ d ch is. go d ch (eq_by_cmp channel_cmp d (name_of p n)) (sym (get-insert channel_order.total m (name_of p n) fresh d) ∙ is)
+  queues_after types p (New n w) m s all = λ d ch is. go d ch (eq_by_cmp channel_cmp d (name_of p n)) (sym (get-insert channel_order.total m (name_of p n) (fresh w) d) ∙ is)
     where
-      go : (d : ChanName) (ch : Chan) (b : Bool) → cond b (Some fresh) (get m d) ≡ Some ch → AllIn (Fits types d) ch.queue
-      go d ch true e = subst (λ z. AllIn (Fits types d) z.queue) (the_value fresh ch e) tt
+      go : (d : ChanName) (ch : Chan) (b : Bool) → cond b (Some (fresh w)) (get m d) ≡ Some ch → AllIn (Fits types d) ch.queue
+      go d ch true e = subst (λ z. AllIn (Fits types d) z.queue) (the_value (fresh w) ch e) tt
       go d ch false e = all d ch e
 
-  -- ---- the processes
-
-  starts_keep : (Fact : Proc → Type 0) (p : Place) (b j : ℕ) (xs : List Proc) → AllIn Fact xs → AllKeep path_order Fact (start_changes p b j xs)
-  starts_keep Fact p b j [] all = tt
-  starts_keep Fact p b j (x ∷ xs) all = ((λ v h y e. subst Fact (the_value x y e) all.0), starts_keep Fact p b (suc j) xs all.1)
-
-  emptied_keeps : (types : ChanName → T) → IsTypedLanguage language IsFine Fits → (v : Option Proc) → At path_order (IsFine types) v → At path_order (IsFine types) (option_map language.emptied v)
-  emptied_keeps types typing None h y e = absurd (cc)
-  emptied_keeps types typing (Some x) h y e = subst (IsFine types) (the_value (language.emptied x) y e) (typing.empties types x (h x refl))
-
-  children_keep : (types : ChanName → T) → IsTypedLanguage language IsFine Fits → (p : Place) (b i n : ℕ) → AllKeep path_order (IsFine types) (child_changes language.emptied p b i n)
-  children_keep types typing p b i zero = tt
-  children_keep types typing p b i (suc n) = (emptied_keeps types typing, children_keep types typing p b (suc i) n)
-
-  need_keeps : (types : ChanName → T) → IsTypedLanguage language IsFine Fits → (p : Place) (need : Need) → AllKeep path_order (IsFine types) (need_changes language.emptied p need)
-  need_keeps types typing p Nothing = tt
-  need_keeps types typing p (Event c a) = tt
-  need_keeps types typing p (New n) = tt
-  need_keeps types typing p (Children b n) = children_keep types typing p b 1 n
-
-  changes_keep : (types : ChanName → T) → IsTypedLanguage language IsFine Fits → (p : Place) (need : Need) (o : Onward Proc) → IsFine types o.self → AllIn (IsFine types) o.starts → AllKeep path_order (IsFine types) (changes language.emptied p need o)
-  changes_keep types typing p need o self starts =
-      ((λ v h y e. subst (IsFine types) (the_value o.self y e) self), AllKeep-append path_order (IsFine types) (start_changes p o.block 1 o.starts) (need_changes language.emptied p need) (starts_keep (IsFine types) p o.block 1 o.starts starts) (need_keeps types typing p need))
-
-  children_fine : (types : ChanName → T) (m : Procs Proc) (p : Place) (b i n : ℕ) (ys : List Proc) → ((q : Place) (x : Proc) → get m q ≡ Some x → IsFine types x) → gathered language.has_ended m p b i n ≡ Some ys → AllIn (IsFine types) ys
-  children_fine types m p b i zero ys each e = subst (AllIn (IsFine types)) (the_value [] ys e) tt
-  children_fine types m p b i (suc n) ys each e =
-      let g = first_gathered language.has_ended m p b i n ys e in
-      subst (AllIn (IsFine types)) g.all (each (child p b i) g.head g.is, children_fine types m p b (suc i) n g.tail each g.others)
-
-  served_children_fine : (types : ChanName → T) (m : Procs Proc) (cs : Chans) (p : Place) (need : Need) (r : Reply Proc) → ((q : Place) (x : Proc) → get m q ≡ Some x → IsFine types x) → served language.has_ended m cs p need ≡ Some r → AllIn (IsFine types) r.children
-  served_children_fine types m cs p Nothing r each e = subst (λ (r : Reply Proc). AllIn (IsFine types) r.children) (the_value (record { message = None; children = [] }) r e) tt
-  served_children_fine types m cs p (New n) r each e = subst (λ (r : Reply Proc). AllIn (IsFine types) r.children) (the_value (record { message = None; children = [] }) r e) tt
-  served_children_fine types m cs p (Event c a) r each e = subst (λ (r : Reply Proc). AllIn (IsFine types) r.children) (sym (served_event a (get cs c) r e).3) tt
-  served_children_fine types m cs p (Children b n) r each e = go (gathered language.has_ended m p b 1 n) refl e
-    where
-      go : (o : Option (List Proc)) → gathered language.has_ended m p b 1 n ≡ o → option_map (λ ys. record { message = None; children = ys }) o ≡ Some r → AllIn (IsFine types) r.children
-      go None is e' = absurd (cc e')
-      go (Some ys) is e' = subst (λ (r : Reply Proc). AllIn (IsFine types) r.children) (the_value (record { message = None; children = ys }) r e') (children_fine types m p b 1 n ys each is)
+  -- ---- what comes, and the types
 
   gives_fits : (types : ChanName → T) (c : ChanName) (a : ChannelOp) (ch : Chan) (m : Message) → AllIn (Fits types c) ch.queue → gives a ch ≡ Some m → Fits types c m
   gives_fits types c (Push w n) ch m all e = absurd (cc)
-  gives_fits types c Pop ch m all e = first_fits types c ch.queue m all e
+  gives_fits types c (Pop l) ch m all e = first_fits types c l ch.queue m all e
+  gives_fits types c Look ch m all e = absurd (cc)
 
   came_fits : (types : ChanName → T) (m : Procs Proc) (cs : Chans) (p : Place) (need : Need) (r : Reply Proc) → ((c : ChanName) (ch : Chan) → get cs c ≡ Some ch → AllIn (Fits types c) ch.queue) → served language.has_ended m cs p need ≡ Some r → CameFits language IsFine Fits types need r.message
   came_fits types m cs p Nothing r all e = tt
-  came_fits types m cs p (New n) r all e = tt
+  came_fits types m cs p (New n w) r all e = tt
   came_fits types m cs p (Children b n) r all e = tt
   came_fits types m cs p (Event c a) r all e = λ n is. let h = served_event a (get cs c) r e in gives_fits types c a h.0 n (all c h.0 h.1) (sym (ap (λ (r : Reply Proc). r.message) h.3) ∙ is)
 
@@ -162,13 +98,13 @@ module _ {Proc T : Type 0} (language : Language Proc) (IsFine : (ChanName → T)
   abbrev pub retyped : (ChanName → T) → Place → Need → T → ChanName → T
   retyped types p Nothing t = types
   retyped types p (Event c a) t = types
-  retyped types p (New n) t = λ d. cond (eq_by_cmp channel_cmp d (name_of p n)) t (types d)
+  retyped types p (New n w) t = λ d. cond (eq_by_cmp channel_cmp d (name_of p n)) t (types d)
   retyped types p (Children b n) t = types
 
   made_fits : (types : ChanName → T) (p : Place) (need : Need) (t : T) → MadeFits language IsFine Fits (retyped types p need t) need (made p need) t
   made_fits types p Nothing t = tt
   made_fits types p (Event c a) t = tt
-  made_fits types p (New n) t = ap (λ b. cond b t (types (name_of p n))) (tie_self channel_order (name_of p n))
+  made_fits types p (New n w) t = ap (λ b. cond b t (types (name_of p n))) (tie_self channel_order (name_of p n))
   made_fits types p (Children b n) t = tt
 
   -- a channel that is there keeps its type
@@ -176,14 +112,14 @@ module _ {Proc T : Type 0} (language : Language Proc) (IsFine : (ChanName → T)
   same_type types m p Nothing t r c ch is = refl
   same_type types m p (Event d a) t r c ch is = refl
   same_type types m p (Children b n) t r c ch is = refl
-  same_type types m p (New n) t r c ch is = sym (ap (λ b. cond b t (types c)) (tie_not channel_order c (name_of p n) (λ e. cc (sym is ∙ ap (get m) e ∙ r))))
+  same_type types m p (New n w) t r c ch is = sym (ap (λ b. cond b t (types c)) (tie_not channel_order c (name_of p n) (λ e. cc (sym is ∙ ap (get m) e ∙ r))))
 
   module _ (typing : IsTypedLanguage language IsFine Fits) (laws : IsLawfulLanguage language) (mid : Midway Proc) (good : IsSound language mid) (types : ChanName → T) (typed : AreTypes language IsFine Fits types (state_of language mid)) where
     holder_open : (q : Place) (x : Proc) (z : PortValue) → get mid.procs q ≡ Some x → 1 ≤ count z (language.held x) → 1 ≤ opened mid.chans z
-    holder_open q x z is h = omega (arith, good.places z, subst (λ o. value_or_zero (λ (y : Proc). count z (language.held y)) o ≤ total (λ (y : Proc). count z (language.held y)) mid.procs) is (one_of_total path_order (λ (y : Proc). count z (language.held y)) mid.procs q))
+    holder_open q x z is h = omega (arith, good.stands z, subst (λ o. value_or_zero (λ (y : Proc). count z (language.held y)) o ≤ total (λ (y : Proc). count z (language.held y)) mid.procs) is (one_of_total path_order (λ (y : Proc). count z (language.held y)) mid.procs q))
 
     queue_open : (c : ChanName) (ch : Chan) (z : PortValue) → get mid.chans c ≡ Some ch → 1 ≤ count z (queue_ports ch.queue) → 1 ≤ opened mid.chans z
-    queue_open c ch z is h = omega (arith, good.places z, subst (λ o. value_or_zero (queued z) o ≤ total (queued z) mid.chans) is (one_of_total channel_order (queued z) mid.chans c))
+    queue_open c ch z is h = omega (arith, good.stands z, subst (λ o. value_or_zero (queued z) o ≤ total (queued z) mid.chans) is (one_of_total channel_order (queued z) mid.chans c))
 
     all_agree : (others : ChanName → T) (c : ChanName) (ms : List Message) → types c ≡ others c → ((z : PortValue) → 1 ≤ count z (queue_ports ms) → types (channel_of z) ≡ others (channel_of z)) → AllIn (Fits types c) ms → AllIn (Fits others c) ms
     all_agree others c [] e h all = tt
@@ -211,10 +147,10 @@ module _ {Proc T : Type 0} (language : Language Proc) (IsFine : (ChanName → T)
         let there = ready_need language laws mid good p t.self t.need t.reply t.is (going_of language laws mid good p t).numbered t.serves in
         let now : AreTypes language IsFine Fits others (state_of language mid) = typed_so others (same_type types mid.chans p t.need g.type_made there) in
         let self = now.each p t.self t.is in
-        let on = g.goes_on others self (made p t.need) t.reply (made_fits types p t.need g.type_made) (came_fits others mid.procs mid.chans p t.need t.reply now.queues t.serves) (served_children_fine others mid.procs mid.chans p t.need t.reply now.each t.serves) in (
+        let on = g.goes_on others self (made p t.need) t.reply (made_fits types p t.need g.type_made) (came_fits others mid.procs mid.chans p t.need t.reply now.queues t.serves) (served_fine language.has_ended language.emptied (IsFine others) (typing.empties others) mid.procs mid.chans p t.need t.reply now.each t.serves) in (
           others,
           record {
-            each = Each-alters path_order (IsFine others) (changes language.emptied p t.need (t.goes (made p t.need) t.reply)) mid.procs (changes_keep others typing p t.need (t.goes (made p t.need) t.reply) on.0 on.1) now.each;
+            each = step_fine language.has_ended language.emptied (IsFine others) (typing.empties others) mid.procs p t.need (t.goes (made p t.need) t.reply) now.each on.0 on.1;
             queues = queues_after others p t.need mid.chans (g.sends others self) now.queues;
           },
         )

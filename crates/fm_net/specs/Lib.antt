@@ -3,4 +3,9 @@ pub mod Language
 pub mod Owned
 pub mod Lawful
 pub mod Typed
+pub mod Plain
+pub mod Starts
+pub mod Woken
+pub mod Correspondence
+pub mod Marked
 pub mod Small

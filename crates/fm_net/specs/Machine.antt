@@ -1,11 +1,11 @@
 -- Processes over channels, each of which asks for what it needs and goes on with the reply.
 -- Source: the Fortran M report (processes, channels, process blocks), with this profile's atomic step.
-use Rattle.std.specs.Prelude.{ℕ, zero, suc, Option, Some, None, List, [], ◌∷◌, ◌++◌, Bool, cond, option_map}
+use Rattle.std.specs.Prelude.{ℕ, zero, suc, Option, Some, None, List, [], ◌∷◌, ◌++◌, Bool, false, cond, option_map}
 use Rattle.std.specs.FinMap.{FinMap, get, insert}
 use Rattle.fm_base.specs.declared.path.ChanName.{ChanName}
 use Rattle.fm_base.specs.declared.port.PortValue.{PortValue}
 use Rattle.fm_base.specs.PathOrder.{path_cmp}
-use Rattle.fm_base.specs.Channels.{Message, Chan, Chans, ChannelOp, is_ready, changed, gives, spills, fresh, all_shed}
+use Rattle.fm_base.specs.Channels.{Message, Chan, Chans, ChannelOp, is_ready, changed, gives, exceeds, tells, spills_at, fresh, all_shed}
 use Rattle.fm_maps.specs.Changes.{Change, adjust, alters}
 
 -- where a process stands in the tree of processes
@@ -13,16 +13,19 @@ abbrev pub Place : Type 0
 Place = List (ℕ × ℕ)
 
 -- what a process has to get before it goes on: nothing; an event at a channel; a channel with this
--- number; all children of a block with this number, of which there are so many
+-- number and so many writers; all children of a block with this number, of which there are so many
 pub data Need : Type 0 where
   Nothing : Need
   Event : (channel : ChanName) → (op : ChannelOp) → Need
-  New : (number : ℕ) → Need
+  New : (number writers : ℕ) → Need
   Children : (block count : ℕ) → Need
 
--- what it gets: the message, if one came, and the children that have ended
+-- what it gets: the message, if one came; whether a message is there that exceeds the limits of its
+-- receive, and so stays; whether a receive would wait, if it looked; and the children that have ended
 pub record Reply (Proc : Type 0) : Type 0 where
   pub message : Option Message
+  pub exceeds : Bool
+  pub waits : Bool
   pub children : List Proc
 
 -- how it goes on: itself, the children that it starts in the block with this number, the ports that
@@ -56,23 +59,19 @@ child p b i = p ++ (b, i) ∷ []
 abbrev pub made : Place → Need → ChanName
 made p Nothing = record { maker = p; number = 0 }
 made p (Event c a) = record { maker = p; number = 0 }
-made p (New n) = record { maker = p; number = n }
+made p (New n k) = record { maker = p; number = n }
 made p (Children b n) = record { maker = p; number = 0 }
 
 abbrev pub chans_after : Place → Need → Chans → Chans
 chans_after p Nothing m = m
 chans_after p (Event c a) m = adjust m c (changed a)
-chans_after p (New n) m = insert m (record { maker = p; number = n }) fresh
+chans_after p (New n k) m = insert m (record { maker = p; number = n }) (fresh k)
 chans_after p (Children b n) m = m
-
-abbrev pub spills_at : ChannelOp → Option Chan → List PortValue
-spills_at a None = []
-spills_at a (Some ch) = spills a ch
 
 abbrev pub spilt : Need → Chans → List PortValue
 spilt Nothing m = []
 spilt (Event c a) m = spills_at a (get m c)
-spilt (New n) m = []
+spilt (New n k) m = []
 spilt (Children b n) m = []
 
 -- a step before its discards
@@ -86,9 +85,17 @@ abbrev pub finished : {Proc : Type 0} → Begun Proc → State Proc × ℕ
 finished b = (record { procs = b.procs; chans = all_shed b.drops b.chans }, b.cost)
 
 module _ {Proc : Type 0} where
+  -- the reply that brings these children alone
+  abbrev pub reply_with : List Proc → Reply Proc
+  reply_with ys = record { message = None; exceeds = false; waits = false; children = ys }
+
+  -- the reply to an event at this channel
+  abbrev pub reply_at : ChannelOp → Chan → Reply Proc
+  reply_at a ch = record { message = gives a ch; exceeds = exceeds a ch; waits = tells a ch; children = [] }
+
   abbrev pub served_at : ChannelOp → Option Chan → Option (Reply Proc)
   served_at a None = None
-  served_at a (Some ch) = cond (is_ready a ch) (Some (record { message = gives a ch; children = [] })) None
+  served_at a (Some ch) = cond (is_ready a ch) (Some (reply_at a ch)) None
 
   abbrev pub start_changes : Place → ℕ → ℕ → List Proc → List (Change Place Proc)
   start_changes p b i [] = []
@@ -106,10 +113,10 @@ module _ {Proc : Type 0} (has_ended : Proc → Bool) where
 
   -- the reply to a need, or none where the process has to wait
   abbrev pub served : Procs Proc → Chans → Place → Need → Option (Reply Proc)
-  served m cs p Nothing = Some (record { message = None; children = [] })
+  served m cs p Nothing = Some (reply_with [])
   served m cs p (Event c a) = served_at a (get cs c)
-  served m cs p (New n) = Some (record { message = None; children = [] })
-  served m cs p (Children b n) = option_map (λ ys. record { message = None; children = ys }) (gathered m p b 1 n)
+  served m cs p (New n k) = Some (reply_with [])
+  served m cs p (Children b n) = option_map reply_with (gathered m p b 1 n)
 
 module _ {Proc : Type 0} (emptied : Proc → Proc) where
   abbrev pub child_changes : Place → (block index count : ℕ) → List (Change Place Proc)
@@ -120,7 +127,7 @@ module _ {Proc : Type 0} (emptied : Proc → Proc) where
   abbrev pub need_changes : Place → Need → List (Change Place Proc)
   need_changes p Nothing = []
   need_changes p (Event c a) = []
-  need_changes p (New n) = []
+  need_changes p (New n k) = []
   need_changes p (Children b n) = child_changes p b 1 n
 
   -- all that a step changes among the processes: itself, the children that it starts, and those that it joins

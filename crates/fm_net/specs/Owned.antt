@@ -1,4 +1,4 @@
--- Ownership: each open port stands in one place, and no other port anywhere. A port is open while its
+-- Ownership: each open port stands somewhere once, and no other port anywhere. A port is open while its
 -- writer is, or its inport lives; it stands where a process holds it, or in a message that waits.
 -- Source: the Fortran M report (ports belong to one process), with this profile's rules on discarding.
 use Rattle.std.specs.Prelude.{◌≡◌, ℕ, ◌+◌, ◌<◌, ◌≤◌, Option, Some, None, List, [], ◌∷◌, Bool, true, false, cond, ◌==◌, ◌&&◌}
@@ -60,8 +60,8 @@ name_of p n = record { maker = p; number = n }
 
 -- what each step of a language keeps
 pub record IsOwned {Proc : Type 0} (language : Language Proc) (s : State Proc) : Type 0 where
-  -- the places of a port in processes and in messages are as many as it is open: one, or none
-  pub places : (z : PortValue) → total (λ x. count z (language.held x)) s.procs + total (queued z) s.chans ≡ opened s.chans z
+  -- a port stands in processes and in messages as often as it is open: once, or never
+  pub stands : (z : PortValue) → total (λ x. count z (language.held x)) s.procs + total (queued z) s.chans ≡ opened s.chans z
   -- a child's block was started by its parent, which now has a later number for the next one
   pub born : (q : Place) (b i : ℕ) → 1 ≤ present (get s.procs (child q b i)) → b < value_or_zero language.next_block (get s.procs q)
   -- and so with a channel and its maker
@@ -74,3 +74,7 @@ main_alone x = record { procs = insert empty [] x; chans = empty }
 -- no channel has a writer but the first one
 abbrev pub HasOneWriter : Chans → Type 0
 HasOneWriter m = (c : ChanName) (w : ℕ) → 1 ≤ opened m (Writer c w) → w ≡ 0
+
+-- a channel whose inport is gone has an empty queue
+abbrev pub GoneIsEmpty : Chans → Type 0
+GoneIsEmpty m = (c : ChanName) (ch : Chan) → get m c ≡ Some ch → ch.lives ≡ false → ch.queue ≡ []

@@ -129,7 +129,7 @@ displaced vs j None = []
 displaced vs j (Some m) = item_ports (value_at vs j) ++ message_ports (other_items m)
 
 abbrev pub receives : Proc → List Instr → ℕ → Option PortValue → Ask Proc
-receives x code j (Some (Reader c)) = Go (Event c Pop) (λ d r. goes_on x code (received x.vars j r.message) (displaced x.vars j r.message) 1)
+receives x code j (Some (Reader c)) = Go (Event c (Pop [])) (λ d r. goes_on x code (received x.vars j r.message) (displaced x.vars j r.message) 1)
 receives x code j (Some (Writer c w)) = faulted x
 receives x code j None = faulted x
 
@@ -140,7 +140,7 @@ abbrev pub ask_next : List (List Instr) → Proc → List Instr → Ask Proc
 ask_next us x [] = Stop
 ask_next us x (Set i n ∷ code) = Go Nothing (λ c r. goes_on x code (value_set x.vars i (Words (n ∷ []))) (item_ports (value_at x.vars i)) 1)
 ask_next us x (Move i j ∷ code) = Go Nothing (λ c r. goes_on x code (value_set (value_set x.vars i (left (value_at x.vars i))) j (value_at x.vars i)) (item_ports (value_at (value_set x.vars i (left (value_at x.vars i))) j)) 2)
-ask_next us x (Channel i j ∷ code) = Go (New x.next_channel) (λ c r. record {
+ask_next us x (Channel i j ∷ code) = Go (New x.next_channel 1) (λ c r. record {
   self = record x { code = code; vars = with_channel x.vars i j c; next_channel = suc x.next_channel };
   block = x.next_block;
   starts = [];

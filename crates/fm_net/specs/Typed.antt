@@ -5,7 +5,7 @@ use Rattle.std.specs.Prelude.{◌≡◌, ◌≤◌, Option, Some, List, [], ◌�
 use Rattle.std.specs.FinMap.{get}
 use Rattle.fm_base.specs.declared.path.ChanName.{ChanName}
 use Rattle.fm_base.specs.declared.port.PortValue.{PortValue}
-use Rattle.fm_base.specs.Channels.{Message, Chan, Push, Pop, message_ports, channel_of}
+use Rattle.fm_base.specs.Channels.{Message, Chan, Push, Pop, Look, message_ports, channel_of}
 use Rattle.fm_net.specs.Machine.{Place, Need, Nothing, Event, New, Children, Reply, Onward, Ask, Stop, Go, State}
 use Rattle.fm_net.specs.Language.{Language}
 use Rattle.fm_net.specs.Owned.{count}
@@ -20,22 +20,23 @@ module _ {Proc T : Type 0} (language : Language Proc) (IsFine : (ChanName → T)
   abbrev pub SentFits : (ChanName → T) → Need → Type 0
   SentFits types Nothing = Unit {0}
   SentFits types (Event c (Push w m)) = Fits types c m
-  SentFits types (Event c Pop) = Unit {0}
-  SentFits types (New n) = Unit {0}
+  SentFits types (Event c (Pop limits)) = Unit {0}
+  SentFits types (Event c Look) = Unit {0}
+  SentFits types (New n k) = Unit {0}
   SentFits types (Children b n) = Unit {0}
 
   -- and so does the one that comes
   abbrev pub CameFits : (ChanName → T) → Need → Option Message → Type 0
   CameFits types Nothing r = Unit {0}
   CameFits types (Event c a) r = (m : Message) → r ≡ Some m → Fits types c m
-  CameFits types (New n) r = Unit {0}
+  CameFits types (New n k) r = Unit {0}
   CameFits types (Children b n) r = Unit {0}
 
   -- the channel that is made has the type that its maker gives it
   abbrev pub MadeFits : (ChanName → T) → Need → ChanName → T → Type 0
   MadeFits types Nothing c t = Unit {0}
   MadeFits types (Event d a) c t = Unit {0}
-  MadeFits types (New n) c t = types c ≡ t
+  MadeFits types (New n k) c t = types c ≡ t
   MadeFits types (Children b n) c t = Unit {0}
 
   -- a fine process sends what fits, and is fine again after a reply that fits, with the children that it starts

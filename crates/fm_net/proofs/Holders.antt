@@ -1,9 +1,9 @@
--- What ownership says of one port: who stands is open, and stands in one place alone.
+-- What ownership says of one port: one that stands somewhere is open, and stands there once and nowhere else.
 use Rattle.std.proofs.Common.{◌≡◌, ◌≢◌, ◌≤◌, Option, Some, None, refl, sym, ap, ◌∙◌, subst, arith, ◌⊎◌, inl, inr}
 use Rattle.std.specs.FinMap.{get}
 use Rattle.fm_base.specs.declared.path.ChanName.{ChanName}
 use Rattle.fm_base.specs.declared.port.PortValue.{PortValue}
-use Rattle.fm_base.specs.Channels.{Chan, ChannelOp, Push, Pop, channel_of}
+use Rattle.fm_base.specs.Channels.{Chan, ChannelOp, Push, Pop, Look, channel_of}
 use Rattle.fm_maps.specs.Sums.{total, value_or_zero}
 use Rattle.fm_maps.proofs.Sums.{one_of_total, two_of_total, holder}
 use Rattle.fm_net.specs.Machine.{Place, State, Event, Reply, Onward, Go}
@@ -21,7 +21,8 @@ channel_there z (Some ch) h = (ch, refl)
 
 port_channel : (c : ChanName) (a : ChannelOp) → channel_of (port_of c a) ≡ c
 port_channel c (Push w m) = refl
-port_channel c Pop = refl
+port_channel c (Pop l) = refl
+port_channel c Look = refl
 
 module _ {Proc : Type 0} (language : Language Proc) (s : State Proc) (owned : IsOwned language s) where
   part_held : (p : Place) (x : Proc) (z : PortValue) → get s.procs p ≡ Some x → holds language z x ≤ total (holds language z) s.procs
@@ -34,26 +35,26 @@ module _ {Proc : Type 0} (language : Language Proc) (s : State Proc) (owned : Is
   most z = opened_small z (get s.chans (channel_of z))
 
   pub held_open : (p : Place) (x : Proc) (z : PortValue) → get s.procs p ≡ Some x → 1 ≤ holds language z x → opened s.chans z ≡ 1
-  held_open p x z is h = omega (arith, owned.places z, part_held p x z is, most z)
+  held_open p x z is h = omega (arith, owned.stands z, part_held p x z is, most z)
 
   pub queued_open : (c : ChanName) (ch : Chan) (z : PortValue) → get s.chans c ≡ Some ch → 1 ≤ queued z ch → opened s.chans z ≡ 1
-  queued_open c ch z is h = omega (arith, owned.places z, part_queued c ch z is, most z)
+  queued_open c ch z is h = omega (arith, owned.stands z, part_queued c ch z is, most z)
 
   pub held_once : (p : Place) (x : Proc) (z : PortValue) → get s.procs p ≡ Some x → holds language z x ≤ 1
-  held_once p x z is = omega (arith, owned.places z, part_held p x z is, most z)
+  held_once p x z is = omega (arith, owned.stands z, part_held p x z is, most z)
 
   pub one_holder : (p q : Place) (x y : Proc) (z : PortValue) → (p ≢ q) → get s.procs p ≡ Some x → get s.procs q ≡ Some y → 1 ≤ holds language z x → holds language z y ≡ 0
   one_holder p q x y z n is_x is_y h =
-      omega (arith, owned.places z, two_of_total path_order (holds language z) s.procs p q n, ap (value_or_zero (holds language z)) is_x, ap (value_or_zero (holds language z)) is_y, most z)
+      omega (arith, owned.stands z, two_of_total path_order (holds language z) s.procs p q n, ap (value_or_zero (holds language z)) is_x, ap (value_or_zero (holds language z)) is_y, most z)
 
   pub held_or_queued : (p : Place) (x : Proc) (c : ChanName) (ch : Chan) (z : PortValue) → get s.procs p ≡ Some x → get s.chans c ≡ Some ch → 1 ≤ holds language z x → queued z ch ≡ 0
-  held_or_queued p x c ch z is_x is_ch h = omega (arith, owned.places z, part_held p x z is_x, part_queued c ch z is_ch, most z)
+  held_or_queued p x c ch z is_x is_ch h = omega (arith, owned.stands z, part_held p x z is_x, part_queued c ch z is_ch, most z)
 
   -- an open port stands in a process, or in a message
   pub open_stands : (z : PortValue) → opened s.chans z ≡ 1 → ((p : Place) × (x : Proc) × (get s.procs p ≡ Some x) × (1 ≤ holds language z x)) ⊎ ((c : ChanName) × (ch : Chan) × (get s.chans c ≡ Some ch) × (1 ≤ queued z ch))
   open_stands z is = elim (ℕ_discrete (total (holds language z) s.procs) 0) [
     | yes none ↦
-        let h = holder channel_order (queued z) s.chans (omega (arith, owned.places z)) in
+        let h = holder channel_order (queued z) s.chans (omega (arith, owned.stands z)) in
         inr (h.key, h.value, h.is, omega (arith, h.more))
     | no some ↦
         let h = holder path_order (holds language z) s.procs (omega arith) in
