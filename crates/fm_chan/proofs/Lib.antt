@@ -1,4 +1,6 @@
-pub mod Shedding
-pub mod Maps
 pub mod Packing
-pub mod Order
+pub mod Maps
+pub mod Numbers
+pub mod Receiving
+pub mod Fitting
+pub mod Writers

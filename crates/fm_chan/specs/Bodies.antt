@@ -1,10 +1,12 @@
 -- What stands behind the channels' names, as plain data.
 -- Source: this profile.
-use Rattle.std.specs.Prelude.{List, [], map, is_some, Option, Some, None}
-use Rattle.fm_base.specs.declared.path.ChanName.{ChanName}
-use Rattle.fm_base.specs.Channels.{Message, Chan}
-use Rattle.fm_chan.specs.declared.channels.Body.{Body}
-use Rattle.fm_chan.specs.declared.channels.Inport.{Inport}
+use Rattle.std.specs.Prelude.{List, [], is_some, Option, Some, None}
+use Rattle.fm_base.specs.PathOrder.{channel_cmp}
+use Rattle.fm_base.specs.Channels.{Message, Chan, Chans}
+use Rattle.fm_maps.specs.Map.{map_of, map_values}
+use Rattle.fm_chan.specs.declared.body.Body.{Body}
+use Rattle.fm_chan.specs.declared.body.Inport.{Inport}
+use Rattle.fm_chan.specs.declared.channels.Channels.{Channels}
 
 -- what waits at the inport
 abbrev pub waiting : Option Inport → List Message
@@ -13,8 +15,8 @@ waiting (Some i) = i.queue.items
 
 -- the channel of a body
 abbrev pub chan_of : Body → Chan
-chan_of b = record { queue = waiting b.inport; writers = b.writers.items; lives = is_some b.inport }
+chan_of b = record { queue = waiting b.inport; writers = b.writers.keys; lives = is_some b.inport }
 
--- the same of entries by name
-abbrev pub entries_of : List (ChanName × Body) → List (ChanName × Chan)
-entries_of es = map (λ e. (e.0, chan_of e.1)) es
+-- the channels by their names
+unfoldable pub chans_of : Channels → Chans
+chans_of s = map_values chan_of (map_of channel_cmp s.bodies)

@@ -1,10 +1,11 @@
 -- What a process does to the channels by a port.
 -- Source: the Fortran M report (SEND, RECEIVE, ENDCHANNEL), with this profile's rules on discarding.
-use Rattle.std.specs.Prelude.{ℕ, Bool, true, false, Option, Some, None, List, []}
+use Rattle.std.specs.Prelude.{ℕ, Bool, true, false, Option, Some, None, List, [], map as map_list}
 use Rattle.std.specs.FinMap as map
+use Rattle.fm_base.specs.declared.path.ChanName.{ChanName}
 use Rattle.fm_base.specs.declared.port.PortValue.{PortValue}
 use Rattle.fm_base.specs.declared.port.PortValue.TheVariants.{Writer, Reader}
-use Rattle.fm_base.specs.Channels.{Message, message_ports, Chan, Chans, ChannelOp, Push, channel_of, changed, spills, all_shed}
+use Rattle.fm_base.specs.Channels.{Message, message_ports, Chan, Chans, ChannelOp, Push, channel_of, changed, spills_at, all_shed, numbers_from}
 use Rattle.fm_maps.specs.Changes.{adjust}
 
 -- an outport sends, an inport receives
@@ -17,18 +18,18 @@ abbrev pub writer_of : PortValue → ℕ
 writer_of (Writer c w) = w
 writer_of (Reader c) = 0
 
+-- the number of the writer, or none of an inport
+abbrev pub writer_number : PortValue → Option ℕ
+writer_number (Writer c w) = Some w
+writer_number (Reader c) = None
+
 -- the port's channel, if it is there
 abbrev pub chan_at : PortValue → Chans → Option Chan
 chan_at x m = map.get m (channel_of x)
 
 -- the channels after an event at the port's channel, before what it discards goes
-abbrev pub adjusted : PortValue → ChannelOp → Chans → Chans
-adjusted x a m = adjust m (channel_of x) (changed a)
-
--- the ports of a message to a channel whose inport is gone
-abbrev pub spills_at : ChannelOp → Option Chan → List PortValue
-spills_at a None = []
-spills_at a (Some ch) = spills a ch
+abbrev pub after_op : PortValue → ChannelOp → Chans → Chans
+after_op x a m = adjust m (channel_of x) (changed a)
 
 -- the ports in what comes back from a channel whose inport is gone
 abbrev pub ports_back : Option Message → List PortValue
@@ -36,5 +37,9 @@ ports_back None = []
 ports_back (Some m) = message_ports m
 
 -- the channels after a send by the port, with what is discarded by it
-abbrev pub sent : PortValue → Message → Chans → Chans
-sent x m cs = all_shed (spills_at (Push (writer_of x) m) (chan_at x cs)) (adjusted x (Push (writer_of x) m) cs)
+abbrev pub after_send : PortValue → Message → Chans → Chans
+after_send x m cs = all_shed (spills_at (Push (writer_of x) m) (chan_at x cs)) (after_op x (Push (writer_of x) m) cs)
+
+-- the outports of a channel with so many writers
+abbrev pub outports : ChanName → (writers : ℕ) → List PortValue
+outports c n = map_list (λ w. Writer c w) (numbers_from 0 n)

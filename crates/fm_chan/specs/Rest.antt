@@ -5,9 +5,9 @@ use Rattle.std.specs.List.{flat_map, filter_map}
 use Rattle.fm_base.specs.declared.port.PortValue.{PortValue}
 use Rattle.fm_base.specs.Channels.{item_ports, queue_ports}
 use Rattle.fm_chan.specs.declared.message.Item.{Item}
-use Rattle.fm_chan.specs.declared.dropping.Rest.{Rest}
-use Rattle.fm_chan.specs.declared.dropping.Dropping.{Dropping}
-use Rattle.fm_chan.specs.declared.dropping.Chain.{Chain, End, More'}
+use Rattle.fm_chan.specs.declared.discarding.Rest.{Rest}
+use Rattle.fm_chan.specs.declared.discarding.Discarding.{Discarding}
+use Rattle.fm_chan.specs.declared.discarding.Chain.{Chain, End, More'}
 use Rattle.fm_chan.specs.Items.{plain_item}
 
 -- the ports among ports and NULLs
@@ -28,8 +28,8 @@ chain_ports End = []
 chain_ports (More' rest p below) = rest_ports rest ++ chain_ports below
 
 -- all of them, in the order in which they are discarded
-abbrev pub dropped_ports : Dropping → List PortValue
-dropped_ports d = rest_ports d.rest ++ chain_ports d.chain
+abbrev pub left_ports : Discarding → List PortValue
+left_ports d = rest_ports d.rest ++ chain_ports d.chain
 
 -- how many levels were left
 abbrev pub levels : Chain → ℕ
@@ -42,6 +42,6 @@ Yields old None new = (old ≡ []) × (new ≡ [])
 Yields old (Some x) new = old ≡ x ∷ new
 
 -- the level is left for the one above it, if there is one
-abbrev pub Leaves : Dropping → Bool → Dropping → Type 0
-Leaves old true new = (dropped_ports new ≡ chain_ports old.chain) × (levels old.chain ≡ suc (levels new.chain))
-Leaves old false new = (chain_ports old.chain ≡ []) × (dropped_ports new ≡ rest_ports old.rest)
+abbrev pub Leaves : Discarding → Bool → Discarding → Type 0
+Leaves old true new = (left_ports new ≡ chain_ports old.chain) × (levels old.chain ≡ suc (levels new.chain))
+Leaves old false new = (chain_ports old.chain ≡ []) × (left_ports new ≡ rest_ports old.rest)

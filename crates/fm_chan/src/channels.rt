@@ -1,173 +1,60 @@
 //! The channels of a run.
 
-ghost use Rattle.std.specs.Prelude.{◌≡◌, true, false, Some, None, [], ◌∷◌, ◌++◌, is_some, IfOk, OnOk, OnErr, IfErr};
+ghost use Rattle.std.specs.Prelude.{◌≡◌, ◌≤◌, true, false, None, [], ◌∷◌, ◌++◌, IfOk, OnOk, OnErr, IfErr, IsOk};
 ghost use Rattle.std.specs.FinMap as map;
-ghost use Rattle.fm_base.specs.Channels.{fresh, channel_of, Push, Pop, is_ready, changed, gives, spills, without, discarded, freed, shut, message_ports, all_shed};
+ghost use Rattle.fm_base.specs.Channels.{fresh, channel_of, Push, Pop, freed, shut, message_ports, all_shed, spills_at};
 ghost use Rattle.fm_base.specs.declared.port.PortValue.TheVariants.{Writer, Reader};
-ghost use Rattle.fm_chan.specs.Bodies.{chan_of};
-ghost use Rattle.fm_chan.specs.Events.{is_outport, writer_of, chan_at, adjusted, spills_at, ports_back, sent};
-ghost use Rattle.fm_chan.specs.Received.{got_from, got_at, brings, pops_at};
-ghost use Rattle.fm_chan.specs.Rest.{dropped_ports};
+ghost use Rattle.fm_chan.specs.Bodies.{chans_of};
+ghost use Rattle.fm_chan.specs.Rooms.{HasRoom, KeepsRoom, KeepsOthersRoom};
+ghost use Rattle.fm_chan.specs.Events.{is_outport, writer_number, chan_at, after_op, after_send, ports_back, outports};
+ghost use Rattle.fm_chan.specs.Received.{got_at, brings, pops_at, waits_at};
+ghost use Rattle.fm_chan.specs.Rest.{left_ports};
 
-use crate::dropping::{Chain, Dropping};
-use crate::message::Message;
+use crate::body::Body;
+use crate::discarding::Discarding;
+use crate::message::{Got, Message};
 use crate::port::Port;
 use fm_base::{ChanName, NoMemory, PortValue};
+use fm_maps::Map;
 use std::alloc::Global;
-use std::collections::{BTreeMap, VecDeque};
-use std::marker::Model;
 
-/// A living inport: what waits there, and room for one level of discarding.
-#[derive(Drop)]
-pub struct Inport {
-    /// The messages, oldest first.
-    pub queue: VecDeque<Message>,
-    /// Kept from the start, so that discarding takes no memory.
-    pub room: Box<Chain>,
-}
-
-/// What stands behind a channel's name.
-#[derive(Drop)]
-pub struct Body {
-    /// None where the inport is gone.
-    pub inport: Option<Inport>,
-    /// The numbers of the open writers.
-    pub writers: Vec<u32>,
-}
-
-/// The channels, by their names. Contracts see a finite map.
+/// The channels, by their names. Contracts see a finite map of them (`chans_of`), and beside it which
+/// channels have room for one more message (`HasRoom`).
 ///
 /// Each call finds its channel in logarithmic time, whatever waits in it. A port whose channel isn't
 /// here is passed over: a send loses its message, a receive waits, a discard changes nothing.
 #[derive(Drop)]
 pub struct Channels {
     alloc: Global,
-    bodies: BTreeMap<ChanName, Body>,
+    bodies: Map<ChanName, Body>,
 }
 
-impl Model for Channels {
-    ghost use Rattle.fm_base.specs.Channels.{Chans};
-    ghost use Rattle.std.specs.FinMap as map;
-    ghost use Rattle.std.specs.Coded.{codes};
-
-    ghost Value = { Chans };
-
-    ghost coded = { map.code (Prim.hlevel codes) (Prim.hlevel codes) };
-
-    ghost use Rattle.fm_chan.specs.Bodies.{entries_of};
-
-    ghost view = { λ c. map.from_entries (entries_of c.bodies.entries) };
-}
-
-/// What a receive got.
-#[derive(Debug, Drop)]
-pub enum Got {
-    /// The oldest message.
-    Message(Message),
-    /// No message is there, and a writer is open.
-    Wait,
-    /// No message is there, and none comes any more.
-    End,
-}
-
-fn fresh_body(alloc: Global) -> Result<Body, NoMemory>
-    ensures { IfOk result (λ b. chan_of b ≡ fresh) }
+fn outports(alloc: Global, name: &ChanName, writers: u32) -> Result<Vec<Port>, NoMemory>
+    ensures { IfOk result (λ v. v.items ≡ outports name.now writers) }
 {
-    let mut writers = Vec::new(alloc);
-    writers.push(0)?;
-    let room = Box::new(alloc, Chain::End)?;
-    let queue = VecDeque::new(alloc);
-    Ok(Body {
-        inport: Some(Inport { queue, room }),
-        writers,
-    })
-}
-
-fn put_last(body: &mut Body, message: Message) -> Result<Option<Message>, (Message, NoMemory)>
-    ensures ok { OnOk result (chan_of body.new ≡ changed (Push 0 message) (chan_of body.old)) }
-    ensures spilt { IfOk result (λ o. ports_back o ≡ spills (Push 0 message) (chan_of body.old)) }
-    ensures back { IfErr result (λ e. e.0 ≡ message) }
-    ensures err { OnErr result (chan_of body.new ≡ chan_of body.old) }
-{
-    match &mut body.inport {
-        None => Ok(Some(message)),
-        Some(inport) => match inport.queue.push_back(message) {
-            Ok(()) => Ok(None),
-            Err(full) => Err((full.value, NoMemory)),
-        },
+    let mut ports = Vec::new(alloc);
+    let mut next = 0;
+    'writers: while next < writers {
+        ports.push(Port::new(PortValue::Writer(name.copy(alloc)?, next)))?;
+        next += 1;
     }
-}
-
-fn first_of(body: &mut Body) -> Option<Message>
-    ensures first { result ≡ gives Pop (chan_of body.old) }
-    ensures rest { chan_of body.new ≡ changed Pop (chan_of body.old) }
-{
-    match &mut body.inport {
-        None => None,
-        Some(inport) => inport.queue.pop_front(),
-    }
-}
-
-fn can_receive(body: &Body) -> bool
-    ensures { result ≡ is_ready Pop (chan_of body.now) }
-{
-    let waits = match &body.inport {
-        None => false,
-        Some(inport) => !inport.queue.is_empty(),
-    };
-    waits || body.writers.is_empty()
-}
-
-fn take_first(body: &mut Body) -> Got
-    ensures got { result ≡ got_from (chan_of body.old) }
-    ensures rest { chan_of body.new ≡ changed Pop (chan_of body.old) }
-{
-    match first_of(body) {
-        Some(message) => Got::Message(message),
-        None => {
-            if body.writers.is_empty() {
-                Got::End
-            } else {
-                Got::Wait
-            }
-        }
-    }
-}
-
-fn close_writer(writers: &mut Vec<u32>, number: u32)
-    ensures { writers.new.items ≡ without number writers.old.items }
-{
-    writers.retain(|writer| *writer != number);
-}
-
-fn let_go_of(body: &mut Body, port: &Port, dropping: &mut Dropping)
-    ensures body { chan_of body.new ≡ discarded port.now (chan_of body.old) }
-    ensures ports { dropped_ports dropping.new ≡ freed port.now (Some (chan_of body.old)) ++ dropped_ports dropping.old }
-{
-    match port.plain() {
-        PortValue::Writer(_, number) => close_writer(&mut body.writers, *number),
-        PortValue::Reader(_) => {
-            if let Some(inport) = body.inport.take() {
-                dropping.enter(inport.queue, inport.room);
-            }
-        }
-    }
+    Ok(ports)
 }
 
 impl Channels {
     /// No channels. Takes no memory.
     pub fn new(alloc: Global) -> Channels
-        ensures { result ≡ map.empty }
+        ensures { chans_of result ≡ map.empty }
     {
         Channels {
             alloc,
-            bodies: BTreeMap::new(alloc),
+            bodies: Map::new(alloc),
         }
     }
 
     /// Whether there is a channel of this name.
     pub fn contains(&self, name: &ChanName) -> bool
-        ensures { result ≡ is_some (map.get self.now name.now) }
+        ensures { result ≡ map.contains_key (chans_of self.now) name.now }
     {
         self.bodies.contains_key(name)
     }
@@ -175,115 +62,181 @@ impl Channels {
     /// Whether a receive at the port's channel has its step: a message is there, or none comes any
     /// more. Where the channel isn't there, it has none.
     pub fn is_ready(&self, port: &Port) -> bool
-        ensures { result ≡ pops_at (chan_at port.now self.now) }
+        ensures { result ≡ pops_at (chan_at port.now (chans_of self.now)) }
     {
         match self.bodies.get(port.channel()) {
-            Some(body) => can_receive(body),
+            Some(body) => body.is_ready(),
             None => false,
         }
+    }
+
+    /// Whether a receive at the port's channel would wait.
+    pub fn probe(&self, port: &Port) -> bool
+        ensures { result ≡ waits_at (chan_at port.now (chans_of self.now)) }
+    {
+        match self.bodies.get(port.channel()) {
+            Some(body) => !body.is_ready(),
+            None => true,
+        }
+    }
+
+    fn add(&mut self, alloc: Global, name: ChanName, writers: u32) -> Result<(), NoMemory>
+        ensures ok { OnOk result (chans_of self.new ≡ map.insert (chans_of self.old) name (fresh writers)) }
+        ensures err { OnErr result (self.new ≡ self.old) }
+        ensures room { KeepsOthersRoom name self.old self.new }
+    {
+        let body = Body::new(alloc, writers)?;
+        self.bodies.insert(name, body)?;
+        Ok(())
     }
 
     /// A new channel of this name: its inport, and its outport, which is writer 0. After want of
     /// memory nothing has changed.
     pub fn make(&mut self, alloc: Global, name: ChanName) -> Result<(Port, Port), NoMemory>
-        requires { map.get self.old name ≡ None }
-        ensures ok { OnOk result (self.new ≡ map.insert self.old name fresh) }
+        requires { map.get (chans_of self.old) name ≡ None }
+        ensures ok { OnOk result (chans_of self.new ≡ map.insert (chans_of self.old) name (fresh 1)) }
         ensures inport { IfOk result (λ ends. ends.0 ≡ Reader name) }
         ensures outport { IfOk result (λ ends. ends.1 ≡ Writer name 0) }
         ensures err { OnErr result (self.new ≡ self.old) }
+        ensures room { KeepsOthersRoom name self.old self.new }
     {
         let inport = Port::new(PortValue::Reader(name.copy(alloc)?));
         let outport = Port::new(PortValue::Writer(name.copy(alloc)?, 0));
-        let body = fresh_body(alloc)?;
-        self.bodies.insert(name, body)?;
+        self.add(alloc, name, 1)?;
         Ok((inport, outport))
     }
 
-    fn put(&mut self, port: &Port, message: Message) -> Result<Option<Message>, (Message, NoMemory)>
-        ensures ok { OnOk result (self.new ≡ adjusted port.now (Push 0 message) self.old) }
-        ensures spilt { IfOk result (λ o. ports_back o ≡ spills_at (Push 0 message) (chan_at port.now self.old)) }
-        ensures back { IfErr result (λ e. e.0 ≡ message) }
+    /// A new channel of this name with so many writers, at least 1: its inport, and its outports, which
+    /// are the writers from 0. After want of memory nothing has changed.
+    pub fn merge(
+        &mut self,
+        alloc: Global,
+        name: ChanName,
+        writers: u32,
+    ) -> Result<(Port, Vec<Port>), NoMemory>
+        requires absent { map.get (chans_of self.old) name ≡ None }
+        requires some { 1 ≤ writers }
+        ensures ok { OnOk result (chans_of self.new ≡ map.insert (chans_of self.old) name (fresh writers)) }
+        ensures inport { IfOk result (λ ends. ends.0 ≡ Reader name) }
+        ensures outports { IfOk result (λ ends. ends.1.items ≡ outports name writers) }
         ensures err { OnErr result (self.new ≡ self.old) }
+        ensures room { KeepsOthersRoom name self.old self.new }
     {
-        let body = match self.bodies.get_mut(port.channel()) {
-            Some(body) => body,
-            None => return Ok(None),
-        };
-        put_last(body, message)
+        let inport = Port::new(PortValue::Reader(name.copy(alloc)?));
+        let outports = outports(alloc, &name, writers)?;
+        self.add(alloc, name, writers)?;
+        Ok((inport, outports))
+    }
+
+    /// Makes room for one more message of the port's channel: a send there can't fail then, as long as
+    /// nothing else is sent there before.
+    pub fn reserve(&mut self, port: &Port) -> Result<(), NoMemory>
+        requires { is_outport port.now ≡ true }
+        ensures channels { chans_of self.new ≡ chans_of self.old }
+        ensures ok { OnOk result (HasRoom self.new (channel_of port.now)) }
+        ensures room { KeepsRoom self.old self.new }
+    {
+        match self.bodies.get_mut(port.channel()) {
+            Some(body) => body.reserve(),
+            None => Ok(()),
+        }
+    }
+
+    fn put(&mut self, port: &Port, message: Message) -> Result<Option<Message>, (Message, NoMemory)>
+        ensures ok { OnOk result (chans_of self.new ≡ after_op port.now (Push 0 message) (chans_of self.old)) }
+        ensures spilt { IfOk result (λ o. ports_back o ≡ spills_at (Push 0 message) (chan_at port.now (chans_of self.old))) }
+        ensures back { IfErr result (λ e. e.0 ≡ message) }
+        ensures err { OnErr result (chans_of self.new ≡ chans_of self.old) }
+        ensures reserved { HasRoom self.old (channel_of port.now) → IsOk result }
+        ensures room { KeepsOthersRoom (channel_of port.now) self.old self.new }
+    {
+        match self.bodies.get_mut(port.channel()) {
+            Some(body) => body.put_last(message),
+            None => Ok(None),
+        }
     }
 
     /// Puts a message last. Where the inport is gone, the message is discarded with the ports in it.
-    /// After want of memory the message comes back, and nothing has changed.
+    /// After want of memory, which comes only where the channel has no room for one more message, the
+    /// message comes back, and nothing has changed.
     pub fn send(&mut self, port: &Port, message: Message) -> Result<(), (Message, NoMemory)>
         requires { is_outport port.now ≡ true }
-        ensures ok { OnOk result (self.new ≡ sent port.now message self.old) }
+        ensures ok { OnOk result (chans_of self.new ≡ after_send port.now message (chans_of self.old)) }
         ensures back { IfErr result (λ e. e.0 ≡ message) }
-        ensures err { OnErr result (self.new ≡ self.old) }
+        ensures err { OnErr result (chans_of self.new ≡ chans_of self.old) }
+        ensures reserved { HasRoom self.old (channel_of port.now) → IsOk result }
+        ensures room { KeepsOthersRoom (channel_of port.now) self.old self.new }
     {
         match self.put(port, message)? {
-            Some(spilt) => self.discard_all(Dropping::of_message(self.alloc, spilt)),
+            Some(spilt) => self.discard_all(Discarding::of_message(self.alloc, spilt)),
             None => {}
         }
         Ok(())
     }
 
-    /// The oldest message, which leaves the queue; or a wait, or the end, which change nothing.
-    pub fn receive(&mut self, port: &Port) -> Got
+    /// The oldest message, which leaves the queue, where no item of it has more elements than its
+    /// limit; or that it exceeds the limits, a wait, or the end, which change nothing. The limits stand
+    /// for the items from the first on; `None`, and an item behind the last, have none.
+    pub fn receive(&mut self, port: &Port, limits: &[Option<u32>]) -> Got
         requires { is_outport port.now ≡ false }
-        ensures got { result ≡ got_at (chan_at port.now self.old) }
-        ensures channels { self.new ≡ adjusted port.now Pop self.old }
-        ensures unchanged { brings result ≡ false → self.new ≡ self.old }
+        ensures got { result ≡ got_at limits.now (chan_at port.now (chans_of self.old)) }
+        ensures channels { chans_of self.new ≡ after_op port.now (Pop limits.now) (chans_of self.old) }
+        ensures unchanged { brings result ≡ false → chans_of self.new ≡ chans_of self.old }
+        ensures room { KeepsRoom self.old self.new }
     {
-        let body = match self.bodies.get_mut(port.channel()) {
-            Some(body) => body,
-            None => return Got::Wait,
-        };
-        take_first(body)
+        match self.bodies.get_mut(port.channel()) {
+            Some(body) => body.receive(limits),
+            None => Got::Wait,
+        }
     }
 
-    fn let_go(&mut self, port: Port, dropping: &mut Dropping)
-        ensures channels { self.new ≡ shut port self.old }
-        ensures ports { dropped_ports dropping.new ≡ freed port (chan_at port self.old) ++ dropped_ports dropping.old }
+    fn shut(&mut self, port: Port, discarding: &mut Discarding)
+        ensures channels { chans_of self.new ≡ shut port (chans_of self.old) }
+        ensures ports { left_ports discarding.new ≡ freed port (chan_at port (chans_of self.old)) ++ left_ports discarding.old }
+        ensures room { KeepsRoom self.old self.new }
     {
-        let body = match self.bodies.get_mut(port.channel()) {
-            Some(body) => body,
-            None => return,
-        };
-        let_go_of(body, &port, dropping);
+        match self.bodies.get_mut(port.channel()) {
+            Some(body) => body.shut(&port, discarding),
+            None => {}
+        }
     }
 
-    fn discard_all(&mut self, mut dropping: Dropping)
-        ensures { self.new ≡ all_shed (dropped_ports dropping) self.old }
+    fn discard_all(&mut self, mut discarding: Discarding)
+        ensures channels { chans_of self.new ≡ all_shed (left_ports discarding) (chans_of self.old) }
+        ensures room { KeepsRoom self.old self.new }
     {
-        'ports: while let Some(port) = dropping.next() {
-            self.let_go(port, &mut dropping);
+        'ports: while let Some(port) = discarding.next() {
+            self.shut(port, &mut discarding);
         }
     }
 
     /// Closes the writer of an outport. What waits in the channel stays. Takes no memory.
     pub fn close(&mut self, port: Port)
         requires { is_outport port ≡ true }
-        ensures { self.new ≡ shut port self.old }
+        ensures channels { chans_of self.new ≡ shut port (chans_of self.old) }
+        ensures room { KeepsRoom self.old self.new }
     {
-        let mut nothing = Dropping::new(self.alloc);
-        self.let_go(port, &mut nothing);
+        let mut nothing = Discarding::new(self.alloc);
+        self.shut(port, &mut nothing);
     }
 
     /// Closes the writer of an outport, or forgets an inport with all that waits there; ports in the
     /// messages are discarded too. Takes no memory.
     pub fn discard(&mut self, port: Port)
-        ensures { self.new ≡ all_shed (port ∷ []) self.old }
+        ensures channels { chans_of self.new ≡ all_shed (port ∷ []) (chans_of self.old) }
+        ensures room { KeepsRoom self.old self.new }
     {
-        let mut dropping = Dropping::new(self.alloc);
-        self.let_go(port, &mut dropping);
-        self.discard_all(dropping);
+        let mut discarding = Discarding::new(self.alloc);
+        self.shut(port, &mut discarding);
+        self.discard_all(discarding);
     }
 
     /// Discards the ports of a message. Takes no memory.
     pub fn discard_message(&mut self, message: Message)
-        ensures { self.new ≡ all_shed (message_ports message) self.old }
+        ensures channels { chans_of self.new ≡ all_shed (message_ports message) (chans_of self.old) }
+        ensures room { KeepsRoom self.old self.new }
     {
-        self.discard_all(Dropping::of_message(self.alloc, message));
+        self.discard_all(Discarding::of_message(self.alloc, message));
     }
 
     /// The name of the port's channel.
@@ -291,5 +244,12 @@ impl Channels {
         ensures { result.now ≡ channel_of port.now }
     {
         port.channel()
+    }
+
+    /// The number of the writer that an outport is, or none of an inport.
+    pub fn writer(&self, port: &Port) -> Option<u32>
+        ensures { result ≡ writer_number port.now }
+    {
+        port.writer()
     }
 }

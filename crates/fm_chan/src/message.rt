@@ -30,3 +30,16 @@ impl Model for Message {
 
     ghost view = { λ m. map plain_item m.items };
 }
+
+/// What a receive got.
+#[derive(Debug, Drop)]
+pub enum Got {
+    /// The oldest message.
+    Message(Message),
+    /// A message is there, but an item of it has more elements than the receive takes; it stays.
+    Exceeds,
+    /// No message is there, and a writer is open.
+    Wait,
+    /// No message is there, and none comes any more.
+    End,
+}

@@ -2,7 +2,7 @@
 
 ghost use Rattle.std.specs.Prelude.{◌≡◌, IfOk};
 ghost use Rattle.fm_base.specs.Channels.{channel_of};
-ghost use Rattle.fm_chan.specs.Events.{is_outport};
+ghost use Rattle.fm_chan.specs.Events.{is_outport, writer_number};
 
 use fm_base::{ChanName, NoMemory, PortValue};
 use std::alloc::Global;
@@ -56,6 +56,16 @@ impl Port {
         match &self.value {
             PortValue::Writer(_, _) => true,
             PortValue::Reader(_) => false,
+        }
+    }
+
+    /// The number of the writer that an outport is, or none of an inport.
+    pub fn writer(&self) -> Option<u32>
+        ensures { result ≡ writer_number self.now }
+    {
+        match &self.value {
+            PortValue::Writer(_, number) => Some(*number),
+            PortValue::Reader(_) => None,
         }
     }
 }

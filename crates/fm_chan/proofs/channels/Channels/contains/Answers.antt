@@ -1,6 +1,6 @@
 use Rattle.std.proofs.Common.{◌∙◌}
-use Rattle.fm_chan.proofs.Maps.{some_found}
+use Rattle.fm_chan.proofs.Maps.{contains-chans_of}
 use Rattle.fm_chan.proofs.channels.Channels.contains.Goals as goal
 
 pub returns : goal.returns
-returns c = c.contains_key.ensures ∙ some_found c.self.inside.bodies.entries c.args.self.now c.args.name.now c.self.view_is
+returns c = c.contains_key.ensures ∙ contains-chans_of c.args.self.now c.args.name.now

@@ -1,13 +1,14 @@
 use Rattle.std.proofs.Common.{◌∷◌, ◌++◌, [], refl, ap, ◌∙◌}
 use Rattle.fm_base.specs.Channels.{freed}
+use Rattle.fm_discards.proofs.Shedding.{all_shed-first}
+use Rattle.fm_chan.specs.Bodies.{chans_of}
 use Rattle.fm_chan.specs.Events.{chan_at}
-use Rattle.fm_chan.specs.Rest.{dropped_ports}
-use Rattle.fm_chan.proofs.Shedding.{goes_on}
+use Rattle.fm_chan.specs.Rest.{left_ports}
 use Rattle.fm_chan.proofs.channels.Channels.discard.Goals as goal
 
-pub returns : goal.returns
-returns c =
+pub returns-clause-channels : goal.returns-clause-channels
+returns-clause-channels c =
     let x = c.args.port in
-    let m = c.args.self.now in
-    let ports = c.let_go.ensures.ports ∙ ap (λ xs. freed x (chan_at x m) ++ xs) c.new-dropping.ensures in
-    c.discard_all.ensures ∙ goes_on x (x ∷ []) [] (dropped_ports c.let_go.new.dropping) m c.let_go.new.self refl ports c.let_go.ensures.channels
+    let m = chans_of c.args.self.now in
+    let ports = c.shut.ensures.ports ∙ ap (λ xs. freed x (chan_at x m) ++ xs) c.new-discarding.ensures in
+    c.discard_all.ensures.channels ∙ all_shed-first x (x ∷ []) [] (left_ports c.shut.new.discarding) m (chans_of c.shut.new.self) refl ports c.shut.ensures.channels

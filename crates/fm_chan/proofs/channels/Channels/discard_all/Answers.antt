@@ -1,17 +1,21 @@
 use Rattle.std.proofs.Common.{ap, sym, ◌∙◌}
 use Rattle.fm_base.specs.Channels.{all_shed}
-use Rattle.fm_chan.specs.Rest.{dropped_ports}
-use Rattle.fm_chan.proofs.Shedding.{goes_on, falls, all_shed-nil}
+use Rattle.fm_discards.proofs.Shedding.{all_shed-first, weight-first, all_shed-nil}
+use Rattle.fm_chan.specs.Bodies.{chans_of}
+use Rattle.fm_chan.specs.Rest.{left_ports}
 use Rattle.fm_chan.proofs.Packing.{nothing_left}
 use Rattle.fm_chan.proofs.channels.Channels.discard_all.Goals as goal
 
 pub ports-smaller : goal.ports-smaller
-ports-smaller c = falls c.in-Some.port _ (dropped_ports c.next.new.self) _ c.ports.self _ c.in-Some.ensures c.let_go.ensures.ports c.let_go.ensures.channels
+ports-smaller c = weight-first c.in-Some.port _ (left_ports c.next.new.self) _ (chans_of c.ports.self) _ c.in-Some.ensures c.shut.ensures.ports c.shut.ensures.channels
 
 pub ports-preserved : goal.ports-preserved
-ports-preserved c = goes_on c.in-Some.port _ (dropped_ports c.next.new.self) _ c.ports.self _ c.in-Some.ensures c.let_go.ensures.ports c.let_go.ensures.channels ∙ c.ports.invariant
+ports-preserved c = (
+  all_shed-first c.in-Some.port _ (left_ports c.next.new.self) _ (chans_of c.ports.self) _ c.in-Some.ensures c.shut.ensures.ports c.shut.ensures.channels ∙ c.ports.invariant.0,
+  λ d room. c.shut.ensures.room d (c.ports.invariant.1 d room),
+)
 
-pub returns : goal.returns
-returns c =
-    let left = nothing_left c.next.result (dropped_ports c.ports.dropping) (dropped_ports c.next.new.self) c.in_default.not-Some c.next.ensures in
-    sym (ap (λ xs. all_shed xs c.ports.self) left ∙ all_shed-nil c.ports.self) ∙ c.ports.invariant
+pub returns-clause-channels : goal.returns-clause-channels
+returns-clause-channels c =
+    let left = nothing_left c.next.result (left_ports c.ports.discarding) (left_ports c.next.new.self) c.in_default.not-Some c.next.ensures in
+    sym (ap (λ xs. all_shed xs (chans_of c.ports.self)) left ∙ all_shed-nil (chans_of c.ports.self)) ∙ c.ports.invariant.0

@@ -4,8 +4,7 @@ use Rattle.fm_chan.proofs.Maps.{chan_found}
 use Rattle.fm_chan.proofs.channels.Channels.is_ready.Goals as goal
 
 pub returns-in-Some : goal.returns-in-Some
-returns-in-Some c =
-    c.can_receive.ensures ∙ ap pops_at (sym (chan_found c.self.inside.bodies.entries c.args.self.now c.channel.result.now c.args.port.now c.self.view_is c.channel.ensures (Some c.in-Some.body.now) c.in-Some.ensures.value))
+returns-in-Some c = c.is_ready.ensures ∙ ap pops_at (sym (chan_found c.args.self.now c.args.self.now c.channel.result.now c.args.port.now c.channel.ensures (Some c.in-Some.body.now) c.in-Some.ensures))
 
 pub returns-in-None : goal.returns-in-None
-returns-in-None c = ap pops_at (sym (chan_found c.self.inside.bodies.entries c.args.self.now c.channel.result.now c.args.port.now c.self.view_is c.channel.ensures None c.in-None.ensures.value))
+returns-in-None c = ap pops_at (sym (chan_found c.args.self.now c.args.self.now c.channel.result.now c.args.port.now c.channel.ensures None c.in-None.ensures))

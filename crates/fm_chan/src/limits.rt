@@ -1,0 +1,48 @@
+//! Limits of a receive.
+
+ghost use Rattle.std.specs.Prelude.{◌≡◌, map};
+ghost use Rattle.fm_base.specs.Channels.{item_length, is_within, fits_limits};
+ghost use Rattle.fm_chan.specs.Items.{plain_item};
+
+use crate::message::Item;
+
+fn item_length(item: &Item) -> usize
+    ensures { result ≡ item_length (plain_item item.now) }
+{
+    match item {
+        Item::Words(words) => words.len(),
+        Item::Ports(ports) => ports.len(),
+    }
+}
+
+fn is_within(limit: Option<u32>, item: &Item) -> bool
+    ensures { result ≡ is_within limit (plain_item item.now) }
+{
+    match limit {
+        None => true,
+        Some(most) => item_length(item) <= most as usize,
+    }
+}
+
+/// Whether no item has more elements than its limit. Items behind the last limit have none.
+pub fn fits_limits(limits: &[Option<u32>], items: &[Item]) -> bool
+    ensures { result ≡ fits_limits limits.now (map plain_item items.now) }
+{
+    let mut limits = limits;
+    let mut items = items;
+    'limits: loop {
+        let (limit, later) = match limits.split_first() {
+            Some(parts) => parts,
+            None => return true,
+        };
+        let (item, behind) = match items.split_first() {
+            Some(parts) => parts,
+            None => return true,
+        };
+        if !is_within(*limit, item) {
+            return false;
+        }
+        limits = later;
+        items = behind;
+    }
+}
