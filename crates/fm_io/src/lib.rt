@@ -12,8 +12,6 @@ mod piece;
 mod sink;
 mod source;
 mod std_streams;
-#[cfg(test)]
-mod trials;
 mod whole;
 
 pub use count_sink::CountSink;

@@ -1,10 +1,10 @@
 //! A sink over memory.
 
-ghost use Rattle.std.specs.Prelude.{◌≡◌, ◌<◌, Some, length, IfOk, ⊤};
+ghost use Rattle.std.specs.Prelude.{◌≡◌, ◌<◌, Some, length, true, IfOk};
 ghost use Rattle.std.specs.Io.{WritesAtMost};
 ghost use Rattle.std.specs.Io.KnownBytes.{WriteAppends};
 ghost use Rattle.fm_io.specs.Causes.{HasCause, Rose};
-ghost use Rattle.fm_io.specs.Memory.{new_tray, tray_fails, tray_takes, after_tray, AnswersUnless};
+ghost use Rattle.fm_io.specs.Memory.{new_tray, tray_fails, write_size, tray_after, flushed_tray, AnswersUnless};
 
 use crate::piece::is_listed;
 use crate::sink::Sink;
@@ -14,8 +14,8 @@ use std::alloc::Global;
 use std::marker::Model;
 
 /// Takes pieces up to its room, and fails at listed writes. Contracts see it as a `Tray`: the bytes
-/// written, the most bytes of a write and of all, the writes so far, those that fail, and the faults
-/// so far.
+/// written, the most bytes of a write and of all, the writes so far, those that fail, the faults so
+/// far, and whether all was flushed.
 #[derive(Debug, Drop)]
 pub struct MemSink {
     bytes: Vec<u8>,
@@ -24,6 +24,7 @@ pub struct MemSink {
     calls: u64,
     fail_at: Vec<u64>,
     faults: u64,
+    flushed: bool,
 }
 
 impl Model for MemSink {
@@ -39,6 +40,7 @@ impl Model for MemSink {
       calls = s.calls;
       fail_at = s.fail_at.items;
       faults = s.faults;
+      flushed = s.flushed;
     } };
 
     ghost invariant = { λ s. (0 < s.piece) × (s.room ≤ vec_capacity s.bytes) };
@@ -46,7 +48,7 @@ impl Model for MemSink {
 
 impl MemSink {
     /// Takes at most `piece` bytes a write, which is at least 1, and `room` in all. The writes numbered
-    /// in `fail_at`, counted from 1, fail. Takes the memory of its room at once.
+    /// in `fail_at`, count_after from 1, fail. Takes the memory of its room at once.
     pub fn new(
         alloc: Global,
         piece: usize,
@@ -63,6 +65,7 @@ impl MemSink {
             calls: 0,
             fail_at,
             faults: 0,
+            flushed: true,
         })
     }
 
@@ -79,7 +82,7 @@ impl Sink for MemSink {
 
     ghost faults = { λ s. s.faults };
 
-    ghost flushed = { λ s. ⊤ };
+    ghost flushed = { λ s. s.flushed ≡ true };
 
     /// A full room takes none of a piece that isn't empty, which is a fault.
     fn write(&mut self, buf: &[u8]) -> Result<usize, Failed>
@@ -87,11 +90,12 @@ impl Sink for MemSink {
         ensures bytes { WriteAppends (Some self.old.bytes) (Some self.new.bytes) result buf.now }
         ensures cause { HasCause self.old.faults self.new.faults result }
         ensures stuck { result ≡ Ok 0 → 0 < length buf.now → Rose self.old.faults self.new.faults }
-        ensures answer { AnswersUnless (tray_fails self.old) (tray_takes self.old (length buf.now)) result }
-        ensures after { self.new ≡ after_tray self.old buf.now }
+        ensures answer { AnswersUnless (tray_fails self.old) (write_size self.old (length buf.now)) result }
+        ensures after { self.new ≡ tray_after self.old buf.now }
     {
         let fails = is_listed(&self.fail_at, self.calls);
         self.calls = self.calls.saturating_add(1);
+        self.flushed = false;
         if fails {
             self.faults = self.faults.saturating_add(1);
             return Err(Failed);
@@ -109,8 +113,9 @@ impl Sink for MemSink {
 
     fn flush(&mut self) -> Result<(), Failed>
         ensures answer { result ≡ Ok tt }
-        ensures after { self.new ≡ self.old }
+        ensures after { self.new ≡ flushed_tray self.old }
     {
+        self.flushed = true;
         Ok(())
     }
 }

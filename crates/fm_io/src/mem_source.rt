@@ -5,7 +5,7 @@ ghost use Rattle.std.specs.Io.{ReadsAtMost};
 ghost use Rattle.std.specs.Io.KnownBytes.{ReadConsumes};
 ghost use Rattle.fm_io.specs.Causes.{HasCause};
 ghost use Rattle.fm_io.specs.Streams.{EndsExactly};
-ghost use Rattle.fm_io.specs.Memory.{new_feed, feed_fails, feed_gives, after_feed, sure_gives, after_sure, AnswersUnless};
+ghost use Rattle.fm_io.specs.Memory.{new_feed, feed_fails, read_size, feed_after, sure_read_size, sure_after, AnswersUnless};
 
 use crate::piece::{copy_piece, is_listed};
 use crate::source::{Failed, Source};
@@ -42,7 +42,7 @@ impl Model for MemSource {
 
 impl MemSource {
     /// Gives these bytes, at most `piece` of them a call, where `piece` is at least 1. The calls
-    /// numbered in `fail_at`, counted from 1, fail. Takes no memory.
+    /// numbered in `fail_at`, count_after from 1, fail. Takes no memory.
     pub fn new(bytes: Vec<u8>, piece: usize, fail_at: Vec<u64>) -> MemSource
         requires { 0 < piece }
         ensures { result ≡ new_feed bytes.items piece fail_at.items }
@@ -68,8 +68,8 @@ impl Source for MemSource {
         ensures bytes { ReadConsumes (Some self.old.left) (Some self.new.left) result buf.new }
         ensures end { EndsExactly (Some self.old.left) result (length buf.old) }
         ensures cause { HasCause self.old.faults self.new.faults result }
-        ensures answer { AnswersUnless (feed_fails self.old) (feed_gives self.old (length buf.old)) result }
-        ensures after { self.new ≡ after_feed self.old (length buf.old) }
+        ensures answer { AnswersUnless (feed_fails self.old) (read_size self.old (length buf.old)) result }
+        ensures after { self.new ≡ feed_after self.old (length buf.old) }
     {
         let fails = is_listed(&self.fail_at, self.calls);
         self.calls = self.calls.saturating_add(1);
@@ -127,8 +127,8 @@ impl Source for SureSource {
         ensures bytes { ReadConsumes (Some self.old.left) (Some self.new.left) result buf.new }
         ensures end { EndsExactly (Some self.old.left) result (length buf.old) }
         ensures cause { HasCause 0 0 result }
-        ensures answer { result ≡ Ok (sure_gives self.old (length buf.old)) }
-        ensures after { self.new ≡ after_sure self.old (length buf.old) }
+        ensures answer { result ≡ Ok (sure_read_size self.old (length buf.old)) }
+        ensures after { self.new ≡ sure_after self.old (length buf.old) }
     {
         let count = copy_piece(&self.bytes[self.at..], buf, self.piece);
         self.at += count;

@@ -16,7 +16,7 @@ pub trait Sink {
     /// How often it has failed. Never falls.
     ghost faults: { Self → ℕ };
 
-    /// What holds of it once a flush succeeded, where the sink tells.
+    /// All that was written was handed on.
     ghost flushed: { Self → Type 0 };
 
     /// Takes bytes from the front of the piece and says how many. Fails, or takes none of a piece
