@@ -2,25 +2,25 @@
 use Rattle.std.proofs.Common.{◌≡◌, ℕ, ◌-◌, ◌^◌, ◌<◌, ◌≤◌, Bool, true, false, cond, ◌&&◌, List, [], ◌∷◌, length, drop, ◌==◌, nat_lt, nat_le, refl, ap, sym, subst, ◌∙◌, arith}
 use Rattle.std.specs.Prelude.{Some, None, Result, Ok, Err}
 use Rattle.std.specs.List.{list_all}
-use Rattle.std.specs.Char.{digit_value}
+use Rattle.std.specs.Char.{digit_value, is_ascii_digit}
 use Rattle.std.specs.Result.{OkIff, result_ok}
 use Rattle.std.specs.Str.Parse.{digits_value, AllDigits, IsNumeral, ParsesUnsigned, without_leading_plus}
 use Rattle.std.proofs.lemmas.Bool.Decides.{nat_tests}
 use Rattle.std.proofs.lemmas.Int.Digits.{digits_value-lt}
 use Rattle.std.proofs.Math.Nat.{pow-le-pow_right}
-use Rattle.fm_words.specs.Words.{is_digit, is_numeral, number_of}
+use Rattle.fm_words.specs.Words.{is_numeral, number_of}
 
-digit : (c : ℕ) → is_digit c ≡ true → (digit_value c ≡ c - 48) × (48 ≤ c) × (c < 58)
+digit : (c : ℕ) → is_ascii_digit c ≡ true → (digit_value c ≡ c - 48) × (48 ≤ c) × (c < 58)
 digit c e = grind (arith, nat_tests)
 
 both_true : (a b : Bool) → (a && b) ≡ true → (a ≡ true) × (b ≡ true)
 both_true true b e = (refl, e)
 both_true false b e = cc
 
-all_digits : (ds : List ℕ) → list_all is_digit ds ≡ true → AllDigits 10 ds
+all_digits : (ds : List ℕ) → list_all is_ascii_digit ds ≡ true → AllDigits 10 ds
 all_digits [] e = tt
 all_digits (d ∷ ds) e =
-    let p = both_true (is_digit d) (list_all is_digit ds) e in
+    let p = both_true (is_ascii_digit d) (list_all is_ascii_digit ds) e in
     let q = digit d p.0 in
     (omega (arith, q.0, q.1, q.2), all_digits ds p.1)
 
@@ -28,11 +28,11 @@ all_digits (d ∷ ds) e =
 record IsShort (ds : List ℕ) : Type 0 where
   some : 0 < length ds
   few : length ds ≤ 18
-  digits : list_all is_digit ds ≡ true
+  digits : list_all is_ascii_digit ds ≡ true
 
 short : (ds : List ℕ) → is_numeral ds ≡ true → IsShort ds
 short ds e =
-    let p = both_true (nat_lt 0 (length ds) && nat_le (length ds) 18) (list_all is_digit ds) e in
+    let p = both_true (nat_lt 0 (length ds) && nat_le (length ds) 18) (list_all is_ascii_digit ds) e in
     let q = both_true (nat_lt 0 (length ds)) (nat_le (length ds) 18) p.0 in
     record { some = grind (arith, nat_tests); few = grind (arith, nat_tests); digits = p.1 }
 
@@ -40,10 +40,10 @@ no_sign : (d : ℕ) (ds : List ℕ) (b : Bool) → b ≡ false → drop (cond b 
 no_sign d ds true e = cc
 no_sign d ds false e = refl
 
-unsigned : (ds : List ℕ) → list_all is_digit ds ≡ true → without_leading_plus ds ≡ ds
+unsigned : (ds : List ℕ) → list_all is_ascii_digit ds ≡ true → without_leading_plus ds ≡ ds
 unsigned [] e = refl
 unsigned (d ∷ ds) e =
-    let q = digit d (both_true (is_digit d) (list_all is_digit ds) e).0 in
+    let q = digit d (both_true (is_ascii_digit d) (list_all is_ascii_digit ds) e).0 in
     no_sign d ds (d == 43) (grind (arith, nat_tests, q.1))
 
 small : (ds : List ℕ) → IsShort ds → digits_value 10 ds < 2 ^ 64

@@ -5,5 +5,5 @@ use Rattle.fm_words.specs.declared.option.Setting.{Setting}
 use Rattle.fm_words.specs.declared.option.Setting.TheVariants.{Turns, Vars}
 use Rattle.fm_words.specs.declared.settings.Settings.{Settings}
 
-abbrev pub held : Settings → List Setting
-held s = option_to_list (option_map Turns s.turns) ++ cond s.vars (Vars ∷ []) []
+abbrev pub options_of : Settings → List Setting
+options_of s = option_to_list (option_map Turns s.turns) ++ cond s.vars (Vars ∷ []) []

@@ -1,6 +1,7 @@
 -- The command set: which words are a command, and which command.
 -- Source: this profile.
 use Rattle.std.specs.Prelude.{ℕ, Bool, true, false, ◌&&◌, cond, nat_le, nat_lt, Option, Some, None, option_map, option_and_then, List, [], ◌∷◌, length, take, drop, filter, codes}
+use Rattle.std.specs.Char.{is_ascii_digit}
 use Rattle.std.specs.List.{list_all, list_any, filter_map}
 use Rattle.std.specs.Str.{bytes_eq}
 use Rattle.std.specs.Str.Parse.{digits_value}
@@ -9,13 +10,9 @@ use Rattle.fm_words.specs.declared.command.Command.TheVariants as command
 use Rattle.fm_words.specs.declared.option.Setting.{Setting}
 use Rattle.fm_words.specs.declared.option.Setting.TheVariants.{Turns, Vars}
 
--- 0 to 9
-abbrev pub is_digit : ℕ → Bool
-is_digit x = nat_le 48 x && nat_le x 57
-
 -- 1 to 18 digits
 abbrev pub is_numeral : List ℕ → Bool
-is_numeral word = nat_lt 0 (length word) && nat_le (length word) 18 && list_all is_digit word
+is_numeral word = nat_lt 0 (length word) && nat_le (length word) 18 && list_all is_ascii_digit word
 
 -- 1 to 1,000,000,000
 abbrev pub is_bound : ℕ → Bool
@@ -30,27 +27,27 @@ abbrev pub turns_of : List ℕ → Option ℕ
 turns_of word = option_and_then (λ n. cond (is_bound n) (Some n) None) (number_of word)
 
 -- what stands behind a front, where the word begins with it
-abbrev pub behind : List ℕ → List ℕ → Option (List ℕ)
-behind front word = cond (bytes_eq (take (length front) word) front) (Some (drop (length front) word)) None
+abbrev pub rest_behind : List ℕ → List ℕ → Option (List ℕ)
+rest_behind front word = cond (bytes_eq (take (length front) word) front) (Some (drop (length front) word)) None
 
 -- an option of one word: `--vars`, or `--turns=` with its bound
 abbrev pub setting_of : List ℕ → Option Setting
-setting_of word = cond (bytes_eq word (codes "--vars")) (Some Vars) (option_map Turns (option_and_then turns_of (behind (codes "--turns=") word)))
+setting_of word = cond (bytes_eq word (codes "--vars")) (Some Vars) (option_map Turns (option_and_then turns_of (rest_behind (codes "--turns=") word)))
 
 -- an option in front of others
-abbrev pub in_front : Option Setting → Option (List Setting) → Option (List Setting)
-in_front first others = option_and_then (λ s. option_map (λ ss. s ∷ ss) others) first
+abbrev pub first_and_others : Option Setting → Option (List Setting) → Option (List Setting)
+first_and_others first others = option_and_then (λ s. option_map (λ ss. s ∷ ss) others) first
 
 -- the options that the words are cut into, or none where they are no options: the word `--turns` takes the next one
 abbrev mutual
   pub settings_of : List (List ℕ) → Option (List Setting)
   settings_of [] = Some []
-  settings_of (w ∷ ws) = cond (bytes_eq w (codes "--turns")) (settings_behind ws) (in_front (setting_of w) (settings_of ws))
+  settings_of (w ∷ ws) = cond (bytes_eq w (codes "--turns")) (settings_behind ws) (first_and_others (setting_of w) (settings_of ws))
 
   -- and those of the words behind `--turns`
   pub settings_behind : List (List ℕ) → Option (List Setting)
   settings_behind [] = None
-  settings_behind (w ∷ ws) = in_front (option_map Turns (turns_of w)) (settings_of ws)
+  settings_behind (w ∷ ws) = first_and_others (option_map Turns (turns_of w)) (settings_of ws)
 
 abbrev pub turns_in : Setting → Option ℕ
 turns_in (Turns n) = Some n

@@ -2,10 +2,10 @@
 
 ghost use Rattle.std.specs.Prelude.{◌≡◌, ◌++◌, map, option_and_then};
 ghost use Rattle.fm_words.specs.Words.{settings_of, run_with, list_with, command_of};
-ghost use Rattle.fm_words.specs.Held.{held};
+ghost use Rattle.fm_words.specs.Held.{options_of};
 
-use crate::option::next;
-use crate::settings::{Settings, no_settings, run, with};
+use crate::option::next_option;
+use crate::settings::{Settings, no_settings, run_command, settings_with};
 
 /// What the words ask for.
 #[derive(Clone, Copy, Debug, PartialEq, Eq)]
@@ -24,13 +24,13 @@ pub enum Command {
 // `run` with these options and those that the words spell. An option that stands twice ends it, so
 // it goes three deep at most.
 fn run_further(settings: Settings, words: &[&str]) -> Option<Command>
-    ensures { result ≡ option_and_then (λ ss. run_with (held settings ++ ss)) (settings_of (map (λ w. w.now) words.now)) }
+    ensures { result ≡ option_and_then (λ ss. run_with (options_of settings ++ ss)) (settings_of (map (λ w. w.now) words.now)) }
 {
     let Some((word, others)) = words.split_first() else {
-        return Some(run(settings));
+        return Some(run_command(settings));
     };
-    let (setting, behind) = next(word, others)?;
-    run_further(with(settings, setting)?, behind)
+    let (setting, behind) = next_option(word, others)?;
+    run_further(settings_with(settings, setting)?, behind)
 }
 
 fn run_words(words: &[&str]) -> Option<Command>
@@ -51,7 +51,7 @@ fn list_words(words: &[&str]) -> Option<Command>
 
 /// The command that the words are, or none where they aren't in the command set. Linear in the
 /// number of words.
-pub fn words(words: &[&str]) -> Option<Command>
+pub fn command_of(words: &[&str]) -> Option<Command>
     ensures { result ≡ command_of (map (λ w. w.now) words.now) }
 {
     let (first, rest) = words.split_first()?;

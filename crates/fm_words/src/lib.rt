@@ -5,7 +5,4 @@ mod command;
 mod option;
 mod settings;
 
-pub use command::{Command, words};
-
-#[cfg(test)]
-mod tests;
+pub use command::{Command, command_of};

@@ -1,8 +1,9 @@
 //! The options of `run`.
 
 ghost use Rattle.std.specs.Prelude.{◌≡◌, ◌∷◌, ◌≤◌, map, length, None, Some, MatchOption};
+ghost use Rattle.std.specs.Char.{is_ascii_digit};
 ghost use Rattle.std.specs.List.{list_all};
-ghost use Rattle.fm_words.specs.Words.{is_digit, is_numeral, number_of, is_bound, turns_of, setting_of, in_front, settings_of};
+ghost use Rattle.fm_words.specs.Words.{is_numeral, number_of, is_bound, turns_of, setting_of, first_and_others, settings_of};
 
 /// The most turns that a run may be given.
 const MOST_TURNS: u64 = 1_000_000_000;
@@ -19,16 +20,10 @@ pub enum Setting {
     Vars,
 }
 
-fn is_digit(byte: u8) -> bool
-    ensures { result ≡ is_digit byte }
-{
-    48 <= byte && byte <= 57
-}
-
 fn all_digits(bytes: &[u8]) -> bool
-    ensures { result ≡ list_all is_digit bytes.now }
+    ensures { result ≡ list_all is_ascii_digit bytes.now }
 {
-    bytes.iter().all(|b| is_digit(*b))
+    bytes.iter().all(|byte| byte.is_ascii_digit())
 }
 
 fn is_numeral(word: &str) -> bool
@@ -74,8 +69,8 @@ pub fn setting_of(word: &str) -> Option<Setting>
 }
 
 /// The option that begins with a word, and the words behind it.
-pub fn next<'a, 'b>(word: &str, behind: &'a [&'b str]) -> Option<(Setting, &'a [&'b str])>
-    ensures { MatchOption result (settings_of (word.now ∷ map (λ w. w.now) behind.now) ≡ None) (λ r. (settings_of (word.now ∷ map (λ w. w.now) behind.now) ≡ in_front (Some r.0) (settings_of (map (λ w. w.now) r.1.now))) × (length r.1.now ≤ length behind.now)) }
+pub fn next_option<'a, 'b>(word: &str, behind: &'a [&'b str]) -> Option<(Setting, &'a [&'b str])>
+    ensures { MatchOption result (settings_of (word.now ∷ map (λ w. w.now) behind.now) ≡ None) (λ r. (settings_of (word.now ∷ map (λ w. w.now) behind.now) ≡ first_and_others (Some r.0) (settings_of (map (λ w. w.now) r.1.now))) × (length r.1.now ≤ length behind.now)) }
 {
     if word == "--turns" {
         let (bound, behind) = behind.split_first()?;

@@ -3,7 +3,7 @@
 ghost use Rattle.std.specs.Prelude.{◌≡◌, [], ◌∷◌, ◌++◌, None, Some, List, MatchOption};
 ghost use Rattle.fm_words.specs.declared.option.Setting.{Setting};
 ghost use Rattle.fm_words.specs.Words.{run_with};
-ghost use Rattle.fm_words.specs.Held.{held};
+ghost use Rattle.fm_words.specs.Held.{options_of};
 
 use crate::command::Command;
 use crate::option::Setting;
@@ -22,7 +22,7 @@ pub struct Settings {
 
 /// No options.
 pub fn no_settings() -> Settings
-    ensures { held result ≡ [] }
+    ensures { options_of result ≡ [] }
 {
     Settings {
         turns: None,
@@ -31,8 +31,8 @@ pub fn no_settings() -> Settings
 }
 
 /// The options with one more, or none where it stands there already.
-pub fn with(settings: Settings, next: Setting) -> Option<Settings>
-    ensures { MatchOption result ((others : List Setting) → run_with (held settings ++ next ∷ others) ≡ None) (λ r. (others : List Setting) → run_with (held settings ++ next ∷ others) ≡ run_with (held r ++ others)) }
+pub fn settings_with(settings: Settings, next: Setting) -> Option<Settings>
+    ensures { MatchOption result ((others : List Setting) → run_with (options_of settings ++ next ∷ others) ≡ None) (λ r. (others : List Setting) → run_with (options_of settings ++ next ∷ others) ≡ run_with (options_of r ++ others)) }
 {
     let Settings { turns, vars } = settings;
     match next {
@@ -52,8 +52,8 @@ pub fn with(settings: Settings, next: Setting) -> Option<Settings>
 }
 
 /// `run` with these options.
-pub fn run(settings: Settings) -> Command
-    ensures { run_with (held settings) ≡ Some result }
+pub fn run_command(settings: Settings) -> Command
+    ensures { run_with (options_of settings) ≡ Some result }
 {
     Command::Run {
         turns: settings.turns.unwrap_or(TURNS),
