@@ -1,3 +1,4 @@
-pub mod Lines
-pub mod ScanLaws
-pub mod OneVerdict
+mod Labels
+mod Lines
+mod ScanLaws
+pub mod PhaseZero

@@ -5,9 +5,10 @@ use Rattle.std.specs.Prelude.{◌≡◌, ℕ, ◌+◌, not, ◌||◌, Bool, Opti
 use Rattle.std.specs.List.{list_any, list_all, flat_map}
 use Rattle.fm_base.specs.declared.rule.Refusal.{Refusal}
 use Rattle.fm_base.specs.declared.rule.Rule.TheVariants.{E01, E02, E03, E04, E05}
+use Rattle.fm_base.specs.Positions.{is_inside}
 use Rattle.fm_base.specs.Verdict.{place, when, IsVerdict, IsOfPhase}
 use Rattle.fm_cards.specs.Lines.{Row, is_blank}
-use Rattle.fm_cards.specs.Cards.{Group, Parted, parts_of, text_of, apostrophes, is_odd, is_bad_field}
+use Rattle.fm_cards.specs.Cards.{Group, Parts, parts_of, text_of, is_bad_field}
 
 -- outside 32 to 126
 abbrev pub is_bad_character : ℕ → Bool
@@ -31,18 +32,17 @@ abbrev pub in_continuations : ℕ → List Row → List Refusal
 in_continuations before [] = []
 in_continuations before (row ∷ more) = in_continuation before row ++ in_continuations (before + 1) more
 
--- a statement: its lines, and at the first one a constant that is open at the end; the apostrophes are
--- counted before the text is squeezed
+-- a statement: its lines, and at the first one a constant that is open at the end of the text
 abbrev pub in_group : Group → List Refusal
 in_group group =
     in_initial group.first ++ in_continuations 0 group.more
-    ++ when (is_odd (apostrophes (text_of group))) (place group.first.line E05)
+    ++ when (is_inside (text_of group)) (place group.first.line E05)
 
 -- a continuation line with no initial line before it: a bad character, and its place itself
 abbrev pub in_front : Row → List Refusal
 in_front row = when (list_any is_bad_character row.columns) (place row.line E01) ++ place row.line E03 ∷ []
 
-abbrev pub in_parts : Parted → List Refusal
+abbrev pub in_parts : Parts → List Refusal
 in_parts parts = flat_map in_front parts.front ++ flat_map in_group parts.groups
 
 -- each rule that is broken, with its line

@@ -1,29 +1,26 @@
 -- The lines of a text, their 72 columns, and their kinds.
--- Source: ANSI X3.9-1978, section 3.2; that `c` and `!` mark comments, the line ends, and that short
--- lines are filled up are this profile's.
+-- Source: ANSI X3.9-1978, sections 3.2 (lines) and 3.2.1 to 3.2.3 (comment, initial and continuation lines); that `c`
+-- and `!` mark comments, the line ends, and that short lines are filled up are this profile's.
 use Rattle.std.specs.Prelude.{ℕ, ◌+◌, ◌-◌, not, ◌||◌, Bool, List, [], ◌∷◌, ◌++◌, take, length, replicate, slice_index, ◌==◌, if◌then◌else◌}
 use Rattle.std.specs.List.{list_all}
 
--- a byte before the first of some lines
-abbrev pub joined : ℕ → List (List ℕ) → List (List ℕ)
-joined b [] = (b ∷ []) ∷ []
-joined b (line ∷ more) = (b ∷ line) ∷ more
+-- the lines of a byte, which ends no line, and what stands behind it
+abbrev pub behind_byte : ℕ → List (List ℕ) → List (List ℕ)
+behind_byte b [] = (b ∷ []) ∷ []
+behind_byte b (line ∷ more) = (b ∷ line) ∷ more
 
 -- the bytes up to each line feed, and what stands behind the last one where something does
 abbrev pub lines : List ℕ → List (List ℕ)
 lines [] = []
-lines (b ∷ bs) = if b == 10 then [] ∷ lines bs else joined b (lines bs)
+lines (b ∷ bs) = if b == 10 then [] ∷ lines bs else behind_byte b (lines bs)
 
 -- without one carriage return at the end
 abbrev pub without_return : List ℕ → List ℕ
 without_return line = if slice_index line (length line - 1) == 13 then take (length line - 1) line else line
 
 -- columns 1 to 72: what stands behind them is cut off, and a shorter line is filled up with blanks
-abbrev pub columns : List ℕ → List ℕ
-columns line = take 72 line ++ replicate (72 - length line) 32
-
 abbrev pub columns_of : List ℕ → List ℕ
-columns_of line = columns (without_return line)
+columns_of line = take 72 (without_return line) ++ replicate (72 - length (without_return line)) 32
 
 abbrev pub is_blank : ℕ → Bool
 is_blank b = b == 32

@@ -2,13 +2,13 @@
 
 ghost use Rattle.std.specs.Prelude.{◌≡◌, ◌≤◌, length};
 ghost use Rattle.std.specs.List.{list_any};
-ghost use Rattle.std.specs.Char.{is_ascii_digit};
-ghost use Rattle.fm_cards.specs.Cards.{number_behind, is_no_label_character, is_bad_field, label_of};
+ghost use Rattle.fm_base.specs.Letters.{is_digit};
+ghost use Rattle.fm_cards.specs.Cards.{number_of_digits, is_no_label_character, is_bad_field, label_of};
 
 use fm_base::Label;
 
 fn has_digit(field: &[u8]) -> bool
-    ensures { result ≡ list_any is_ascii_digit field.now }
+    ensures { result ≡ list_any is_digit field.now }
 {
     field.iter().any(|b| b.is_ascii_digit())
 }
@@ -21,10 +21,10 @@ fn has_no_label_character(field: &[u8]) -> bool
 
 fn number(field: &[u8]) -> u32
     requires { length field.now ≤ 5 }
-    ensures { result ≡ number_behind 0 field.now }
+    ensures { result ≡ number_of_digits field.now }
 {
     let mut number = 0u32;
-    for byte in field {
+    'bytes: for byte in field {
         if byte.is_ascii_digit() {
             number = 10 * number + u32::from(*byte - b'0');
         }

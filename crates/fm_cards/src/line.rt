@@ -19,7 +19,7 @@ pub(crate) fn first_line(source: &[u8]) -> Option<(&[u8], &[u8])>
     if n == 0 {
         return None;
     }
-    for i in 0..n {
+    'bytes: for i in 0..n {
         if source[i] == b'\n' {
             let (line, _) = source.split_at(i);
             let (_, behind) = source.split_at(i + 1);
@@ -42,7 +42,7 @@ fn strip_return(line: &[u8]) -> &[u8]
 }
 
 // Columns 1 to 72.
-pub(crate) fn columns(alloc: Global, line: &[u8]) -> Result<Vec<u8>, NoMemory>
+pub(crate) fn columns_of(alloc: Global, line: &[u8]) -> Result<Vec<u8>, NoMemory>
     ensures columns { IfOk result (λ r. r.items ≡ columns_of line.now) }
     ensures length { IfOk result (λ r. length r.items ≡ 72) }
 {

@@ -5,12 +5,12 @@ ghost use Rattle.fm_base.specs.Verdict.{IsClean, IsRefusal, least};
 ghost use Rattle.fm_cards.specs.Lines.{row_at};
 ghost use Rattle.fm_cards.specs.Cards.{cards_of};
 ghost use Rattle.fm_cards.specs.Broken.{places_of, IsBroken};
-ghost use Rattle.fm_cards.specs.Scan.{squeezed_if, inside_after, finished, begun, continued, taken};
+ghost use Rattle.fm_cards.specs.Scan.{squeezed_if, inside_after, after_end, after_initial, after_continuation, after_row};
 
 use crate::card::Card;
 use crate::judging::{check_continuation, check_front, check_initial, keep_if};
 use crate::label::label;
-use crate::line::{columns, first_line, is_comment, is_continuation};
+use crate::line::{columns_of, first_line, is_comment, is_continuation};
 use fm_base::{CheckFail, Line, NoMemory, Refusal, Rule, Seq};
 use std::alloc::Global;
 
@@ -37,7 +37,7 @@ fn squeeze(text: &mut Seq<u8>, columns: &[u8], inside: bool) -> Result<bool, NoM
     ensures inside { IfOk result (λ r. r ≡ inside_after inside columns.now) }
 {
     let mut inside = inside;
-    for byte in columns {
+    'bytes: for byte in columns {
         if inside {
             text.push(*byte)?;
         } else if *byte != b' ' {
@@ -52,7 +52,7 @@ fn squeeze(text: &mut Seq<u8>, columns: &[u8], inside: bool) -> Result<bool, NoM
 
 // The statement that was started ends.
 fn finish(reader: &mut Reader) -> Result<(), NoMemory>
-    ensures { IfOk result (λ _. reader.new ≡ finished reader.old) }
+    ensures { IfOk result (λ _. reader.new ≡ after_end reader.old) }
 {
     if let Some(started) = reader.started.take() {
         reader.best = keep_if(reader.best, started.inside, started.card.line, Rule::E05);
@@ -64,7 +64,7 @@ fn finish(reader: &mut Reader) -> Result<(), NoMemory>
 // An initial row comes.
 fn begin(alloc: Global, reader: &mut Reader, line: Line, row: &[u8]) -> Result<(), NoMemory>
     requires { length row.now ≡ 72 }
-    ensures reader { IfOk result (λ _. reader.new ≡ begun reader.old (row_at line.0 row.now)) }
+    ensures reader { IfOk result (λ _. reader.new ≡ after_initial reader.old (row_at line.0 row.now)) }
     ensures few { IfOk result (λ _. IfSome reader.new.started (λ s. s.continuations ≡ 0)) }
 {
     finish(reader)?;
@@ -91,7 +91,7 @@ fn grow(reader: &mut Reader, line: Line, row: &[u8]) -> Result<(), NoMemory>
     requires length { length row.now ≡ 72 }
     requires few { IfSome reader.old.started (λ s. s.continuations < line.0) }
     ensures few { IfOk result (λ _. IfSome reader.new.started (λ s. s.continuations < line.0 + 1)) }
-    ensures reader { IfOk result (λ _. reader.new ≡ continued reader.old (row_at line.0 row.now)) }
+    ensures reader { IfOk result (λ _. reader.new ≡ after_continuation reader.old (row_at line.0 row.now)) }
 {
     match reader.started.take() {
         None => reader.best = check_front(reader.best, line, row),
@@ -110,7 +110,7 @@ fn grow(reader: &mut Reader, line: Line, row: &[u8]) -> Result<(), NoMemory>
 fn take(alloc: Global, reader: &mut Reader, line: Line, row: &[u8]) -> Result<(), NoMemory>
     requires length { length row.now ≡ 72 }
     requires few { IfSome reader.old.started (λ s. s.continuations < line.0) }
-    ensures reader { IfOk result (λ _. reader.new ≡ taken reader.old line.0 row.now) }
+    ensures reader { IfOk result (λ _. reader.new ≡ after_row reader.old line.0 row.now) }
     ensures few { IfOk result (λ _. IfSome reader.new.started (λ s. s.continuations < line.0 + 1)) }
 {
     if is_comment(row) {
@@ -123,7 +123,7 @@ fn take(alloc: Global, reader: &mut Reader, line: Line, row: &[u8]) -> Result<()
     }
 }
 
-// The whole text taken.
+// The whole text read.
 fn scan(alloc: Global, source: &[u8]) -> Result<Reader, NoMemory>
     requires { length source.now ≤ 1_000_000 }
     ensures cards { IfOk result (λ r. r.cards ≡ cards_of source.now) }
@@ -136,8 +136,8 @@ fn scan(alloc: Global, source: &[u8]) -> Result<Reader, NoMemory>
     };
     let mut rest = source;
     let mut line = 1u32;
-    while let Some((bytes, behind)) = first_line(rest) {
-        let row = columns(alloc, bytes)?;
+    'lines: while let Some((bytes, behind)) = first_line(rest) {
+        let row = columns_of(alloc, bytes)?;
         take(alloc, &mut reader, Line(line), &row)?;
         rest = behind;
         line += 1;

@@ -5,19 +5,19 @@ use Rattle.std.proofs.lemmas.Bool.{eqb-true}
 use Rattle.std.specs.List.{flat_map}
 use Rattle.fm_base.specs.Tokens.{doubled, constant_text}
 use Rattle.fm_token.proofs.Cuts.{front_split, from_empty}
-use Rattle.fm_token.specs.Pieces.{with_front, constant_bytes}
+use Rattle.fm_token.specs.Steps.{behind_items, constant_bytes}
 
 written : List ℕ → List ℕ
 written bytes = flat_map doubled bytes ++ 39 ∷ []
 
 -- the three ways a byte may stand
-step_plain : (b : ℕ) (bs : List ℕ) → eqb b 39 ≡ false → constant_bytes false (b ∷ bs) ≡ with_front (b ∷ []) (constant_bytes false bs)
+step_plain : (b : ℕ) (bs : List ℕ) → eqb b 39 ≡ false → constant_bytes false (b ∷ bs) ≡ behind_items (b ∷ []) (constant_bytes false bs)
 step_plain b bs e = rw e refl
 
-step_first : (b : ℕ) (bs : List ℕ) → eqb b 39 ≡ true → constant_bytes false (b ∷ bs) ≡ with_front [] (constant_bytes true bs)
+step_first : (b : ℕ) (bs : List ℕ) → eqb b 39 ≡ true → constant_bytes false (b ∷ bs) ≡ behind_items [] (constant_bytes true bs)
 step_first b bs e = rw e refl
 
-step_second : (b : ℕ) (bs : List ℕ) → eqb b 39 ≡ true → constant_bytes true (b ∷ bs) ≡ with_front (b ∷ []) (constant_bytes false bs)
+step_second : (b : ℕ) (bs : List ℕ) → eqb b 39 ≡ true → constant_bytes true (b ∷ bs) ≡ behind_items (b ∷ []) (constant_bytes false bs)
 step_second b bs e = rw e refl
 
 step_stop : (b : ℕ) (bs : List ℕ) → eqb b 39 ≡ false → constant_bytes true (b ∷ bs) ≡ None
@@ -33,10 +33,10 @@ reads (b ∷ bs) =
     elim (eqb b 39) as (λ t. eqb b 39 ≡ t → constant_bytes false ((doubled b ++ flat_map doubled bs) ++ 39 ∷ []) ≡ Some (b ∷ bs)) [
       | true ↦ λ e. let is : b ≡ 39 = eqb-true b 39 e in
           subst (λ (x : ℕ). constant_bytes false ((doubled x ++ flat_map doubled bs) ++ 39 ∷ []) ≡ Some (x ∷ bs)) (sym is)
-          (ap (λ (o : Option (List ℕ)). with_front [] (with_front (39 ∷ []) o)) (reads bs))
+          (ap (λ (o : Option (List ℕ)). behind_items [] (behind_items (39 ∷ []) o)) (reads bs))
       | false ↦ λ e.
           ap (λ (d : List ℕ). constant_bytes false ((d ++ flat_map doubled bs) ++ 39 ∷ [])) (doubled_plain b e)
-          ∙ step_plain b (flat_map doubled bs ++ 39 ∷ []) e ∙ ap (with_front (b ∷ [])) (reads bs)
+          ∙ step_plain b (flat_map doubled bs ++ 39 ∷ []) e ∙ ap (behind_items (b ∷ [])) (reads bs)
     ] refl
 
 -- what was read, an apostrophe that waits included

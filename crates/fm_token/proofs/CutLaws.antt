@@ -3,7 +3,10 @@ use Rattle.std.proofs.Common.{◌≡◌, ℕ, suc, zero, ◌≤◌, ◌<◌, tru
 use Rattle.std.proofs.Math.Dec.{eqb}
 use Rattle.std.proofs.lemmas.Bool.{eqb-true, eqb-false}
 use Rattle.fm_base.specs.declared.token.Token.{Token}
-use Rattle.fm_token.specs.Pieces.{with_front, token_at, sized, or_shorter, longest_within, longest, IsLongest, IsCut, cut_of}
+use Rattle.fm_token.specs.Pieces.{IsLongestToken, IsCut}
+use Rattle.fm_token.specs.Cutting.{sized, or_shorter, longest_within, longest, cut_of}
+use Rattle.fm_token.specs.Steps.{behind_items, token_at}
+use Rattle.fm_token.proofs.TokenAt.{token_nil, token_is, is_token, no_token, not_token}
 use Rattle.fm_token.proofs.Longest.{within_less}
 use Rattle.fm_token.proofs.Cuts.{cut_nil, cut_more, cut_none, front_split}
 
@@ -61,34 +64,37 @@ found (suc k) text n t e =
           longer = λ m p q. absurd (omega arith);
         }
 
-pub is_longest : (text : List ℕ) (n : ℕ) (t : Token) → longest text ≡ Some (n, t) → (0 < n) × IsLongest text n t
+pub is_longest : (text : List ℕ) (n : ℕ) (t : Token) → longest text ≡ Some (n, t) → (0 < n) × IsLongestToken text n t
 unfolding longest
-is_longest text n t e = let f = found (length text) text n t e in (f.some, record { within = f.within; whole = f.whole; longest = f.longer })
+is_longest text n t e = let f = found (length text) text n t e in (
+  f.some,
+  record {
+    within = f.within;
+    whole = token_is (take n text) t f.whole;
+    longest = λ m p q. no_token (take m text) (f.longer m p q);
+  },
+)
 
-token_nil : token_at [] ≡ None
-unfolding token_at
-token_nil = refl
-
-pub longest_is : (text : List ℕ) (n : ℕ) (t : Token) → IsLongest text n t → (0 < n) × (longest text ≡ Some (n, t))
+pub longest_is : (text : List ℕ) (n : ℕ) (t : Token) → IsLongestToken text n t → (0 < n) × (longest text ≡ Some (n, t))
 unfolding longest
-longest_is text zero t l = let clash : None ≡ Some t = sym token_nil ∙ l.whole in cc
+longest_is text zero t l = let clash : None ≡ Some t = sym token_nil ∙ is_token [] t l.whole in cc
 longest_is text (suc n) t l = (
   omega arith,
-  within_less (suc n) (length text) text l.within (λ m p q. l.longest (suc m) (omega arith) (omega arith))
-      ∙ ap (λ (o : Option Token). or_shorter (sized (suc n) o) (longest_within n text)) l.whole,
+  within_less (suc n) (length text) text l.within (λ m p q. not_token (take (suc m) text) (l.longest (suc m) (omega arith) (omega arith)))
+      ∙ ap (λ (o : Option Token). or_shorter (sized (suc n) o) (longest_within n text)) (is_token (take (suc n) text) t l.whole),
 )
 
 pub cut_complete : (ts : List Token) (text : List ℕ) → IsCut text ts → cut_of text ≡ Some ts
 cut_complete [] text c = subst (λ (x : List ℕ). cut_of x ≡ Some []) (sym c) cut_nil
 cut_complete (t ∷ ts) text (n, l, c) =
     let f = longest_is text n t l in
-    cut_more text n t f.1 f.0 l.within ∙ ap (with_front (t ∷ [])) (cut_complete ts (drop n text) c)
+    cut_more text n t f.1 f.0 l.within ∙ ap (behind_items (t ∷ [])) (cut_complete ts (drop n text) c)
 
 record IsSplit (text : List ℕ) (ts : List Token) : Type 0 where
   n : ℕ
   first : Token
   others : List Token
-  at : IsLongest text n first
+  at : IsLongestToken text n first
   cut : cut_of (drop n text) ≡ Some others
   is : ts ≡ first ∷ others
 
@@ -113,4 +119,4 @@ cut_sound (t ∷ ts) (b ∷ bs) e =
     let s = split (b ∷ bs) (t ∷ ts) (omega arith) e in
     let first : s.first ≡ t = cc in
     let others : s.others ≡ ts = cc in
-    (s.n, subst (IsLongest (b ∷ bs) s.n) first s.at, cut_sound ts (drop s.n (b ∷ bs)) (s.cut ∙ ap Some others))
+    (s.n, subst (IsLongestToken (b ∷ bs) s.n) first s.at, cut_sound ts (drop s.n (b ∷ bs)) (s.cut ∙ ap Some others))

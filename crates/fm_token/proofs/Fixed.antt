@@ -10,8 +10,8 @@ use Rattle.fm_base.specs.declared.token.Op.{Op}
 use Rattle.fm_base.specs.declared.token.Token.{Token}
 use Rattle.fm_base.specs.declared.token.Token.TheVariants.{Sign}
 use Rattle.fm_base.specs.Tokens.{op_text, token_text}
-use Rattle.fm_token.specs.Classes.{is_word}
-use Rattle.fm_token.specs.Pieces.{bare_tokens, fixed_tokens, fixed_token, is_spelled, operators}
+use Rattle.fm_token.specs.Classes.{is_same_text}
+use Rattle.fm_token.specs.Steps.{bare_tokens, fixed_tokens, fixed_token, is_spelled, operators}
 
 find-map : {X Y : Type 0} (f : X → Y) (p : Y → Bool) (xs : List X) → find p (map f xs) ≡ option_map f (find (λ x. p (f x)) xs)
 find-map f p [] = refl
@@ -19,7 +19,7 @@ find-map f p (x ∷ xs) =
     elim (p (f x)) as (λ b. cond b (Some (f x)) (find p (map f xs)) ≡ option_map f (cond b (Some x) (find (λ y. p (f y)) xs))) [ true ↦ refl | false ↦ find-map f p xs ]
 
 abbrev sign_found : List ℕ → Option Token
-sign_found piece = option_map Sign (find (λ (o : Op). is_word piece (op_text o)) operators)
+sign_found piece = option_map Sign (find (λ (o : Op). is_same_text piece (op_text o)) operators)
 
 -- a bare token, or else an operator
 pub fixed_bare : (piece : List ℕ) (t : Token) → find (is_spelled piece) bare_tokens ≡ Some t → Some t ≡ fixed_token piece
@@ -35,7 +35,7 @@ fixed_operator piece e = sym (
     )
 
 -- what the code finds among its own list of operators
-pub fixed_sign : (piece : List ℕ) (o : Option Op) → o ≡ find (λ (x : Op). is_word piece (op_text x)) operators → find (is_spelled piece) bare_tokens ≡ None
+pub fixed_sign : (piece : List ℕ) (o : Option Op) → o ≡ find (λ (x : Op). is_same_text piece (op_text x)) operators → find (is_spelled piece) bare_tokens ≡ None
     → option_map Sign o ≡ fixed_token piece
 fixed_sign piece o e b = ap (option_map Sign) e ∙ fixed_operator piece b
 
@@ -61,7 +61,7 @@ all_may : list_all (λ (t : Token). may_be_fixed (token_text t)) fixed_tokens �
 unfolding fixed_tokens bare_tokens operators
 all_may = refl
 
-same : (piece text : List ℕ) → is_word piece text ≡ true → may_be_fixed piece ≡ false → may_be_fixed text ≡ false
+same : (piece text : List ℕ) → is_same_text piece text ≡ true → may_be_fixed piece ≡ false → may_be_fixed text ≡ false
 same piece text e h = ap may_be_fixed (sym (same_text piece text (sym e))) ∙ h
 
 pub and_left : (a b : Bool) → (a && b) ≡ true → a ≡ true

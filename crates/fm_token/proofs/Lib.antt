@@ -2,7 +2,10 @@ mod Constants
 mod CutLaws
 mod Cuts
 mod Fixed
+mod LogicalIfs
 mod Longest
 mod Numbers
-mod TokenLaws
+mod Passes
+mod TokenAt
+pub mod TokenLaws
 mod TokenSteps

@@ -6,14 +6,15 @@ use Rattle.std.proofs.lemmas.Bool.{eqb-true, eqb-false}
 use Rattle.std.specs.List.{list_all, prefix_len}
 use Rattle.std.proofs.lemmas.List.Sums.{prefix_len-le-length}
 use Rattle.std.specs.Option.{option_map}
-use Rattle.std.specs.Char.{is_ascii_uppercase, is_ascii_digit}
 use Rattle.fm_base.specs.declared.token.Token.{Token}
 use Rattle.fm_base.specs.declared.token.Token.TheVariants.{Named, Constant, Sign}
 use Rattle.fm_base.specs.declared.token.Op.TheVariants.{Pow}
-use Rattle.fm_token.specs.Pieces.{is_name_byte, constant_bytes, is_waiting, kept, with_front, digits_number, number_token, operators, bare_tokens, fixed_tokens, fixed_token, token_at, sized, or_shorter, longest_within, longest}
+use Rattle.fm_base.specs.Letters.{is_letter, is_digit, is_name_byte}
+use Rattle.fm_token.specs.Cutting.{sized, or_shorter, longest_within, longest}
+use Rattle.fm_token.specs.Steps.{constant_bytes, is_waiting, counted, behind_items, digits_number, number_token, operators, bare_tokens, fixed_tokens, fixed_token, token_at, candidate, constant_end, dot_end, sign_length}
 use Rattle.fm_token.proofs.Cuts.{behind_none}
 use Rattle.fm_token.proofs.Fixed.{and_left, and_right, may_follow_star, is_nil, ends_at_dot, not_fixed}
-use Rattle.fm_token.specs.Scan.{candidate, constant_end, dot_end, sign_length}
+use Rattle.fm_token.proofs.TokenAt.{found_if, at_letter, at_digit, at_mark, at_sign}
 
 within_none : (n : ℕ) (text : List ℕ) → ((m : ℕ) → m < n → token_at (take (suc m) text) ≡ None) → longest_within n text ≡ None
 within_none zero text h = refl
@@ -61,28 +62,6 @@ not_all_behind p (b ∷ bs) (suc m) l k =
       | false ↦ λ e h. ap (λ t. t && list_all p (take m bs)) e
     ] refl l
 
--- the test of a piece by its first byte
-abbrev found_if : Bool → Token → Option Token
-found_if test t = cond test (Some t) None
-
-at_letter : (b : ℕ) (xs : List ℕ) → is_ascii_uppercase b ≡ true → token_at (b ∷ xs) ≡ found_if (list_all is_name_byte xs) (Named (b ∷ xs))
-unfolding token_at
-at_letter b xs u = rw u refl
-
-at_digit : (b : ℕ) (xs : List ℕ) → is_ascii_uppercase b ≡ false → is_ascii_digit b ≡ true
-    → token_at (b ∷ xs) ≡ found_if (list_all is_ascii_digit xs) (number_token (digits_number 0 (b ∷ xs)))
-unfolding token_at
-at_digit b xs u d = rw (u, d) refl
-
-at_mark : (b : ℕ) (xs : List ℕ) → is_ascii_uppercase b ≡ false → is_ascii_digit b ≡ false → eqb b 39 ≡ true
-    → token_at (b ∷ xs) ≡ option_map Constant (constant_bytes false xs)
-unfolding token_at
-at_mark b xs u d a = rw (u, d, a) refl
-
-at_sign : (b : ℕ) (xs : List ℕ) → is_ascii_uppercase b ≡ false → is_ascii_digit b ≡ false → eqb b 39 ≡ false → token_at (b ∷ xs) ≡ fixed_token (b ∷ xs)
-unfolding token_at
-at_sign b xs u d a = rw (u, d, a) refl
-
 -- a token that is a span: names and numbers
 at_span : (p : ℕ → Bool) (t : List ℕ → Token) (b : ℕ) (bs : List ℕ) → ((xs : List ℕ) → token_at (b ∷ xs) ≡ found_if (list_all p xs) (t xs))
     → longest (b ∷ bs) ≡ sized (suc (prefix_len p bs)) (token_at (b ∷ take (prefix_len p bs) bs))
@@ -110,7 +89,7 @@ Ended waiting k end bs found = ((found ≡ end) × EndsNowhere waiting bs) ⊎ (
 
 -- one byte more before a constant that may end
 ended_on : (bs front : List ℕ) (waiting : Bool) (k : ℕ) (end : Option ℕ) (now : Bool) (b : ℕ) (found : Option ℕ)
-    → ((xs : List ℕ) → constant_bytes waiting (b ∷ xs) ≡ with_front front (constant_bytes now xs))
+    → ((xs : List ℕ) → constant_bytes waiting (b ∷ xs) ≡ behind_items front (constant_bytes now xs))
     → Ended now (k + 1) (cond now (Some (k + 1)) end) bs found → Ended waiting k end (b ∷ bs) found
 unfolding Ended EndsNowhere
 ended_on bs front waiting k end now b found h (inr (n, is, at)) =
@@ -128,7 +107,7 @@ ended_on bs front waiting k end now b found h (inr (n, is, at)) =
   where
     longer : (m : ℕ) → suc n < m → m ≤ suc (length bs) → constant_bytes waiting (take m (b ∷ bs)) ≡ None
     longer zero p q = absurd (omega arith)
-    longer (suc m) p q = h (take m bs) ∙ ap (with_front front) (at.longer m (omega arith) (omega arith))
+    longer (suc m) p q = h (take m bs) ∙ ap (behind_items front) (at.longer m (omega arith) (omega arith))
 ended_on bs front waiting k end true b found h (inl (is, none)) =
     let place : k + 1 ≡ k + suc zero = omega arith in
     inr (
@@ -144,13 +123,13 @@ ended_on bs front waiting k end true b found h (inl (is, none)) =
   where
     longer : (m : ℕ) → suc zero < m → m ≤ suc (length bs) → constant_bytes waiting (take m (b ∷ bs)) ≡ None
     longer zero p q = absurd (omega arith)
-    longer (suc m) p q = h (take m bs) ∙ ap (with_front front) (none m (omega arith) (omega arith))
+    longer (suc m) p q = h (take m bs) ∙ ap (behind_items front) (none m (omega arith) (omega arith))
 ended_on bs front waiting k end false b found h (inl (is, none)) = inl (is, longer)
   where
     longer : (m : ℕ) → zero < m → m ≤ suc (length bs) → constant_bytes waiting (take m (b ∷ bs)) ≡ None
     longer zero p q = absurd (omega arith)
     longer (suc zero) p q = h []
-    longer (suc (suc m)) p q = h (take (suc m) bs) ∙ ap (with_front front) (none (suc m) (omega arith) (omega arith))
+    longer (suc (suc m)) p q = h (take (suc m) bs) ∙ ap (behind_items front) (none (suc m) (omega arith) (omega arith))
 
 ended : (bs : List ℕ) (waiting : Bool) (k : ℕ) (end : Option ℕ) → Ended waiting k end bs (constant_end waiting k end bs)
 unfolding Ended EndsNowhere
@@ -159,14 +138,14 @@ ended (b ∷ bs) waiting k end =
     elim (waiting && not (eqb b 39)) as (λ t. (waiting && not (eqb b 39)) ≡ t
     → Ended waiting k end (b ∷ bs) (cond t end (constant_end (is_waiting waiting b) (k + 1) (cond (is_waiting waiting b) (Some (k + 1)) end) bs))) [
       | true ↦ λ e. inl (refl, stopped e)
-      | false ↦ λ e. ended_on bs (kept waiting b) waiting k end (is_waiting waiting b) b _
-          (λ xs. ap (λ t. cond t None (with_front (kept waiting b) (constant_bytes (is_waiting waiting b) xs))) e)
+      | false ↦ λ e. ended_on bs (counted waiting b) waiting k end (is_waiting waiting b) b _
+          (λ xs. ap (λ t. cond t None (behind_items (counted waiting b) (constant_bytes (is_waiting waiting b) xs))) e)
           (ended bs (is_waiting waiting b) (k + 1) (cond (is_waiting waiting b) (Some (k + 1)) end))
     ] refl
   where
     stopped : (waiting && not (eqb b 39)) ≡ true → (m : ℕ) → 0 < m → m ≤ suc (length bs) → constant_bytes waiting (take m (b ∷ bs)) ≡ None
     stopped e zero p q = absurd (omega arith)
-    stopped e (suc m) p q = ap (λ t. cond t None (with_front (kept waiting b) (constant_bytes (is_waiting waiting b) (take m bs)))) e
+    stopped e (suc m) p q = ap (λ t. cond t None (behind_items (counted waiting b) (constant_bytes (is_waiting waiting b) (take m bs)))) e
 
 -- dots
 record DotAt (bs : List ℕ) (n : ℕ) : Type 0 where
@@ -307,7 +286,7 @@ longest_nil : longest [] ≡ None
 unfolding longest
 longest_nil = refl
 
-is_tried_other : (b : ℕ) (bs : List ℕ) → is_ascii_uppercase b ≡ false → is_ascii_digit b ≡ false → IsTried (b ∷ bs) (other b bs)
+is_tried_other : (b : ℕ) (bs : List ℕ) → is_letter b ≡ false → is_digit b ≡ false → IsTried (b ∷ bs) (other b bs)
 is_tried_other b bs u d =
     elim (eqb b 39) as (λ t. eqb b 39 ≡ t → IsTried (b ∷ bs) (cond t (constant_end false 1 None bs) (cond (eqb b 46) (dot_end 1 bs) (Some (sign_length b bs))))) [
       | true ↦ λ a. tried_constant b bs _ (λ xs. at_mark b xs u d a) (ended bs false 1 None)
@@ -322,10 +301,10 @@ pub is_tried : (text : List ℕ) → IsTried text (candidate text)
 unfolding candidate
 is_tried [] = longest_nil
 is_tried (b ∷ bs) =
-    elim (is_ascii_uppercase b) as (λ t. is_ascii_uppercase b ≡ t → IsTried (b ∷ bs) (cond t (Some (prefix_len is_name_byte bs + 1)) (cond (is_ascii_digit b) (Some (prefix_len is_ascii_digit bs + 1)) (other b bs)))) [
+    elim (is_letter b) as (λ t. is_letter b ≡ t → IsTried (b ∷ bs) (cond t (Some (prefix_len is_name_byte bs + 1)) (cond (is_digit b) (Some (prefix_len is_digit bs + 1)) (other b bs)))) [
       | true ↦ λ u. tried_span is_name_byte (λ xs. Named (b ∷ xs)) b bs (λ xs. at_letter b xs u)
-      | false ↦ λ u. elim (is_ascii_digit b) as (λ t. is_ascii_digit b ≡ t → IsTried (b ∷ bs) (cond t (Some (prefix_len is_ascii_digit bs + 1)) (other b bs))) [
-        | true ↦ λ d. tried_span is_ascii_digit (λ xs. number_token (digits_number 0 (b ∷ xs))) b bs (λ xs. at_digit b xs u d)
+      | false ↦ λ u. elim (is_digit b) as (λ t. is_digit b ≡ t → IsTried (b ∷ bs) (cond t (Some (prefix_len is_digit bs + 1)) (other b bs))) [
+        | true ↦ λ d. tried_span is_digit (λ xs. number_token (digits_number 0 (b ∷ xs))) b bs (λ xs. at_digit b xs u d)
         | false ↦ λ d. is_tried_other b bs u d
       ] refl
     ] refl

@@ -3,7 +3,7 @@ use Rattle.std.proofs.Common.{◌≡◌, ℕ, ◌+◌, ◌-◌, ◌*◌, ◌^◌
 use Rattle.std.proofs.lemmas.Bool.{le-ltb}
 use Rattle.std.proofs.lemmas.List.{at_drop_more}
 use Rattle.fm_base.specs.declared.token.Token.TheVariants.{Big, Number}
-use Rattle.fm_token.specs.Pieces.{digits_number, number_token}
+use Rattle.fm_token.specs.Steps.{digits_number, number_token}
 
 grows : (n : ℕ) (bs : List ℕ) → n ≤ digits_number n bs
 grows n [] = omega arith

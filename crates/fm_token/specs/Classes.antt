@@ -6,13 +6,13 @@ use Rattle.std.specs.Cmp.Lexicographic.{pointwise}
 use Rattle.fm_base.specs.declared.token.Class.{Class}
 use Rattle.fm_base.specs.declared.token.Class.TheVariants.{BlockIf, LogicalIf, Assignment, ProcessDo, Do, End, EndIf, EndDo, EndProcesses, EndProcessDo, Else, Continue, Return, Stop, Processes, ImplicitNone, ElseIf, DoWhile, Goto, EndChannel, Channel, Merger, Send, Receive, MovePort, Probe, ProcessCall, Processors, Process, Program, Subroutine, IntegerFunction, LogicalFunction, Function, Call, Print, Write, Integer, Logical, Dimension, Parameter, Inport, Outport, Intent, Nothing}
 use Rattle.fm_base.specs.Tokens.{keyword_text}
-use Rattle.fm_token.specs.Places.{has_top, close_of}
+use Rattle.fm_token.specs.TopLevel.{has_top, close_of}
 
-abbrev pub is_word : List ℕ → List ℕ → Bool
-is_word text word = pointwise nat_eq text word
+abbrev pub is_same_text : List ℕ → List ℕ → Bool
+is_same_text text word = pointwise nat_eq text word
 
 abbrev pub begins : List ℕ → List ℕ → Bool
-begins text word = is_word (take (length word) text) word
+begins text word = is_same_text (take (length word) text) word
 
 -- a byte other than an equals sign stands first
 abbrev pub goes_on : List ℕ → Bool
@@ -23,18 +23,10 @@ abbrev pub end_if_goes_on : List ℕ → Option ℕ → Option ℕ
 end_if_goes_on text None = None
 end_if_goes_on text (Some n) = if goes_on (drop n text) then Some n else None
 
--- Of an IF: how many bytes there are up to and with the parenthesis that closes.
--- Where nothing stands behind, the text is no IF; where an equals sign does, it is an assignment to an element of IF.
+-- Of an IF: how many bytes there are up to and with the parenthesis that closes. Where nothing stands behind, or an
+-- equals sign, the text is no IF: `IF(I)=5` is an assignment to an element of IF, and `IF(I)=1,2` has no form.
 unfoldable pub condition_end : List ℕ → Option ℕ
 condition_end text = if begins text (codes "IF(") then end_if_goes_on text (close_of text) else None
-
-abbrev pub end_unless_then : List ℕ → Option ℕ → Option ℕ
-end_unless_then text None = None
-end_unless_then text (Some n) = if is_word (drop n text) (codes "THEN") then None else Some n
-
--- the same of a logical IF
-unfoldable pub logical_end : List ℕ → Option ℕ
-logical_end text = end_unless_then text (condition_end text)
 
 -- a loop, if the text begins as one
 unfoldable pub loop_class : List ℕ → Class
@@ -84,7 +76,7 @@ has_sign (Some sign) [] = false
 has_sign (Some sign) (b ∷ bs) = b == sign
 
 abbrev pub is_whole : List ℕ → Class → Bool
-is_whole text class = is_word text (keyword_text class)
+is_whole text class = is_same_text text (keyword_text class)
 
 abbrev pub begins_so : List ℕ → Class × Option ℕ → Bool
 begins_so text entry = begins text (keyword_text entry.0) && has_sign entry.1 (drop (length (keyword_text entry.0)) text)
@@ -103,7 +95,7 @@ plain_class text = if has_top 61 text then if has_top 44 text then loop_class te
 
 abbrev pub class_from : List ℕ → Option ℕ → Class
 class_from text None = plain_class text
-class_from text (Some n) = if is_word (drop n text) (codes "THEN") then BlockIf else LogicalIf
+class_from text (Some n) = if is_same_text (drop n text) (codes "THEN") then BlockIf else LogicalIf
 
 -- The class: an IF comes before all else, then an equals sign at top level, then the words. No word is reserved:
 -- `CALLX(2)=5` is an assignment to CALLX, `DOUBLE=1,2` a loop over UBLE, `PROCESSDO` alone a process named DO.

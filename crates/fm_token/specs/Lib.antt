@@ -1,5 +1,6 @@
 pub mod Classes
+pub mod Cutting
 pub mod Pieces
-pub mod Places
-pub mod Scan
 pub mod Statements
+pub mod Steps
+pub mod TopLevel

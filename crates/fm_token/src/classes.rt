@@ -2,9 +2,10 @@
 
 ghost use Rattle.std.specs.Prelude.{◌≡◌, ◌<◌, ◌≤◌, length, drop, find, Some, None, IfSome, codes};
 ghost use Rattle.fm_base.specs.Tokens.{keyword_text};
-ghost use Rattle.fm_token.specs.Classes.{begins, begins_so, class_of, condition_end, first_word_class, first_words, goes_on, has_sign, is_whole, is_word, logical_end, loop_class, plain_class, whole_words, word_class};
+ghost use Rattle.fm_token.specs.Cutting.{logical_end};
+ghost use Rattle.fm_token.specs.Classes.{begins, begins_so, class_of, condition_end, first_word_class, first_words, goes_on, has_sign, is_whole, is_same_text, loop_class, plain_class, whole_words, word_class};
 
-use crate::places::{close_of, has_top};
+use crate::top_level::{close_of, has_top};
 use fm_base::Class;
 
 /// The classes whose statements are one word.
@@ -71,7 +72,7 @@ fn goes_on(behind: &[u8]) -> bool
 }
 
 fn is_then(behind: &[u8]) -> bool
-    ensures { result ≡ is_word behind.now (codes "THEN") }
+    ensures { result ≡ is_same_text behind.now (codes "THEN") }
 {
     behind == b"THEN".as_slice()
 }
@@ -95,7 +96,7 @@ pub fn condition_end(text: &[u8]) -> Option<usize>
 }
 
 /// Of a logical IF: the same.
-#[tactic(auto, unfolding(crate::specs::Classes::logical_end))]
+#[tactic(auto, unfolding(crate::specs::Cutting::logical_end))]
 pub fn logical_end(text: &[u8]) -> Option<usize>
     ensures at { result ≡ logical_end text.now }
     ensures within { IfSome result (λ n. (0 < n) × (n ≤ length text.now)) }

@@ -5,13 +5,9 @@
 mod classes;
 mod front;
 mod pieces;
-mod places;
 mod scan;
 mod statements;
+mod top_level;
 
 pub use classes::class;
-pub use pieces::constants_are_written;
-pub use statements::{TokenFail, tokens, tokens_are_one};
-
-#[cfg(test)]
-mod tests;
+pub use statements::tokens;

@@ -1,14 +1,14 @@
 //! The test whether a piece of a text is a token.
 
-ghost use Rattle.std.specs.Prelude.{◌≡◌, ◌↔◌, ℕ, List, Some, ◌∷◌, ◌++◌, IfOk, false, find};
+ghost use Rattle.std.specs.Prelude.{◌≡◌, ◌++◌, IfOk, false, find};
 ghost use Rattle.std.specs.List.{list_all};
-ghost use Rattle.std.specs.Char.{is_ascii_digit};
-ghost use Rattle.fm_base.specs.Tokens.{constant_text, op_text};
-ghost use Rattle.fm_token.specs.Classes.{is_word};
-ghost use Rattle.fm_token.specs.Pieces.{bare_tokens, constant_bytes, digits_number, fixed_token, is_name_byte, is_spelled, is_waiting, kept, number_token, token_at};
+ghost use Rattle.fm_base.specs.Letters.{is_digit};
+ghost use Rattle.fm_base.specs.Tokens.{op_text};
+ghost use Rattle.fm_token.specs.Classes.{is_same_text};
+ghost use Rattle.fm_token.specs.Steps.{bare_tokens, constant_bytes, counted, digits_number, fixed_token, is_spelled, is_waiting, number_token, token_at};
 
 use crate::front::front;
-use fm_base::{Name, NoMemory, Op, Seq, Token};
+use fm_base::{Name, NoMemory, Op, Seq, Token, are_name_bytes};
 use std::alloc::Global;
 
 /// The least number that is too large.
@@ -33,21 +33,8 @@ const OPERATORS: [Op; 16] = [
     Op::Pow,
 ];
 
-/// Whether the byte may stand in a name behind its first letter.
-pub fn is_name_byte(byte: u8) -> bool
-    ensures { result ≡ is_name_byte byte }
-{
-    byte.is_ascii_uppercase() || byte.is_ascii_digit() || byte == b'_'
-}
-
-fn is_name_tail(bytes: &[u8]) -> bool
-    ensures { result ≡ list_all is_name_byte bytes.now }
-{
-    bytes.iter().all(|byte| is_name_byte(*byte))
-}
-
 fn is_digits(bytes: &[u8]) -> bool
-    ensures { result ≡ list_all is_ascii_digit bytes.now }
+    ensures { result ≡ list_all is_digit bytes.now }
 {
     bytes.iter().all(|byte| byte.is_ascii_digit())
 }
@@ -56,7 +43,7 @@ fn number_token(digits: &[u8]) -> Token
     ensures { result ≡ number_token (digits_number 0 digits.now) }
 {
     let mut value = 0u128;
-    for digit in digits {
+    'digits: for digit in digits {
         let next = 10 * value + u128::from(digit.saturating_sub(b'0'));
         if next >= LIMIT {
             return Token::Big;
@@ -67,8 +54,8 @@ fn number_token(digits: &[u8]) -> Token
 }
 
 // The first of two apostrophes is left out.
-fn push_kept(bytes: &mut Seq<u8>, waiting: bool, byte: u8) -> Result<(), NoMemory>
-    ensures { IfOk result (λ _. bytes.new ≡ bytes.old ++ kept waiting byte) }
+fn push_counted(bytes: &mut Seq<u8>, waiting: bool, byte: u8) -> Result<(), NoMemory>
+    ensures { IfOk result (λ _. bytes.new ≡ bytes.old ++ counted waiting byte) }
 {
     if waiting || byte != b'\'' {
         bytes.push(byte)?;
@@ -89,29 +76,29 @@ fn constant_bytes(alloc: Global, behind: &[u8]) -> Result<Option<Seq<u8>>, NoMem
 {
     let mut bytes = Seq::new(alloc);
     let mut waiting = false;
-    for byte in behind {
+    'bytes: for byte in behind {
         if waiting && *byte != b'\'' {
             return Ok(None);
         }
-        push_kept(&mut bytes, waiting, *byte)?;
+        push_counted(&mut bytes, waiting, *byte)?;
         waiting = is_waiting(waiting, *byte);
     }
     Ok(if waiting { Some(bytes) } else { None })
 }
 
 fn is_operator(piece: &[u8], op: Op) -> bool
-    ensures { result ≡ is_word piece.now (op_text op) }
+    ensures { result ≡ is_same_text piece.now (op_text op) }
 {
     piece == op.text()
 }
 
 fn operator(piece: &[u8]) -> Option<Op>
-    ensures { result ≡ find (λ op. is_word piece.now (op_text op)) OPERATORS }
+    ensures { result ≡ find (λ op. is_same_text piece.now (op_text op)) OPERATORS }
 {
     OPERATORS.iter().copied().find(|op| is_operator(piece, *op))
 }
 
-#[tactic(auto, unfolding(crate::specs::Pieces::bare_tokens))]
+#[tactic(auto, unfolding(crate::specs::Steps::bare_tokens))]
 fn bare_token(piece: &[u8]) -> Option<Token>
     ensures { result ≡ find (is_spelled piece.now) bare_tokens }
 {
@@ -147,7 +134,7 @@ fn fixed_token(piece: &[u8]) -> Option<Token>
 }
 
 /// The token that the whole piece is, if it is one.
-#[tactic(auto, unfolding(crate::specs::Pieces::token_at))]
+#[tactic(auto, unfolding(crate::specs::Steps::token_at))]
 pub fn token_at(alloc: Global, piece: &[u8]) -> Result<Option<Token>, NoMemory>
     ensures { IfOk result (λ o. o ≡ token_at piece.now) }
 {
@@ -155,7 +142,7 @@ pub fn token_at(alloc: Global, piece: &[u8]) -> Result<Option<Token>, NoMemory>
         return Ok(None);
     };
     if first.is_ascii_uppercase() {
-        if !is_name_tail(behind) {
+        if !are_name_bytes(behind) {
             return Ok(None);
         }
         let name = Name::from_bytes(alloc, piece)?;
@@ -175,8 +162,3 @@ pub fn token_at(alloc: Global, piece: &[u8]) -> Result<Option<Token>, NoMemory>
         Ok(fixed_token(piece))
     }
 }
-
-/// A constant is read as it is written: each apostrophe in it twice, and one at either end.
-pub fn constants_are_written()
-    ensures { (behind bytes : List ℕ) → (constant_bytes false behind ≡ Some bytes) ↔ (39 ∷ behind ≡ constant_text bytes) }
-{}

@@ -2,13 +2,13 @@
 
 ghost use Rattle.std.specs.Prelude.{◌≡◌, ◌+◌, ◌<◌, ◌≤◌, IfOk, IfSome, None, false, length};
 ghost use Rattle.std.specs.List.{prefix_len};
-ghost use Rattle.std.specs.Char.{is_ascii_digit};
-ghost use Rattle.fm_token.specs.Pieces.{is_name_byte, longest};
-ghost use Rattle.fm_token.specs.Scan.{candidate, constant_end, dot_end, sign_length};
+ghost use Rattle.fm_base.specs.Letters.{is_digit, is_name_byte};
+ghost use Rattle.fm_token.specs.Cutting.{longest};
+ghost use Rattle.fm_token.specs.Steps.{candidate, constant_end, dot_end, sign_length};
 
 use crate::front::front;
-use crate::pieces::{is_name_byte, is_waiting, token_at};
-use fm_base::{NoMemory, Token};
+use crate::pieces::{is_waiting, token_at};
+use fm_base::{NoMemory, Token, is_name_byte};
 use std::alloc::Global;
 
 fn name_length(bytes: &[u8]) -> usize
@@ -19,7 +19,7 @@ fn name_length(bytes: &[u8]) -> usize
 }
 
 fn digits_length(bytes: &[u8]) -> usize
-    ensures at { result ≡ prefix_len is_ascii_digit bytes.now }
+    ensures at { result ≡ prefix_len is_digit bytes.now }
     ensures within { result ≤ length bytes.now }
 {
     bytes
@@ -36,7 +36,7 @@ fn constant_end(behind: &[u8]) -> Option<usize>
     let mut end = None;
     let mut waiting = false;
     let mut n = 1;
-    for byte in behind {
+    'bytes: for byte in behind {
         if waiting && *byte != b'\'' {
             return end;
         }
@@ -55,7 +55,7 @@ fn dot_end(behind: &[u8]) -> Option<usize>
     ensures within { IfSome result (λ n. (0 < n) × (n ≤ length behind.now + 1)) }
 {
     let mut n = 1;
-    for byte in behind {
+    'bytes: for byte in behind {
         n += 1;
         if *byte == b'.' {
             return Some(n);
@@ -75,7 +75,7 @@ fn sign_length(first: u8, behind: &[u8]) -> usize
 }
 
 // The length of the one beginning that may be the longest token.
-#[tactic(auto, unfolding(crate::specs::Scan::candidate))]
+#[tactic(auto, unfolding(crate::specs::Steps::candidate))]
 fn candidate(text: &[u8]) -> Option<usize>
     ensures at { result ≡ candidate text.now }
     ensures within { IfSome result (λ n. (0 < n) × (n ≤ length text.now)) }

@@ -1,6 +1,7 @@
 use Rattle.std.proofs.Common.{◌≡◌, ◌<◌, ◌^◌, drop}
-use Rattle.fm_cards.specs.Cards.{number_behind}
+use Rattle.fm_cards.specs.Cards.{number_of_digits}
+use Rattle.fm_cards.specs.Scan.{number_behind}
 use Rattle.fm_cards.proofs.label.number.Given as goal
 
-abbrev pub invariant-loop-byte : goal.invariant-loop-byte
-invariant-loop-byte l = (number_behind l.number (drop l.byte-index l.field) ≡ number_behind 0 l.field) × (l.number < 10 ^ l.byte-index)
+abbrev pub invariant-bytes : goal.invariant-bytes
+invariant-bytes l = (number_behind l.number (drop l.byte-index l.field) ≡ number_of_digits l.field) × (l.number < 10 ^ l.byte-index)

@@ -1,5 +1,5 @@
 use Rattle.std.proofs.Common.{sym, ◌∙◌}
-use Rattle.fm_token.specs.Pieces.{operators}
+use Rattle.fm_token.specs.Steps.{operators}
 use Rattle.fm_token.proofs.Fixed.{fixed_bare, fixed_sign}
 use Rattle.fm_token.proofs.pieces.fixed_token.Goals as goal
 

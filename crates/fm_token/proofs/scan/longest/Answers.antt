@@ -1,6 +1,7 @@
 use Rattle.std.proofs.Common.{Option, Some, None, ap, sym, ◌∙◌}
 use Rattle.fm_base.specs.declared.token.Token.{Token}
-use Rattle.fm_token.specs.Pieces.{sized, token_at}
+use Rattle.fm_token.specs.Cutting.{sized}
+use Rattle.fm_token.specs.Steps.{token_at}
 use Rattle.fm_token.proofs.Longest.{tried_as}
 use Rattle.fm_token.proofs.scan.longest.Goals as goal
 

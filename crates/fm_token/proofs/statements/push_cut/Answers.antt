@@ -1,13 +1,13 @@
 use Rattle.std.proofs.Common.{◌<◌, ◌≤◌, length, arith, sym, ◌∙◌, ap}
 use Rattle.std.proofs.lemmas.Bool.{eqb-true, eqb-false}
-use Rattle.fm_token.specs.Pieces.{with_front}
+use Rattle.fm_token.specs.Steps.{behind_items}
 use Rattle.fm_token.proofs.Cuts.{behind_none, cut_none, cut_push, cut_end}
 use Rattle.fm_token.proofs.statements.push_cut.Goals as goal
 
 pub returns-in_default : goal.returns-in_default
 returns-in_default c = λ e.
     let some : 0 < length c.tokens.rest.now = omega (arith, eqb-false (length c.tokens.rest.now) 0 (sym c.tokens-test.ensures)) in
-    behind_none c.args.out.now.items _ (sym c.tokens.invariant ∙ ap (with_front c.tokens.out.items) (cut_none c.tokens.rest.now (sym c.in_ok-n.ensures.longest ∙ c.in_default.is) some))
+    behind_none c.args.out.now.items _ (sym c.tokens.invariant ∙ ap (behind_items c.tokens.out.items) (cut_none c.tokens.rest.now (sym c.in_ok-n.ensures.longest ∙ c.in_default.is) some))
 
 pub tokens-preserved : goal.tokens-preserved
 tokens-preserved c =
