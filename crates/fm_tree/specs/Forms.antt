@@ -1,5 +1,5 @@
 -- Forms: how a value is spelled, and which values have the form. Ways of joining forms.
--- Source: ANSI X3.9-1978, section 1.4: the notation for forms of statements.
+-- Source: ANSI X3.9-1978, section 1.5: the notation for forms of statements.
 use Rattle.std.proofs.Common.{inl, inr}
 use Rattle.std.specs.Prelude.{ℕ, Bool, true, false, Option, Some, None, ◌⊎◌, List, [], ◌∷◌, ◌++◌, ◌≤◌, pos}
 use Rattle.fm_base.specs.declared.name.Label.{Label}
@@ -76,41 +76,41 @@ EitherShape g h (inr y) = h.Shape y
 abbrev pub either : {X Y : Type 0} → Form X → Form Y → Form (X ⊎ Y)
 either g h = record { spelled = either_spelled g h; Shape = EitherShape g h }
 
--- `[g]`
-abbrev pub perhaps_spelled : {X : Type 0} → Form X → Option X → List Token
-perhaps_spelled g None = []
-perhaps_spelled g (Some x) = g.spelled x
+-- `[g]`: a part, or nothing
+abbrev pub optional_spelled : {X : Type 0} → Form X → Option X → List Token
+optional_spelled g None = []
+optional_spelled g (Some x) = g.spelled x
 
-abbrev pub PerhapsShape : {X : Type 0} → Form X → Option X → Type 0
-PerhapsShape g None = Unit {0}
-PerhapsShape g (Some x) = g.Shape x
+abbrev pub OptionalShape : {X : Type 0} → Form X → Option X → Type 0
+OptionalShape g None = Unit {0}
+OptionalShape g (Some x) = g.Shape x
 
-abbrev pub perhaps : {X : Type 0} → Form X → Form (Option X)
-perhaps g = record { spelled = perhaps_spelled g; Shape = PerhapsShape g }
+abbrev pub optional : {X : Type 0} → Form X → Form (Option X)
+optional g = record { spelled = optional_spelled g; Shape = OptionalShape g }
 
--- `[m g]`
-abbrev pub maybe_spelled : {X : Type 0} → Token → Form X → Option X → List Token
-maybe_spelled m g None = []
-maybe_spelled m g (Some x) = m ∷ g.spelled x
+-- `[m g]`: a fixed token and a part, or nothing
+abbrev pub optional_behind_spelled : {X : Type 0} → Token → Form X → Option X → List Token
+optional_behind_spelled m g None = []
+optional_behind_spelled m g (Some x) = m ∷ g.spelled x
 
-abbrev pub maybe : {X : Type 0} → Token → Form X → Form (Option X)
-maybe m g = record { spelled = maybe_spelled m g; Shape = PerhapsShape g }
+abbrev pub optional_behind : {X : Type 0} → Token → Form X → Form (Option X)
+optional_behind m g = record { spelled = optional_behind_spelled m g; Shape = OptionalShape g }
 
 -- `[m]`: whether a fixed token is written
-abbrev pub flag_spelled : Token → Bool → List Token
-flag_spelled m true = m ∷ []
-flag_spelled m false = []
+abbrev pub optional_token_spelled : Token → Bool → List Token
+optional_token_spelled m true = m ∷ []
+optional_token_spelled m false = []
 
-abbrev pub flag : Token → Form Bool
-flag m = record { spelled = flag_spelled m; Shape = λ b. Unit {0} }
+abbrev pub optional_token : Token → Form Bool
+optional_token m = record { spelled = optional_token_spelled m; Shape = λ b. Unit {0} }
 
 -- `[w =] g`: whether the word is written
-abbrev pub may_assign_spelled : {X : Type 0} → List ℕ → Form X → Bool → X → List Token
-may_assign_spelled w g true x = token.Named w ∷ token.Equals ∷ g.spelled x
-may_assign_spelled w g false x = g.spelled x
+abbrev pub optional_keyword_spelled : {X : Type 0} → List ℕ → Form X → Bool → X → List Token
+optional_keyword_spelled w g true x = token.Named w ∷ token.Equals ∷ g.spelled x
+optional_keyword_spelled w g false x = g.spelled x
 
-abbrev pub may_assign : {X : Type 0} → List ℕ → Form X → Form (Bool × X)
-may_assign w g = record { spelled = λ p. may_assign_spelled w g p.0 p.1; Shape = λ p. g.Shape p.1 }
+abbrev pub optional_keyword : {X : Type 0} → List ℕ → Form X → Form (Bool × X)
+optional_keyword w g = record { spelled = λ p. optional_keyword_spelled w g p.0 p.1; Shape = λ p. g.Shape p.1 }
 
 -- `g , h` or `h , g`: whether the first is written first
 abbrev pub swapped_spelled : {X Y : Type 0} → Form X → Form Y → Bool → X → Y → List Token

@@ -11,3 +11,10 @@ pub mod Shape
 pub mod Forms
 pub mod Parts
 pub mod Statements
+pub mod Structure
+pub mod Blocks
+pub mod Layout
+pub mod Labels
+pub mod References
+pub mod Units
+pub mod Same

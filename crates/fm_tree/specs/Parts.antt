@@ -1,8 +1,8 @@
 -- Parts of statements: variables, bounds, declarations, types of ports, heads of loops, items, places.
 -- Source: ANSI X3.9-1978, sections 5.1, 8.4, 8.6, 11.10 and 12.8.2, and the Fortran M report.
 use Rattle.std.proofs.Common.{inl, inr}
-use Rattle.std.specs.List.{list_all}
-use Rattle.std.specs.Prelude.{ℕ, ◌≡◌, ◌≤◌, ◌+◌, Bool, false, ◌&&◌, ◌||◌, ◌==◌, nat_le, IsTrue, Option, Some, None, ◌⊎◌, List, [], ◌∷◌, ◌++◌, codes, pos}
+use Rattle.std.specs.Prelude.{ℕ, ◌≡◌, ◌≤◌, ◌+◌, Bool, IsTrue, Option, Some, None, ◌⊎◌, List, [], ◌∷◌, ◌++◌, codes, pos}
+use Rattle.fm_base.specs.Letters.{is_name_text}
 use Rattle.fm_base.specs.declared.name.Label.{Label}
 use Rattle.fm_base.specs.declared.token.Token.{Token}
 use Rattle.fm_base.specs.declared.token.Token.TheVariants as token
@@ -25,7 +25,7 @@ use Rattle.fm_tree.specs.declared.statement.Where.{Where}
 use Rattle.fm_tree.specs.declared.statement.Where.TheVariants as place
 use Rattle.fm_tree.specs.declared.statement.CallPart.{CallPart}
 use Rattle.fm_tree.specs.PortFields.{PortFields, FieldKind, NoFields, FieldThen, Integer, Logical, In, Out}
-use Rattle.fm_tree.specs.Forms.{Form, star, name, label, expr, constant, behind, before, behind_word, parens, assigned, pair, over, either, perhaps, maybe, flag, may_assign, more, some_of, listed, bracketed, such_that}
+use Rattle.fm_tree.specs.Forms.{Form, star, name, label, expr, constant, behind, before, behind_word, parens, assigned, pair, over, either, optional, optional_behind, optional_token, optional_keyword, more, some_of, listed, bracketed, such_that}
 
 -- name [( list(expr) )]
 abbrev pub var_parts : Var → List ℕ × List Tree
@@ -43,7 +43,7 @@ abbrev pub bound_parts : Bound → Tree × Option Tree
 bound_parts b = bound_ends b.low b.high
 
 abbrev pub bound_form : Form Bound
-bound_form = over bound_parts (pair expr (maybe token.Colon expr))
+bound_form = over bound_parts (pair expr (optional_behind token.Colon expr))
 
 -- name [( list(bound) )]
 abbrev pub decl_parts : Decl → List ℕ × List Bound
@@ -71,17 +71,6 @@ way_text way.InOut = codes "INOUT"
 
 abbrev pub way_form : Form Way
 way_form = record { spelled = λ w. token.Named (way_text w) ∷ []; Shape = λ w. Unit {0} }
-
--- a letter, then letters, digits and underscores
-abbrev pub is_letter : ℕ → Bool
-is_letter b = nat_le 65 b && nat_le b 90
-
-abbrev pub is_name_byte : ℕ → Bool
-is_name_byte b = is_letter b || (nat_le 48 b && nat_le b 57) || (b == 95)
-
-abbrev pub is_name_text : List ℕ → Bool
-is_name_text [] = false
-is_name_text (b ∷ bs) = is_letter b && list_all is_name_byte bs
 
 -- a keyword and the name behind it, if there is one, are one word once blanks are dropped
 abbrev pub word_with : List ℕ → Option (List ℕ) → Token
@@ -145,7 +134,7 @@ abbrev pub loop_label_parts : LoopLabel → Label × Bool
 loop_label_parts l = (l.label, l.comma)
 
 abbrev pub loop_label_form : Form LoopLabel
-loop_label_form = over loop_label_parts (pair label (flag token.Comma))
+loop_label_form = over loop_label_parts (pair label (optional_token token.Comma))
 
 -- [label [,]] name = expr , expr [, expr]
 abbrev pub loop_parts : LoopHead → Option LoopLabel × (List ℕ × (Tree × (Tree × Option Tree)))
@@ -154,8 +143,8 @@ loop_parts h = (h.label, (h.variable, (h.from, (h.to, h.step))))
 abbrev pub loop_form : Form LoopHead
 loop_form =
     over loop_parts
-    (pair (perhaps loop_label_form)
-    (pair name (pair (behind token.Equals expr) (pair (behind token.Comma expr) (maybe token.Comma expr)))))
+    (pair (optional loop_label_form)
+    (pair name (pair (behind token.Equals expr) (pair (behind token.Comma expr) (optional_behind token.Comma expr)))))
 
 -- an expression or a character constant
 abbrev pub item_parts : Item → Tree ⊎ List ℕ
@@ -175,7 +164,7 @@ unit_form = record { spelled = λ u. unit_token u ∷ []; Shape = λ u. Unit {0}
 
 -- [PORT =] var
 abbrev pub port_form : Form (Bool × Var)
-port_form = may_assign (codes "PORT") var_form
+port_form = optional_keyword (codes "PORT") var_form
 
 -- END = label or IOSTAT = var
 abbrev pub extra_parts : Extra → Label ⊎ Var
@@ -223,4 +212,4 @@ abbrev pub call_parts : CallPart → List Tree × Option Where
 call_parts c = (c.arguments, c.place)
 
 abbrev pub call_part_form : Form CallPart
-call_part_form = over call_parts (pair (before (listed expr) token.Close) (perhaps where_form))
+call_part_form = over call_parts (pair (before (listed expr) token.Close) (optional where_form))

@@ -1,5 +1,5 @@
 -- At which level an operand may stand.
--- Source: ANSI X3.9-1978, sections 6.1.2, 6.4.3 and 6.5: the precedence of operators, and the forms of expressions.
+-- Source: ANSI X3.9-1978, sections 6.1.2, 6.3, 6.4.2 and 6.5: the precedence of operators, and the forms of expressions.
 use Rattle.std.specs.Prelude.{ℕ, ◌≤◌, ◌≡◌, ◌⊎◌}
 use Rattle.fm_base.specs.declared.token.Op.{Op}
 use Rattle.fm_base.specs.declared.token.Op.TheVariants as op

@@ -1,5 +1,5 @@
 -- The one spelling of an expression.
--- Source: ANSI X3.9-1978, sections 5.4.2, 6.1 to 6.5 and 15.2.1.
+-- Source: ANSI X3.9-1978, sections 5.3, 6.1 to 6.5 and 15.2.1.
 use Rattle.std.specs.Prelude.{Bool, true, false, List, [], ◌∷◌, ◌++◌}
 use Rattle.fm_base.specs.declared.token.Op.TheVariants as op
 use Rattle.fm_base.specs.declared.token.Token.{Token}

@@ -19,12 +19,12 @@ use Rattle.fm_tree.specs.declared.statement.Simple.{Simple}
 use Rattle.fm_tree.specs.declared.statement.Simple.TheVariants as simple
 use Rattle.fm_tree.specs.declared.statement.Stmt.{Stmt}
 use Rattle.fm_tree.specs.declared.statement.Stmt.TheVariants as stmt
-use Rattle.fm_tree.specs.Forms.{Form, star, name, label, expr, behind, before, before_word, parens, assigned, pair, maybe, swapped, more, some_of, listed}
+use Rattle.fm_tree.specs.Forms.{Form, star, name, label, expr, behind, before, before_word, parens, assigned, pair, optional_behind, swapped, more, some_of, listed}
 use Rattle.fm_tree.specs.Parts.{var_form, decl_form, array_form, defined_form, way_form, port_type_form, loop_form, item_form, unit_form, port_form, extras_form, call_part_form}
 
 -- PROCESS name [( [list(name)] )], and SUBROUTINE
 abbrev pub heading_form : Form (List ℕ × Option (List (List ℕ)))
-heading_form = pair name (maybe token.Open (before (listed name) token.Close))
+heading_form = pair name (optional_behind token.Open (before (listed name) token.Close))
 
 -- FUNCTION name ( [list(name)] )
 abbrev pub function_form : Form (List ℕ × List (List ℕ))
@@ -64,7 +64,7 @@ then_form = before_word (parens expr) (codes "THEN")
 
 -- CALL name [( [list(expr)] )]
 abbrev pub call_form : Form (List ℕ × Option (List Tree))
-call_form = pair name (maybe token.Open (before (listed expr) token.Close))
+call_form = pair name (optional_behind token.Open (before (listed expr) token.Close))
 
 -- PRINT * [, list(item)]
 abbrev pub print_form : Form (List Item)
@@ -104,7 +104,7 @@ probe_form = parens (pair port_form (behind token.Comma (assigned (codes "EMPTY"
 
 -- PROCESSCALL name [( [list(expr)] ) [where]]
 abbrev pub process_call_form : Form (List ℕ × Option CallPart)
-process_call_form = pair name (maybe token.Open call_part_form)
+process_call_form = pair name (optional_behind token.Open call_part_form)
 
 -- the keyword of a class, then a form
 abbrev pub keyed : {X : Type 0} → Class → Form X → X → List Token

@@ -7,7 +7,7 @@ use Rattle.fm_base.specs.declared.token.Op.{Op}
 use Rattle.fm_base.specs.declared.token.Op.TheVariants as op
 use Rattle.fm_tree.specs.Tree.{Tree, Trees, Number, Truth, Named, Ref, Paren, Signed, Not, Binary, NoTrees, More}
 
-abbrev op_number : Op → ℕ
+abbrev pub op_number : Op → ℕ
 op_number op.Eqv = 0
 op_number op.Neqv = 1
 op_number op.Or = 2
@@ -25,14 +25,14 @@ op_number op.Mul = 13
 op_number op.Div = 14
 op_number op.Pow = 15
 
-abbrev op_at : ℕ → Op
+abbrev pub op_at : ℕ → Op
 op_at n =
     if n == 0 then op.Eqv else if n == 1 then op.Neqv else if n == 2 then op.Or else if n == 3 then op.And
     else if n == 4 then op.Not else if n == 5 then op.Eq else if n == 6 then op.Ne else if n == 7 then op.Lt
     else if n == 8 then op.Le else if n == 9 then op.Gt else if n == 10 then op.Ge else if n == 11 then op.Add
     else if n == 12 then op.Sub else if n == 13 then op.Mul else if n == 14 then op.Div else op.Pow
 
-op_back : (o : Op) → op_at (op_number o) ≡ o
+pub op_back : (o : Op) → op_at (op_number o) ≡ o
 op_back op.Eqv = refl
 op_back op.Neqv = refl
 op_back op.Or = refl

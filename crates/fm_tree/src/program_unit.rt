@@ -1,6 +1,5 @@
 //! Statements with their places, and the units of a program.
 
-use crate::expression::Expr;
 use crate::statement::Stmt;
 use fm_base::{Label, Line, Seq};
 
@@ -26,8 +25,9 @@ pub struct Entry {
     pub mate: Option<u32>,
     /// The entry that comes after it.
     pub after: u32,
-    /// The references of functions in it, in the order of evaluation.
-    pub refs: Seq<Expr>,
+    /// Its references of functions, in the order of evaluation: their places, from 0, among the names with a list in
+    /// parentheses.
+    pub refs: Seq<u32>,
 }
 
 /// A program unit: its heading, its specification statements and its body.
