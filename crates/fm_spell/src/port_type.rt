@@ -1,0 +1,95 @@
+//! The tokens of bounds and of types of ports.
+
+ghost use Rattle.std.specs.Prelude.{◌≡◌, ◌++◌, OnOk};
+ghost use Rattle.fm_tree.specs.Forms.{bracketed};
+ghost use Rattle.fm_tree.specs.PortReading.{kind_of};
+ghost use Rattle.fm_tree.specs.Parts.{bound_form, kind_spelled, fields_spelled, port_type_form};
+
+use crate::expression::push_expr;
+use crate::list::{Spelled, push_bracketed};
+use crate::word::{push_joined, push_optional_name, push_word};
+use fm_base::{Name, NoMemory, Token};
+use fm_tree::{Bound, Field, Kind, PortType};
+use std::alloc::Global;
+
+/// `expr [: expr]`.
+pub struct BoundForm;
+
+impl Spelled<Bound> for BoundForm {
+    ghost form = { bound_form };
+
+    fn push(alloc: Global, part: &Bound, out: &mut Vec<Token>) -> Result<(), NoMemory> {
+        if let Some(low) = &part.low {
+            push_expr(alloc, low, out)?;
+            out.push(Token::Colon)?;
+        }
+        push_expr(alloc, &part.high, out)
+    }
+}
+
+/// `( [list(field)] )`.
+pub fn push_port_type(
+    alloc: Global,
+    port_type: &PortType,
+    out: &mut Vec<Token>,
+) -> Result<(), NoMemory>
+    ensures { OnOk result (out.new.items ≡ out.old.items ++ port_type_form.spelled port_type.now) }
+{
+    out.push(Token::Open)?;
+    push_fields(alloc, port_type, out)?;
+    out.push(Token::Close)?;
+    Ok(())
+}
+
+#[cycle(fields)]
+fn push_fields(alloc: Global, port_type: &PortType, out: &mut Vec<Token>) -> Result<(), NoMemory>
+    ensures { OnOk result (out.new.items ≡ out.old.items ++ fields_spelled port_type.now) }
+{
+    let Some((first, rest)) = port_type.fields.as_slice().split_first() else {
+        return Ok(());
+    };
+    push_field(alloc, first, out)?;
+    for field in rest {
+        out.push(Token::Comma)?;
+        push_field(alloc, field, out)?;
+    }
+    Ok(())
+}
+
+#[cycle(fields)]
+fn push_field(alloc: Global, field: &Field, out: &mut Vec<Token>) -> Result<(), NoMemory>
+    ensures { OnOk result (out.new.items
+        ≡ out.old.items ++ (kind_spelled (kind_of field.now.kind) field.now.name ++ (bracketed bound_form).spelled field.now.bounds)) }
+{
+    push_kind(alloc, &field.kind, &field.name, out)?;
+    push_bracketed::<Bound, BoundForm>(alloc, field.bounds.as_slice(), out)
+}
+
+#[cycle(fields)]
+fn push_kind(
+    alloc: Global,
+    kind: &Kind,
+    name: &Option<Name>,
+    out: &mut Vec<Token>,
+) -> Result<(), NoMemory>
+    ensures { OnOk result (out.new.items ≡ out.old.items ++ kind_spelled (kind_of kind.now) name.now) }
+{
+    match kind {
+        Kind::Integer => push_joined(alloc, b"INTEGER", name, out),
+        Kind::Logical => push_joined(alloc, b"LOGICAL", name, out),
+        Kind::In(fields) => {
+            push_word(alloc, b"INPORT", out)?;
+            out.push(Token::Open)?;
+            push_fields(alloc, fields, out)?;
+            out.push(Token::Close)?;
+            push_optional_name(alloc, name, out)
+        }
+        Kind::Out(fields) => {
+            push_word(alloc, b"OUTPORT", out)?;
+            out.push(Token::Open)?;
+            push_fields(alloc, fields, out)?;
+            out.push(Token::Close)?;
+            push_optional_name(alloc, name, out)
+        }
+    }
+}
