@@ -12,7 +12,7 @@ use Rattle.fm_tree.specs.Spelling.{spelling, list_spelling, tail_spelling}
 use Rattle.fm_tree.specs.Shape.{levels, grade, IsSignOp, IsWellShaped, AreWellShaped}
 use Rattle.fm_expr.specs.declared.reader.Frame.{Frame}
 use Rattle.fm_expr.specs.declared.reader.Frame.TheVariants.{Joins, Negates, Signs, Opens, Calls}
-use Rattle.fm_expr.specs.Reading.{need, demand, closed, reduced, joined, ended, another, called, followed, begun, no_arguments, prefixed, moved, Moved, going, placed, best, run}
+use Rattle.fm_expr.specs.Reading.{need, demand, operation, reduction, operator_step, close_step, comma_step, call_step, behind_step, operand_step, empty_call, prefix_step, step, Progress, onward, at_place, last_whole, run}
 use Rattle.fm_expr.proofs.Steps.{table}
 
 -- the tokens of what stands open
@@ -81,32 +81,32 @@ demand_low (Signs op ∷ fs) k = omega arith
 demand_low (Opens ∷ fs) k = omega arith
 demand_low (Calls name args at ∷ fs) k = omega arith
 
-closed_stands : (f : Frame) (fs : List Frame) (t : Tree) → KeptFrame f fs → 0 < need f → IsWellShaped t → need f ≤ grade t → Stands fs (closed f t)
-closed_stands (Joins left op at) fs t k p w h = ((k.1, k.0, h, w), k.2)
-closed_stands Negates fs t k p w h = ((h, w), k)
-closed_stands (Signs op) fs t k p w h = ((k.0, h, w), k.1)
-closed_stands Opens fs t k p w h = absurd (omega arith)
-closed_stands (Calls name args at) fs t k p w h = absurd (omega arith)
+operation_stands : (f : Frame) (fs : List Frame) (t : Tree) → KeptFrame f fs → 0 < need f → IsWellShaped t → need f ≤ grade t → Stands fs (operation f t)
+operation_stands (Joins left op at) fs t k p w h = ((k.1, k.0, h, w), k.2)
+operation_stands Negates fs t k p w h = ((h, w), k)
+operation_stands (Signs op) fs t k p w h = ((k.0, h, w), k.1)
+operation_stands Opens fs t k p w h = absurd (omega arith)
+operation_stands (Calls name args at) fs t k p w h = absurd (omega arith)
 
-closed_seen : (f : Frame) (fs : List Frame) (t : Tree) → 0 < need f → text (f ∷ fs) ++ spelling t ≡ text fs ++ spelling (closed f t)
-closed_seen (Joins left op at) fs t p = simp append_assoc
-closed_seen Negates fs t p = append_assoc (text fs) _ (spelling t)
-closed_seen (Signs op) fs t p = append_assoc (text fs) _ (spelling t)
-closed_seen Opens fs t p = absurd (omega arith)
-closed_seen (Calls name args at) fs t p = absurd (omega arith)
+operation_seen : (f : Frame) (fs : List Frame) (t : Tree) → 0 < need f → text (f ∷ fs) ++ spelling t ≡ text fs ++ spelling (operation f t)
+operation_seen (Joins left op at) fs t p = simp append_assoc
+operation_seen Negates fs t p = append_assoc (text fs) _ (spelling t)
+operation_seen (Signs op) fs t p = append_assoc (text fs) _ (spelling t)
+operation_seen Opens fs t p = absurd (omega arith)
+operation_seen (Calls name args at) fs t p = absurd (omega arith)
 
-pub record IsReduced (m : ℕ) (all : List Token) (r : List Frame × Tree) : Type 0 where
+pub record IsReduction (m : ℕ) (all : List Token) (r : List Frame × Tree) : Type 0 where
   pub kept : Kept r.0
   pub stands : Stands r.0 r.1
   pub seen : text r.0 ++ spelling r.1 ≡ all
   pub low : demand r.0 ≤ m
 
-reduced_keeps : (m : ℕ) (fs : List Frame) (t : Tree) (all : List Token) → Kept fs → Stands fs t → text fs ++ spelling t ≡ all → IsReduced m all (reduced m fs t)
-reduced_keeps m [] t all k s e = record { kept = k; stands = s; seen = e; low = omega arith }
-reduced_keeps m (f ∷ fs) t all k s e =
-    (elim (ltb m (need f)) as (λ b. ltb m (need f) ≡ b → IsReduced m all (cond b (reduced m fs (closed f t)) (f ∷ fs, t))) [
+reduction_keeps : (m : ℕ) (fs : List Frame) (t : Tree) (all : List Token) → Kept fs → Stands fs t → text fs ++ spelling t ≡ all → IsReduction m all (reduction m fs t)
+reduction_keeps m [] t all k s e = record { kept = k; stands = s; seen = e; low = omega arith }
+reduction_keeps m (f ∷ fs) t all k s e =
+    (elim (ltb m (need f)) as (λ b. ltb m (need f) ≡ b → IsReduction m all (cond b (reduction m fs (operation f t)) (f ∷ fs, t))) [
       | true ↦ λ h. let p : 0 < need f = omega (arith, ltb-true m (need f) h) in
-          reduced_keeps m fs (closed f t) all k.1 (closed_stands f fs t k.0 p s.0 s.1) (sym (closed_seen f fs t p) ∙ e)
+          reduction_keeps m fs (operation f t) all k.1 (operation_stands f fs t k.0 p s.0 s.1) (sym (operation_seen f fs t p) ∙ e)
       | false ↦ λ h. record { kept = k; stands = s; seen = e; low = ltb-false m (need f) h }
     ]) refl
 
@@ -118,44 +118,44 @@ abbrev seen_at : List Frame → Option (Tree × ℕ) → List Token
 seen_at fs None = text fs
 seen_at fs (Some x) = text fs ++ spelling x.0
 
-shifted : (f : Frame) (fs : List Frame) (t : Tree) (n : ℕ) → 0 < need f → n ≡ length (text (f ∷ fs)) + length (spelling t) → n ≡ length (text fs) + length (spelling (closed f t))
-shifted f fs t n p e = e ∙ sym (length-append (text (f ∷ fs)) (spelling t)) ∙ ap length (closed_seen f fs t p) ∙ length-append (text fs) (spelling (closed f t))
+shifted : (f : Frame) (fs : List Frame) (t : Tree) (n : ℕ) → 0 < need f → n ≡ length (text (f ∷ fs)) + length (spelling t) → n ≡ length (text fs) + length (spelling (operation f t))
+shifted f fs t n p e = e ∙ sym (length-append (text (f ∷ fs)) (spelling t)) ∙ ap length (operation_seen f fs t p) ∙ length-append (text fs) (spelling (operation f t))
 
-best_found : (fs : List Frame) → Kept fs → (o : Option (Tree × ℕ)) → OkAt fs o → (p : Tree × ℕ) → best fs o ≡ Some p → IsFound (seen_at fs o) p
-best_found [] k None a p e = cc
-best_found [] k (Some x) a p e =
+last_found : (fs : List Frame) → Kept fs → (o : Option (Tree × ℕ)) → OkAt fs o → (p : Tree × ℕ) → last_whole fs o ≡ Some p → IsFound (seen_at fs o) p
+last_found [] k None a p e = cc
+last_found [] k (Some x) a p e =
     let q : x ≡ p = cc in
     subst (λ y. IsFound (spelling x.0) y) q (record { shaped = a.0.0; more = []; spelled = sym (append-nil (spelling x.0)); ends = omega arith })
-best_found (Joins left op at ∷ fs) k None a p e =
+last_found (Joins left op at ∷ fs) k None a p e =
     further (text fs ++ spelling left) (tokens.Sign op ∷ []) _ p (append_assoc (text fs) (spelling left) (tokens.Sign op ∷ []))
-    (best_found fs k.1 (Some (left, at)) ((k.0.0, omega (arith, k.0.1, k.0.2, (table op).left)), k.0.3) p e)
-best_found (Joins left op at ∷ fs) k (Some x) a p e =
+    (last_found fs k.1 (Some (left, at)) ((k.0.0, omega (arith, k.0.1, k.0.2, (table op).left)), k.0.3) p e)
+last_found (Joins left op at ∷ fs) k (Some x) a p e =
     let h : 0 < need (Joins left op at) = (table op).positive in
-    further (text fs ++ spelling (Binary op left x.0)) [] _ p (append-nil _ ∙ sym (closed_seen (Joins left op at) fs x.0 h))
-    (best_found fs k.1 (Some (Binary op left x.0, x.1)) (closed_stands (Joins left op at) fs x.0 k.0 h a.0.0 a.0.1, shifted (Joins left op at) fs x.0 x.1 h a.1) p e)
-best_found (Negates ∷ fs) k None a p e = further (text fs) (tokens.Sign ops.Not ∷ []) _ p refl (best_found fs k.1 None tt p e)
-best_found (Negates ∷ fs) k (Some x) a p e =
+    further (text fs ++ spelling (Binary op left x.0)) [] _ p (append-nil _ ∙ sym (operation_seen (Joins left op at) fs x.0 h))
+    (last_found fs k.1 (Some (Binary op left x.0, x.1)) (operation_stands (Joins left op at) fs x.0 k.0 h a.0.0 a.0.1, shifted (Joins left op at) fs x.0 x.1 h a.1) p e)
+last_found (Negates ∷ fs) k None a p e = further (text fs) (tokens.Sign ops.Not ∷ []) _ p refl (last_found fs k.1 None tt p e)
+last_found (Negates ∷ fs) k (Some x) a p e =
     let h : 0 < need Negates = omega arith in
-    further (text fs ++ spelling (Not x.0)) [] _ p (append-nil _ ∙ sym (closed_seen Negates fs x.0 h))
-    (best_found fs k.1 (Some (Not x.0, x.1)) (closed_stands Negates fs x.0 k.0 h a.0.0 a.0.1, shifted Negates fs x.0 x.1 h a.1) p e)
-best_found (Signs op ∷ fs) k None a p e = further (text fs) (tokens.Sign op ∷ []) _ p refl (best_found fs k.1 None tt p e)
-best_found (Signs op ∷ fs) k (Some x) a p e =
+    further (text fs ++ spelling (Not x.0)) [] _ p (append-nil _ ∙ sym (operation_seen Negates fs x.0 h))
+    (last_found fs k.1 (Some (Not x.0, x.1)) (operation_stands Negates fs x.0 k.0 h a.0.0 a.0.1, shifted Negates fs x.0 x.1 h a.1) p e)
+last_found (Signs op ∷ fs) k None a p e = further (text fs) (tokens.Sign op ∷ []) _ p refl (last_found fs k.1 None tt p e)
+last_found (Signs op ∷ fs) k (Some x) a p e =
     let h : 0 < need (Signs op) = omega arith in
-    further (text fs ++ spelling (Signed op x.0)) [] _ p (append-nil _ ∙ sym (closed_seen (Signs op) fs x.0 h))
-    (best_found fs k.1 (Some (Signed op x.0, x.1)) (closed_stands (Signs op) fs x.0 k.0 h a.0.0 a.0.1, shifted (Signs op) fs x.0 x.1 h a.1) p e)
-best_found (Opens ∷ fs) k None a p e = further (text fs) (tokens.Open ∷ []) _ p refl (best_found fs k.1 None tt p e)
-best_found (Opens ∷ fs) k (Some x) a p e =
-    further (text fs) (tokens.Open ∷ spelling x.0) _ p (sym (append_assoc (text fs) (tokens.Open ∷ []) (spelling x.0))) (best_found fs k.1 None tt p e)
-best_found (Calls name args at ∷ fs) k None a p e =
+    further (text fs ++ spelling (Signed op x.0)) [] _ p (append-nil _ ∙ sym (operation_seen (Signs op) fs x.0 h))
+    (last_found fs k.1 (Some (Signed op x.0, x.1)) (operation_stands (Signs op) fs x.0 k.0 h a.0.0 a.0.1, shifted (Signs op) fs x.0 x.1 h a.1) p e)
+last_found (Opens ∷ fs) k None a p e = further (text fs) (tokens.Open ∷ []) _ p refl (last_found fs k.1 None tt p e)
+last_found (Opens ∷ fs) k (Some x) a p e =
+    further (text fs) (tokens.Open ∷ spelling x.0) _ p (sym (append_assoc (text fs) (tokens.Open ∷ []) (spelling x.0))) (last_found fs k.1 None tt p e)
+last_found (Calls name args at ∷ fs) k None a p e =
     further (text fs ++ tokens.Named name ∷ []) (tokens.Open ∷ arguments args) _ p (append_assoc (text fs) (tokens.Named name ∷ []) (tokens.Open ∷ arguments args))
-    (best_found fs k.1 (Some (Named name, at)) ((tt, demand_low fs k.1), k.0.1) p e)
-best_found (Calls name args at ∷ fs) k (Some x) a p e =
+    (last_found fs k.1 (Some (Named name, at)) ((tt, demand_low fs k.1), k.0.1) p e)
+last_found (Calls name args at ∷ fs) k (Some x) a p e =
     further (text fs ++ tokens.Named name ∷ []) (tokens.Open ∷ (arguments args ++ spelling x.0)) _ p
     (append_assoc (text fs) (tokens.Named name ∷ []) _ ∙ sym (append_assoc (text fs) (opening (Calls name args at)) (spelling x.0)))
-    (best_found fs k.1 (Some (Named name, at)) ((tt, demand_low fs k.1), k.0.1) p e)
+    (last_found fs k.1 (Some (Named name, at)) ((tt, demand_low fs k.1), k.0.1) p e)
 
 -- what one token does
-abbrev Moves : Token → List Token → Moved → Type 0
+abbrev Moves : Token → List Token → Progress → Type 0
 Moves token all (true, fs, o) = Kept fs × StandsIf fs o × (seen fs o ≡ all ++ token ∷ [])
 Moves token all (false, fs, o) = Kept fs × StandsIf fs o × (seen fs o ≡ all)
 
@@ -179,11 +179,11 @@ shaped_from : (ts : List Tree) → AllShaped ts → AreWellShaped (trees_from ts
 shaped_from [] a = tt
 shaped_from (u ∷ ts) a = (a.0, shaped_from ts a.1)
 
-none_keeps : (fs : List Frame) → Kept fs → Moves tokens.Close (text fs) (no_arguments fs)
+none_keeps : (fs : List Frame) → Kept fs → Moves tokens.Close (text fs) (empty_call fs)
 none_keeps (Calls name [] at ∷ fs) k = (k.1, (tt, demand_low fs k.1), sym (append_assoc (text fs) (tokens.Named name ∷ tokens.Open ∷ []) (tokens.Close ∷ [])))
 none_keeps fs k = (k, tt, refl)
 
-prefix_keeps : (op : Op) (fs : List Frame) → Kept fs → Moves (tokens.Sign op) (text fs) (prefixed op fs)
+prefix_keeps : (op : Op) (fs : List Frame) → Kept fs → Moves (tokens.Sign op) (text fs) (prefix_step op fs)
 prefix_keeps ops.Not fs k =
     (elim (leb (demand fs) 4) as (λ b. leb (demand fs) 4 ≡ b → Moves (tokens.Sign ops.Not) (text fs) (cond b (true, Negates ∷ fs, None) (false, fs, None))) [
       | true ↦ λ h. ((leb-true (demand fs) 4 h, k), tt, refl)
@@ -201,44 +201,44 @@ prefix_keeps ops.Sub fs k =
     ]) refl
 prefix_keeps op fs k = (k, tt, refl)
 
-begun_keeps : (token : Token) (fs : List Frame) → Kept fs → Moves token (text fs) (begun token fs)
-begun_keeps (tokens.Named name) fs k = (k, (tt, demand_low fs k), refl)
-begun_keeps (tokens.Number n) fs k = (k, (tt, demand_low fs k), refl)
-begun_keeps tokens.True fs k = (k, (tt, demand_low fs k), refl)
-begun_keeps tokens.False fs k = (k, (tt, demand_low fs k), refl)
-begun_keeps tokens.Open fs k = ((tt, k), tt, refl)
-begun_keeps tokens.Close fs k = none_keeps fs k
-begun_keeps (tokens.Sign op) fs k = prefix_keeps op fs k
-begun_keeps token fs k = (k, tt, refl)
+operand_keeps : (token : Token) (fs : List Frame) → Kept fs → Moves token (text fs) (operand_step token fs)
+operand_keeps (tokens.Named name) fs k = (k, (tt, demand_low fs k), refl)
+operand_keeps (tokens.Number n) fs k = (k, (tt, demand_low fs k), refl)
+operand_keeps tokens.True fs k = (k, (tt, demand_low fs k), refl)
+operand_keeps tokens.False fs k = (k, (tt, demand_low fs k), refl)
+operand_keeps tokens.Open fs k = ((tt, k), tt, refl)
+operand_keeps tokens.Close fs k = none_keeps fs k
+operand_keeps (tokens.Sign op) fs k = prefix_keeps op fs k
+operand_keeps token fs k = (k, tt, refl)
 
-called_keeps : (t : Tree) (fs : List Frame) (n : ℕ) → Kept fs → Stands fs t → n ≡ length (text fs ++ spelling t) → Moves tokens.Open (text fs ++ spelling t) (called t fs n)
-called_keeps (Named name) fs n k s e =
+call_keeps : (t : Tree) (fs : List Frame) (n : ℕ) → Kept fs → Stands fs t → n ≡ length (text fs ++ spelling t) → Moves tokens.Open (text fs ++ spelling t) (call_step t fs n)
+call_keeps (Named name) fs n k s e =
     (((tt, omega (arith, length-append (text fs) (tokens.Named name ∷ []))), k), tt, sym (append_assoc (text fs) (tokens.Named name ∷ []) (tokens.Open ∷ [])))
-called_keeps t fs n k s e = (k, s, refl)
+call_keeps t fs n k s e = (k, s, refl)
 
-ended_keeps : (fs : List Frame) (t : Tree) (all : List Token) → IsReduced 0 all (fs, t) → Moves tokens.Close all (ended fs t)
-ended_keeps (Opens ∷ fs) t all r =
+close_keeps : (fs : List Frame) (t : Tree) (all : List Token) → IsReduction 0 all (fs, t) → Moves tokens.Close all (close_step fs t)
+close_keeps (Opens ∷ fs) t all r =
     let e : text fs ++ tokens.Open ∷ (spelling t ++ tokens.Close ∷ []) ≡ ((text fs ++ tokens.Open ∷ []) ++ spelling t) ++ tokens.Close ∷ [] = simp append_assoc in
     (r.kept.1, (r.stands.0, demand_low fs r.kept.1), e ∙ ap (λ (s : List Token). s ++ tokens.Close ∷ []) r.seen)
-ended_keeps (Calls name args at ∷ fs) t all r =
+close_keeps (Calls name args at ∷ fs) t all r =
     let e : text fs ++ tokens.Named name ∷ tokens.Open ∷ ((arguments args ++ spelling t) ++ tokens.Close ∷ []) ≡ ((text fs ++ tokens.Named name ∷ tokens.Open ∷ arguments args) ++ spelling t) ++ tokens.Close ∷ [] = simp append_assoc in (
       r.kept.1,
       (shaped_from (args ++ t ∷ []) (shaped_more args t r.kept.0.0 r.stands.0), demand_low fs r.kept.1),
       ap (λ (s : List Token). text fs ++ tokens.Named name ∷ tokens.Open ∷ (s ++ tokens.Close ∷ [])) (arguments-last args t) ∙ e ∙ ap (λ (s : List Token). s ++ tokens.Close ∷ []) r.seen,
     )
-ended_keeps fs t all r = (r.kept, r.stands, r.seen)
+close_keeps fs t all r = (r.kept, r.stands, r.seen)
 
-another_keeps : (fs : List Frame) (t : Tree) (all : List Token) → IsReduced 0 all (fs, t) → Moves tokens.Comma all (another fs t)
-another_keeps (Calls name args at ∷ fs) t all r =
+comma_keeps : (fs : List Frame) (t : Tree) (all : List Token) → IsReduction 0 all (fs, t) → Moves tokens.Comma all (comma_step fs t)
+comma_keeps (Calls name args at ∷ fs) t all r =
     let e : text fs ++ tokens.Named name ∷ tokens.Open ∷ ((arguments args ++ spelling t) ++ tokens.Comma ∷ []) ≡ ((text fs ++ tokens.Named name ∷ tokens.Open ∷ arguments args) ++ spelling t) ++ tokens.Comma ∷ [] = simp append_assoc in (
       ((shaped_more args t r.kept.0.0 r.stands.0, r.kept.0.1), r.kept.1),
       tt,
       ap (λ (s : List Token). text fs ++ tokens.Named name ∷ tokens.Open ∷ s) (arguments-more args t) ∙ e ∙ ap (λ (s : List Token). s ++ tokens.Comma ∷ []) r.seen,
     )
-another_keeps fs t all r = (r.kept, r.stands, r.seen)
+comma_keeps fs t all r = (r.kept, r.stands, r.seen)
 
-joined_keeps : (op : Op) (fs : List Frame) (t : Tree) (all : List Token) (n : ℕ) → IsReduced (levels op).own all (fs, t) → n ≡ length all → Moves (tokens.Sign op) all (joined op (fs, t) n)
-joined_keeps op fs t all n r e =
+operator_keeps : (op : Op) (fs : List Frame) (t : Tree) (all : List Token) (n : ℕ) → IsReduction (levels op).own all (fs, t) → n ≡ length all → Moves (tokens.Sign op) all (operator_step op (fs, t) n)
+operator_keeps op fs t all n r e =
     (elim (leb (levels op).left (grade t)) as (λ b. leb (levels op).left (grade t) ≡ b → Moves (tokens.Sign op) all (cond b (true, Joins t op n ∷ fs, None) (false, fs, Some t))) [
       | true ↦ λ h. (
         ((r.stands.0, leb-true (levels op).left (grade t) h, r.low, omega (arith, ap length r.seen, length-append (text fs) (spelling t))), r.kept),
@@ -248,30 +248,30 @@ joined_keeps op fs t all n r e =
       | false ↦ λ h. (r.kept, r.stands, r.seen)
     ]) refl
 
-followed_keeps : (token : Token) (fs : List Frame) (t : Tree) (n : ℕ) → Kept fs → Stands fs t → n ≡ length (text fs ++ spelling t) → Moves token (text fs ++ spelling t) (followed token fs t n)
-followed_keeps tokens.Open fs t n k s e = called_keeps t fs n k s e
-followed_keeps tokens.Close fs t n k s e = ended_keeps (reduced 0 fs t).0 (reduced 0 fs t).1 _ (reduced_keeps 0 fs t _ k s refl)
-followed_keeps tokens.Comma fs t n k s e = another_keeps (reduced 0 fs t).0 (reduced 0 fs t).1 _ (reduced_keeps 0 fs t _ k s refl)
-followed_keeps (tokens.Sign op) fs t n k s e =
-    joined_keeps op (reduced (levels op).own fs t).0 (reduced (levels op).own fs t).1 _ n (reduced_keeps (levels op).own fs t _ k s refl) e
-followed_keeps token fs t n k s e = (k, s, refl)
+behind_keeps : (token : Token) (fs : List Frame) (t : Tree) (n : ℕ) → Kept fs → Stands fs t → n ≡ length (text fs ++ spelling t) → Moves token (text fs ++ spelling t) (behind_step token fs t n)
+behind_keeps tokens.Open fs t n k s e = call_keeps t fs n k s e
+behind_keeps tokens.Close fs t n k s e = close_keeps (reduction 0 fs t).0 (reduction 0 fs t).1 _ (reduction_keeps 0 fs t _ k s refl)
+behind_keeps tokens.Comma fs t n k s e = comma_keeps (reduction 0 fs t).0 (reduction 0 fs t).1 _ (reduction_keeps 0 fs t _ k s refl)
+behind_keeps (tokens.Sign op) fs t n k s e =
+    operator_keeps op (reduction (levels op).own fs t).0 (reduction (levels op).own fs t).1 _ n (reduction_keeps (levels op).own fs t _ k s refl) e
+behind_keeps token fs t n k s e = (k, s, refl)
 
-moved_keeps : (token : Token) (fs : List Frame) (o : Option Tree) (n : ℕ) → Kept fs → StandsIf fs o → n ≡ length (seen fs o) → Moves token (seen fs o) (moved token fs o n)
-moved_keeps token fs None n k s e = begun_keeps token fs k
-moved_keeps token fs (Some t) n k s e = followed_keeps token fs t n k s e
+step_keeps : (token : Token) (fs : List Frame) (o : Option Tree) (n : ℕ) → Kept fs → StandsIf fs o → n ≡ length (seen fs o) → Moves token (seen fs o) (step token fs o n)
+step_keeps token fs None n k s e = operand_keeps token fs k
+step_keeps token fs (Some t) n k s e = behind_keeps token fs t n k s e
 
-ends_found : (fs : List Frame) (o : Option Tree) (n : ℕ) → Kept fs → StandsIf fs o → n ≡ length (seen fs o) → (p : Tree × ℕ) → best fs (placed o n) ≡ Some p → IsFound (seen fs o) p
-ends_found fs None n k s e p q = best_found fs k None tt p q
-ends_found fs (Some t) n k s e p q = best_found fs k (Some (t, n)) (s, e ∙ length-append (text fs) (spelling t)) p q
+ends_found : (fs : List Frame) (o : Option Tree) (n : ℕ) → Kept fs → StandsIf fs o → n ≡ length (seen fs o) → (p : Tree × ℕ) → last_whole fs (at_place o n) ≡ Some p → IsFound (seen fs o) p
+ends_found fs None n k s e p q = last_found fs k None tt p q
+ends_found fs (Some t) n k s e p q = last_found fs k (Some (t, n)) (s, e ∙ length-append (text fs) (spelling t)) p q
 
 pub run_found : (ts : List Token) (fs : List Frame) (o : Option Tree) (n : ℕ) → Kept fs → StandsIf fs o → n ≡ length (seen fs o) → (p : Tree × ℕ) → run ts fs o n ≡ Some p → IsFound (seen fs o ++ ts) p
 run_found [] fs o n k s e p q = further (seen fs o) [] _ p refl (ends_found fs o n k s e p q)
 run_found (token ∷ ts) fs o n k s e p q =
-    go (moved token fs o n) (moved_keeps token fs o n k s e) (λ gs u l m f. run_found ts gs u (n + 1) l m f p) q
+    go (step token fs o n) (step_keeps token fs o n k s e) (λ gs u l m f. run_found ts gs u (n + 1) l m f p) q
   where
-    go : (r : Moved) → Moves token (seen fs o) r
+    go : (r : Progress) → Moves token (seen fs o) r
         → ((gs : List Frame) (u : Option Tree) → Kept gs → StandsIf gs u → n + 1 ≡ length (seen gs u) → run ts gs u (n + 1) ≡ Some p → IsFound (seen gs u ++ ts) p)
-        → going r (λ gs u. run ts gs u (n + 1)) n ≡ Some p → IsFound (seen fs o ++ token ∷ ts) p
+        → onward r (λ gs u. run ts gs u (n + 1)) n ≡ Some p → IsFound (seen fs o ++ token ∷ ts) p
     go (true, gs, u) m on q =
         further (seen gs u ++ ts) [] _ p (append-nil _ ∙ ap (λ (x : List Token). x ++ ts) m.2 ∙ append_assoc (seen fs o) (token ∷ []) ts)
         (on gs u m.0 m.1 (omega (arith, ap length m.2, length-append (seen fs o) (token ∷ []))) q)

@@ -5,12 +5,12 @@ use Rattle.fm_base.specs.declared.token.Op.{Op}
 use Rattle.fm_base.specs.declared.token.Op.TheVariants as ops
 use Rattle.fm_base.specs.declared.token.Token.{Token}
 use Rattle.fm_base.specs.declared.token.Token.TheVariants as tokens
-use Rattle.fm_tree.specs.Tree.{Tree, Trees, Number, Truth, Named, Ref, Paren, Signed, Not, Binary, NoTrees, More, trees_from}
+use Rattle.fm_tree.specs.Tree.{Tree, Trees, Number, Truth, Named, Ref, Paren, Signed, Not, Binary, NoTrees, More, trees_from, list_of}
 use Rattle.fm_tree.specs.Spelling.{spelling, tail_spelling}
 use Rattle.fm_tree.specs.Shape.{Levels, levels, from_left, relation, grade, IsSignOp, IsWellShaped, AreWellShaped}
 use Rattle.fm_expr.specs.declared.reader.Frame.{Frame}
 use Rattle.fm_expr.specs.declared.reader.Frame.TheVariants.{Joins, Negates, Signs, Opens, Calls}
-use Rattle.fm_expr.specs.Reading.{need, demand, reduced, joined, ended, another, prefixed, going, best, run}
+use Rattle.fm_expr.specs.Reading.{need, demand, reduction, operator_step, close_step, comma_step, prefix_step, onward, last_whole, run}
 
 -- what holds of each row of the table of levels
 pub record IsRow (x : Levels) : Type 0 where
@@ -146,11 +146,11 @@ last (Not e) = last e
 last (Signed op e) = last e
 last t = t
 
-pub stays : (m : ℕ) (fs : List Frame) (t : Tree) → demand fs ≤ m → reduced m fs t ≡ (fs, t)
+pub stays : (m : ℕ) (fs : List Frame) (t : Tree) → demand fs ≤ m → reduction m fs t ≡ (fs, t)
 stays m [] t h = refl
 stays m (f ∷ fs) t h = rw (le-ltb m (need f) h) refl
 
-pub closes : (t : Tree) → IsWellShaped t → (m n : ℕ) (fs : List Frame) → m < right_of t → reduced m (spine t n fs) (last t) ≡ reduced m fs t
+pub closes : (t : Tree) → IsWellShaped t → (m n : ℕ) (fs : List Frame) → m < right_of t → reduction m (spine t n fs) (last t) ≡ reduction m fs t
 closes (Number x) w m n fs h = refl
 closes (Truth b) w m n fs h = refl
 closes (Named name) w m n fs h = refl
@@ -164,7 +164,7 @@ closes (Binary op a b) w m n fs h =
     closes b w.3 m _ (Joins a op (n + length (spelling a)) ∷ fs) (omega (arith, w.2, grade_right b)) ∙ rw (lt-ltb m (levels op).right h) refl
 
 -- and what was the whole is the whole again
-pub encloses : (t : Tree) (n k : ℕ) (fs : List Frame) → best (spine t n fs) (Some (last t, k)) ≡ best fs (Some (t, k))
+pub encloses : (t : Tree) (n k : ℕ) (fs : List Frame) → last_whole (spine t n fs) (Some (last t, k)) ≡ last_whole fs (Some (t, k))
 encloses (Number x) n k fs = refl
 encloses (Truth b) n k fs = refl
 encloses (Named name) n k fs = refl
@@ -174,13 +174,9 @@ encloses (Signed op e) n k fs = encloses e _ k (Signs op ∷ fs)
 encloses (Not e) n k fs = encloses e _ k (Negates ∷ fs)
 encloses (Binary op a b) n k fs = encloses b _ k (Joins a op (n + length (spelling a)) ∷ fs)
 
-sign_opens : (op : Op) (fs : List Frame) → IsSignOp op → demand fs ≤ 6 → prefixed op fs ≡ (true, Signs op ∷ fs, None)
+sign_opens : (op : Op) (fs : List Frame) → IsSignOp op → demand fs ≤ 6 → prefix_step op fs ≡ (true, Signs op ∷ fs, None)
 sign_opens op fs (inl e) d = rw (e, le-leb (demand fs) 6 d) refl
 sign_opens op fs (inr e) d = rw (e, le-leb (demand fs) 6 d) refl
-
-abbrev list_of : Trees → List Tree
-list_of NoTrees = []
-list_of (More t ts) = t ∷ list_of ts
 
 from_list_of : (ts : Trees) → trees_from (list_of ts) ≡ ts
 from_list_of NoTrees = refl
@@ -204,7 +200,7 @@ mutual
   reads (Paren e) w ts fs n k d q =
       ap (λ (xs : List Token). run xs (Opens ∷ fs) None (n + 1)) (append_assoc (spelling e) (tokens.Close ∷ []) ts)
       ∙ reads e w (tokens.Close ∷ ts) (Opens ∷ fs) (n + 1) (n + 1 + length (spelling e)) (omega arith) refl
-      ∙ ap (λ (r : List Frame × Tree). going (ended r.0 r.1) (λ gs u. run ts gs u (n + 1 + length (spelling e) + 1)) (n + 1 + length (spelling e))) (closes e w 0 (n + 1) (Opens ∷ fs) (right_positive e))
+      ∙ ap (λ (r : List Frame × Tree). onward (close_step r.0 r.1) (λ gs u. run ts gs u (n + 1 + length (spelling e) + 1)) (n + 1 + length (spelling e))) (closes e w 0 (n + 1) (Opens ∷ fs) (right_positive e))
       ∙ (let f : n + 1 + length (spelling e) + 1 ≡ k = omega (arith, length-append (spelling e) (tokens.Close ∷ [])) in ap (run ts fs (Some (Paren e))) f)
   reads (Signed op e) w ts fs n k d q =
       rw (sign_opens op fs w.0 d) (reads e w.2 ts (Signs op ∷ fs) (n + 1) k w.1 (omega arith))
@@ -214,7 +210,7 @@ mutual
       let j : ℕ = n + length (spelling a) in
       ap (λ (xs : List Token). run xs fs None n) (append_assoc (spelling a) (tokens.Sign op ∷ spelling b) ts)
       ∙ reads a w.1 (tokens.Sign op ∷ (spelling b ++ ts)) fs n j (omega (arith, w.0, (table op).left)) refl
-      ∙ ap (λ (r : List Frame × Tree). going (joined op r j) (λ gs u. run (spelling b ++ ts) gs u (j + 1)) j)
+      ∙ ap (λ (r : List Frame × Tree). onward (operator_step op r j) (λ gs u. run (spelling b ++ ts) gs u (j + 1)) j)
       (closes a w.1 (levels op).own n fs (left_ends op a w.0) ∙ stays (levels op).own fs a d)
       ∙ rw (le-leb (levels op).left (grade a) w.0) (reads b w.3 ts (Joins a op j ∷ fs) (j + 1) k w.2 (omega (arith, length-append (spelling a) (tokens.Sign op ∷ spelling b))))
 
@@ -222,10 +218,10 @@ mutual
       → k ≡ n + length (tail_spelling us) + 1
       → run (tail_spelling us ++ tokens.Close ∷ ts) (spine t m (Calls name acc at ∷ fs)) (Some (last t)) n ≡ run ts fs (Some (Ref name (trees_from (acc ++ t ∷ list_of us)))) k
   reads_tail NoTrees v t w name acc at fs ts m n k e =
-      ap (λ (r : List Frame × Tree). going (ended r.0 r.1) (λ gs u. run ts gs u (n + 1)) n) (closes t w 0 m (Calls name acc at ∷ fs) (right_positive t))
+      ap (λ (r : List Frame × Tree). onward (close_step r.0 r.1) (λ gs u. run ts gs u (n + 1)) n) (closes t w 0 m (Calls name acc at ∷ fs) (right_positive t))
       ∙ (let f : n + 1 ≡ k = omega arith in ap (run ts fs (Some (Ref name (trees_from (acc ++ t ∷ []))))) f)
   reads_tail (More u us) v t w name acc at fs ts m n k e =
-      ap (λ (r : List Frame × Tree). going (another r.0 r.1) (λ gs x. run ((spelling u ++ tail_spelling us) ++ tokens.Close ∷ ts) gs x (n + 1)) n) (closes t w 0 m (Calls name acc at ∷ fs) (right_positive t))
+      ap (λ (r : List Frame × Tree). onward (comma_step r.0 r.1) (λ gs x. run ((spelling u ++ tail_spelling us) ++ tokens.Close ∷ ts) gs x (n + 1)) n) (closes t w 0 m (Calls name acc at ∷ fs) (right_positive t))
       ∙ ap (λ (xs : List Token). run xs (Calls name (acc ++ t ∷ []) at ∷ fs) None (n + 1)) (append_assoc (spelling u) (tail_spelling us) (tokens.Close ∷ ts))
       ∙ reads u v.0 (tail_spelling us ++ tokens.Close ∷ ts) (Calls name (acc ++ t ∷ []) at ∷ fs) (n + 1) (n + 1 + length (spelling u)) (omega arith) refl
       ∙ reads_tail us v.1 u v.0 name (acc ++ t ∷ []) at fs ts (n + 1) (n + 1 + length (spelling u)) k

@@ -2,7 +2,7 @@
 
 ghost use Rattle.std.specs.Prelude.{◌≡◌, [], IfOk, None, is_some};
 ghost use Rattle.fm_tree.specs.Shape.{levels, grade};
-ghost use Rattle.fm_expr.specs.Reading.{stack_of, need, demand, closed, reduced, begun, called, joined, ended, another, followed, no_arguments, prefixed, moved, around, best, run};
+ghost use Rattle.fm_expr.specs.Reading.{stack_of, need, demand, operation, reduction, operand_step, call_step, operator_step, close_step, comma_step, behind_step, empty_call, prefix_step, step, whole_around, last_whole, run};
 
 use fm_base::{Name, NoMemory, Op, Seq, Token};
 use fm_tree::{Expr, ExprNode, left_level, own_level, right_level};
@@ -25,7 +25,7 @@ pub enum Frame {
 }
 
 /// Whether the reader goes on, and the operand that has just ended, if one has.
-type Moved = (bool, Option<Expr>);
+type Progress = (bool, Option<Expr>);
 
 fn need_of(frame: &Frame) -> u8
     ensures { result ≡ need frame.now }
@@ -63,7 +63,7 @@ fn grade_of(tree: &Expr) -> u8
 }
 
 fn close(alloc: Global, frame: Frame, tree: Expr) -> Result<Expr, NoMemory>
-    ensures { IfOk result (λ e. e ≡ closed frame tree) }
+    ensures { IfOk result (λ e. e ≡ operation frame tree) }
 {
     let node = match frame {
         Frame::Joins(left, op, _) => {
@@ -78,7 +78,7 @@ fn close(alloc: Global, frame: Frame, tree: Expr) -> Result<Expr, NoMemory>
 
 /// Closes each operator whose operand ends before an operator of this level.
 fn reduce(alloc: Global, level: u8, frames: &mut Vec<Frame>, tree: Expr) -> Result<Expr, NoMemory>
-    ensures { IfOk result (λ e. (stack_of frames.new.items, e) ≡ reduced level (stack_of frames.old.items) tree) }
+    ensures { IfOk result (λ e. (stack_of frames.new.items, e) ≡ reduction level (stack_of frames.old.items) tree) }
 {
     let mut tree = tree;
     while let Some(frame) = frames.pop() {
@@ -93,7 +93,7 @@ fn reduce(alloc: Global, level: u8, frames: &mut Vec<Frame>, tree: Expr) -> Resu
 
 /// A sign or `.NOT.` where an operand begins: whether the reader goes on.
 fn prefix(frames: &mut Vec<Frame>, op: Op) -> Result<bool, NoMemory>
-    ensures { IfOk result (λ r. (r, stack_of frames.new.items, None) ≡ prefixed op (stack_of frames.old.items)) }
+    ensures { IfOk result (λ r. (r, stack_of frames.new.items, None) ≡ prefix_step op (stack_of frames.old.items)) }
 {
     let demand = demand_of(frames);
     match op {
@@ -106,7 +106,7 @@ fn prefix(frames: &mut Vec<Frame>, op: Op) -> Result<bool, NoMemory>
 
 /// A closing parenthesis where an operand begins: it ends an empty list.
 fn end_empty(frames: &mut Vec<Frame>) -> Result<Option<Expr>, NoMemory>
-    ensures { IfOk result (λ r. (is_some r, stack_of frames.new.items, r) ≡ no_arguments (stack_of frames.old.items)) }
+    ensures { IfOk result (λ r. (is_some r, stack_of frames.new.items, r) ≡ empty_call (stack_of frames.old.items)) }
 {
     match frames.pop() {
         Some(Frame::Calls(name, args, at)) => {
@@ -127,8 +127,8 @@ fn end_empty(frames: &mut Vec<Frame>) -> Result<Option<Expr>, NoMemory>
 }
 
 /// A token where an operand begins.
-fn begin(alloc: Global, frames: &mut Vec<Frame>, token: &Token) -> Result<Moved, NoMemory>
-    ensures { IfOk result (λ r. (r.0, stack_of frames.new.items, r.1) ≡ begun token.now (stack_of frames.old.items)) }
+fn begin(alloc: Global, frames: &mut Vec<Frame>, token: &Token) -> Result<Progress, NoMemory>
+    ensures { IfOk result (λ r. (r.0, stack_of frames.new.items, r.1) ≡ operand_step token.now (stack_of frames.old.items)) }
 {
     let node = match token {
         Token::Named(name) => ExprNode::Named(name.copy(alloc)?),
@@ -150,8 +150,8 @@ fn begin(alloc: Global, frames: &mut Vec<Frame>, token: &Token) -> Result<Moved,
 }
 
 /// An opening parenthesis where an operand has just ended: a list behind a name.
-fn call(alloc: Global, frames: &mut Vec<Frame>, tree: Expr, at: usize) -> Result<Moved, NoMemory>
-    ensures { IfOk result (λ r. (r.0, stack_of frames.new.items, r.1) ≡ called tree (stack_of frames.old.items) at) }
+fn call(alloc: Global, frames: &mut Vec<Frame>, tree: Expr, at: usize) -> Result<Progress, NoMemory>
+    ensures { IfOk result (λ r. (r.0, stack_of frames.new.items, r.1) ≡ call_step tree (stack_of frames.old.items) at) }
 {
     let Expr { node } = tree;
     match node {
@@ -170,9 +170,9 @@ fn join(
     tree: Expr,
     op: Op,
     at: usize,
-) -> Result<Moved, NoMemory>
+) -> Result<Progress, NoMemory>
     ensures { IfOk result (λ r. (r.0, stack_of frames.new.items, r.1)
-        ≡ joined op (reduced (levels op).own (stack_of frames.old.items) tree) at) }
+        ≡ operator_step op (reduction (levels op).own (stack_of frames.old.items) tree) at) }
 {
     let tree = reduce(alloc, own_level(op), frames, tree)?;
     if left_level(op) > grade_of(&tree) {
@@ -183,8 +183,8 @@ fn join(
 }
 
 /// A closing parenthesis behind the last operand in it.
-fn end(alloc: Global, frames: &mut Vec<Frame>, tree: Expr) -> Result<Moved, NoMemory>
-    ensures { IfOk result (λ r. (r.0, stack_of frames.new.items, r.1) ≡ ended (stack_of frames.old.items) tree) }
+fn end(alloc: Global, frames: &mut Vec<Frame>, tree: Expr) -> Result<Progress, NoMemory>
+    ensures { IfOk result (λ r. (r.0, stack_of frames.new.items, r.1) ≡ close_step (stack_of frames.old.items) tree) }
 {
     let node = match frames.pop() {
         Some(Frame::Opens) => ExprNode::Paren(Box::new(alloc, tree)?),
@@ -202,8 +202,8 @@ fn end(alloc: Global, frames: &mut Vec<Frame>, tree: Expr) -> Result<Moved, NoMe
 }
 
 /// A comma behind an argument.
-fn go_on(frames: &mut Vec<Frame>, tree: Expr) -> Result<Moved, NoMemory>
-    ensures { IfOk result (λ r. (r.0, stack_of frames.new.items, r.1) ≡ another (stack_of frames.old.items) tree) }
+fn go_on(frames: &mut Vec<Frame>, tree: Expr) -> Result<Progress, NoMemory>
+    ensures { IfOk result (λ r. (r.0, stack_of frames.new.items, r.1) ≡ comma_step (stack_of frames.old.items) tree) }
 {
     match frames.pop() {
         Some(Frame::Calls(name, mut args, at)) => {
@@ -226,9 +226,9 @@ fn follow(
     token: &Token,
     tree: Expr,
     at: usize,
-) -> Result<Moved, NoMemory>
+) -> Result<Progress, NoMemory>
     ensures { IfOk result (λ r. (r.0, stack_of frames.new.items, r.1)
-        ≡ followed token.now (stack_of frames.old.items) tree at) }
+        ≡ behind_step token.now (stack_of frames.old.items) tree at) }
 {
     match token {
         Token::Open => call(alloc, frames, tree, at),
@@ -251,9 +251,9 @@ fn step(
     token: &Token,
     tree: Option<Expr>,
     at: usize,
-) -> Result<Moved, NoMemory>
+) -> Result<Progress, NoMemory>
     ensures { IfOk result (λ r. (r.0, stack_of frames.new.items, r.1)
-        ≡ moved token.now (stack_of frames.old.items) tree at) }
+        ≡ step token.now (stack_of frames.old.items) tree at) }
 {
     match tree {
         Some(tree) => follow(alloc, frames, token, tree, at),
@@ -267,7 +267,7 @@ fn enclose(
     frame: Frame,
     found: Option<(Expr, usize)>,
 ) -> Result<Option<(Expr, usize)>, NoMemory>
-    ensures { IfOk result (λ r. r ≡ around frame found) }
+    ensures { IfOk result (λ r. r ≡ whole_around frame found) }
 {
     match found {
         None => match frame {
@@ -299,7 +299,7 @@ fn last_whole(
     frames: Vec<Frame>,
     found: Option<(Expr, usize)>,
 ) -> Result<Option<(Expr, usize)>, NoMemory>
-    ensures { IfOk result (λ r. r ≡ best (stack_of frames.items) found) }
+    ensures { IfOk result (λ r. r ≡ last_whole (stack_of frames.items) found) }
 {
     let mut frames = frames;
     let mut found = found;

@@ -1,6 +1,6 @@
 -- What is read is spelled so, and what is spelled so is read: single parts, and parts joined to others.
-use Rattle.std.proofs.Common.{◌≡◌, ℕ, ◌≤◌, Bool, true, false, not, cond, Option, Some, None, ◌⊎◌, List, [], ◌∷◌, ◌++◌, length, drop, refl, sym, ◌∙◌, ap, subst, append_assoc, inl, inr}
-use Rattle.std.proofs.lemmas.List.{append-nil}
+use Rattle.std.proofs.Common.{◌≡◌, ℕ, ◌≤◌, Bool, true, false, not, cond, Option, Some, None, ◌⊎◌, List, [], ◌∷◌, ◌++◌, take, drop, refl, sym, ◌∙◌, ap, subst, append_assoc, inl, inr}
+use Rattle.std.proofs.lemmas.List.{append-nil, take-append-drop}
 use Rattle.std.proofs.lemmas.Bool.{le-leb, leb-true}
 use Rattle.std.proofs.Math.Dec.{leb}
 use Rattle.std.proofs.Math.Seq.{drop-append_seam}
@@ -13,18 +13,14 @@ use Rattle.fm_base.specs.declared.token.Token.{Token}
 use Rattle.fm_base.specs.declared.token.Token.TheVariants as token
 use Rattle.fm_tree.specs.Spelling.{spelling}
 use Rattle.fm_tree.specs.Shape.{IsWellShaped}
-use Rattle.fm_tree.specs.Forms.{either_spelled, EitherShape, perhaps_spelled, PerhapsShape, flag_spelled}
-use Rattle.fm_expr.specs.Reading.{expr_at}
-use Rattle.fm_expr.specs.Longest.{Stops}
-use Rattle.fm_expr.proofs.Laws.{expr_at_sound, expr_at_whole}
+use Rattle.fm_tree.specs.Forms.{either_spelled, EitherShape, optional_spelled, OptionalShape, optional_token_spelled}
+use Rattle.fm_expr.specs.Longest.{IsExpressionAt, IsLongestExpression, StopsExpression, expr_at}
+use Rattle.fm_expr.proofs.Laws.{expr_at_longest, expr_at_whole}
+use Rattle.fm_parts.specs.Exact.{IsExact}
 use Rattle.fm_parts.specs.declared.mark.Mark.{Mark}
 use Rattle.fm_parts.specs.declared.mark.Mark.TheVariants as mark
 use Rattle.fm_parts.specs.declared.mark.Word.{Word}
-use Rattle.fm_parts.specs.Reading.{Part, Read, Ends, starts, token_of, word_text, is, is_word, any_token, name, label, constant, expr, stops_expr, mark_at, behind, before, pair, over, over_read, either, perhaps, maybe, flag, whole, nothing_left, ◌>>=◌}
-
-pub record IsExact {X : Type 0} (g : Part X) : Type 0 where
-  pub sound : (ts : List Token) (x : X) (rest : List Token) → g.read ts ≡ Some (x, rest) → g.form.Shape x × (ts ≡ g.form.spelled x ++ rest)
-  pub complete : (x : X) (rest : List Token) → g.form.Shape x → Ends g.stop rest → g.read (g.form.spelled x ++ rest) ≡ Some (x, rest)
+use Rattle.fm_parts.specs.Reading.{Part, Read, Ends, starts, token_of, word_text, is, is_word_token, any_token, name, label, constant, expr, stops_expr, mark_at, behind, before, pair, over, over_read, either, optional, optional_behind, optional_token, whole, nothing_left, ◌>>=◌}
 
 -- what a part begins with
 abbrev pub Begins : {X : Type 0} → (Token → Bool) → Bool → Part X → Type 0
@@ -85,9 +81,9 @@ not_started p (t ∷ ts) e = not_true (p t) e
 
 -- fixed tokens
 
-is_word_token : (w : Word) (t : Token) → is_word w t ≡ true → t ≡ token.Named (word_text w)
-is_word_token w (token.Named n) e = ap token.Named (same_text n (word_text w) (sym e))
-is_word_token w t e = cc
+word_token_is : (w : Word) (t : Token) → is_word_token w t ≡ true → t ≡ token.Named (word_text w)
+word_token_is w (token.Named n) e = ap token.Named (same_text n (word_text w) (sym e))
+word_token_is w t e = cc
 
 pub is_token : (m : Mark) (t : Token) → is m t ≡ true → t ≡ token_of m
 is_token mark.Open token.Open e = refl
@@ -102,7 +98,7 @@ is_token mark.Colon token.Colon e = refl
 is_token mark.Colon t e = cc
 is_token mark.Star (token.Sign op.Mul) e = refl
 is_token mark.Star t e = cc
-is_token (mark.Word w) t e = is_word_token w t e
+is_token (mark.Word w) t e = word_token_is w t e
 
 pub is_itself : (m : Mark) → is m (token_of m) ≡ true
 is_itself mark.Open = refl
@@ -153,15 +149,14 @@ pub exact_expr : IsExact expr
 exact_expr = record {
   sound = λ ts t rest e.
       let b = bind_some (expr_at ts) (λ p. Some (p.0, drop p.1 ts)) (t, rest) e in
-      let f = expr_at_sound ts b.0.0 b.0.1 b.1 in
+      let f : IsLongestExpression ts b.0.0 b.0.1 = subst (IsExpressionAt ts) b.1 (expr_at_longest ts) in
       let q = same_value b.0.0 t (drop b.0.1 ts) rest b.2 in
-      let r : drop b.0.1 ts ≡ f.more = ap (λ (n : ℕ). drop n ts) f.ends ∙ ap (drop (length (spelling b.0.0))) f.spelled ∙ drop-append_seam (spelling b.0.0) f.more in
-      (subst IsWellShaped q.0 f.shaped, f.spelled ∙ (let w : spelling b.0.0 ++ f.more ≡ spelling t ++ rest = cc (q.0, q.1, r) in w));
+      (subst IsWellShaped q.0 f.shaped, sym (take-append-drop b.0.1 ts) ∙ (let w : take b.0.1 ts ++ drop b.0.1 ts ≡ spelling t ++ rest = cc (q.0, q.1, f.spelled) in w));
   complete = λ t rest s e.
       rw (expr_at_whole t rest s (stops rest e), drop-append_seam (spelling t) rest) refl;
 }
   where
-    stops : (ts : List Token) → Ends stops_expr ts → Stops ts
+    stops : (ts : List Token) → Ends stops_expr ts → StopsExpression ts
     stops [] e = tt
     stops (token.Close ∷ ts) e = tt
     stops (token.Comma ∷ ts) e = tt
@@ -258,10 +253,10 @@ exact_either {X} {Y} test g h x y yes_g no_h = record {
     complete (inl a) rest s e = rw (yes_g a rest s, x.complete a rest s (ends_left g.stop h.stop rest e)) refl
     complete (inr b) rest s e = rw (no_h b rest s, y.complete b rest s (ends_right g.stop h.stop rest e)) refl
 
-pub exact_perhaps : {X : Type 0} (test : Token → Bool) (g : Part X) → IsExact g → Begins test true g → IsExact (perhaps test g)
-exact_perhaps {X} test g x begins = record {
+pub exact_optional : {X : Type 0} (test : Token → Bool) (g : Part X) → IsExact g → Begins test true g → IsExact (optional test g)
+exact_optional {X} test g x begins = record {
   sound = λ ts z rest e.
-      let P : Option X → Type 0 = λ w. PerhapsShape g.form w × (ts ≡ perhaps_spelled g.form w ++ rest) in
+      let P : Option X → Type 0 = λ w. OptionalShape g.form w × (ts ≡ optional_spelled g.form w ++ rest) in
       (elim (starts test ts) as (λ b. ◌≡◌ {A = Read (Option X)} (cond b (over_read Some g.read ts) (Some (None, ts))) (Some (z, rest)) → P z) [
         | true ↦ λ f. let o = made_of Some g.read ts z rest f in subst P o.2 (x.sound ts o.0 rest o.1)
         | false ↦ λ f. let q = same_value None z ts rest f in subst P q.0 (tt, q.1)
@@ -269,50 +264,50 @@ exact_perhaps {X} test g x begins = record {
   complete = complete;
 }
   where
-    complete : (z : Option X) (rest : List Token) → PerhapsShape g.form z → Ends (perhaps test g).stop rest → (perhaps test g).read (perhaps_spelled g.form z ++ rest) ≡ Some (z, rest)
+    complete : (z : Option X) (rest : List Token) → OptionalShape g.form z → Ends (optional test g).stop rest → (optional test g).read (optional_spelled g.form z ++ rest) ≡ Some (z, rest)
     complete None rest s e = rw (not_started test rest (ends_left (λ t. not (test t)) g.stop rest e)) refl
     complete (Some a) rest s e = rw (begins a rest s, x.complete a rest s (ends_right (λ t. not (test t)) g.stop rest e)) refl
 
-pub exact_maybe : {X : Type 0} (m : Mark) (g : Part X) → IsExact g → IsExact (maybe m g)
-exact_maybe {X} m g x = record {
+pub exact_optional_behind : {X : Type 0} (m : Mark) (g : Part X) → IsExact g → IsExact (optional_behind m g)
+exact_optional_behind {X} m g x = record {
   sound = λ ts z rest e. there ts z rest (px.sound ts z rest e);
   complete = complete;
 }
   where
-    px : IsExact (perhaps (is m) (behind m g))
-    px = exact_perhaps (is m) (behind m g) (exact_behind m g x) (λ y rest s. is_itself m)
+    px : IsExact (optional (is m) (behind m g))
+    px = exact_optional (is m) (behind m g) (exact_behind m g x) (λ y rest s. is_itself m)
 
-    there : (ts : List Token) (z : Option X) (rest : List Token) → (perhaps (is m) (behind m g)).form.Shape z × (ts ≡ (perhaps (is m) (behind m g)).form.spelled z ++ rest)
-        → (maybe m g).form.Shape z × (ts ≡ (maybe m g).form.spelled z ++ rest)
+    there : (ts : List Token) (z : Option X) (rest : List Token) → (optional (is m) (behind m g)).form.Shape z × (ts ≡ (optional (is m) (behind m g)).form.spelled z ++ rest)
+        → (optional_behind m g).form.Shape z × (ts ≡ (optional_behind m g).form.spelled z ++ rest)
     there ts None rest w = w
     there ts (Some y) rest w = w
 
-    complete : (z : Option X) (rest : List Token) → (maybe m g).form.Shape z → Ends (maybe m g).stop rest → (maybe m g).read ((maybe m g).form.spelled z ++ rest) ≡ Some (z, rest)
+    complete : (z : Option X) (rest : List Token) → (optional_behind m g).form.Shape z → Ends (optional_behind m g).stop rest → (optional_behind m g).read ((optional_behind m g).form.spelled z ++ rest) ≡ Some (z, rest)
     complete None rest s e = px.complete None rest s e
     complete (Some y) rest s e = px.complete (Some y) rest s e
 
-pub exact_flag : (m : Mark) → IsExact (flag m)
-exact_flag m = record {
+pub exact_optional_token : (m : Mark) → IsExact (optional_token m)
+exact_optional_token m = record {
   sound = sound;
   complete = complete;
 }
   where
     P : List Token → List Token → Bool → Type 0
-    P ts rest z = Unit {0} × (ts ≡ flag_spelled (token_of m) z ++ rest)
+    P ts rest z = Unit {0} × (ts ≡ optional_token_spelled (token_of m) z ++ rest)
 
-    sound : (ts : List Token) (z : Bool) (rest : List Token) → (flag m).read ts ≡ Some (z, rest) → Unit {0} × (ts ≡ flag_spelled (token_of m) z ++ rest)
-    sound [] z rest e = let q = same_value false z [] rest e in subst (λ (w : Bool). Unit {0} × ([] ≡ flag_spelled (token_of m) w ++ rest)) q.0 (tt, q.1)
+    sound : (ts : List Token) (z : Bool) (rest : List Token) → (optional_token m).read ts ≡ Some (z, rest) → Unit {0} × (ts ≡ optional_token_spelled (token_of m) z ++ rest)
+    sound [] z rest e = let q = same_value false z [] rest e in subst (λ (w : Bool). Unit {0} × ([] ≡ optional_token_spelled (token_of m) w ++ rest)) q.0 (tt, q.1)
     sound (t ∷ ts) z rest e =
-        (elim (is m t) as (λ b. is m t ≡ b → ◌≡◌ {A = Read Bool} (cond b (Some (true, ts)) (Some (false, t ∷ ts))) (Some (z, rest)) → Unit {0} × (t ∷ ts ≡ flag_spelled (token_of m) z ++ rest)) [
+        (elim (is m t) as (λ b. is m t ≡ b → ◌≡◌ {A = Read Bool} (cond b (Some (true, ts)) (Some (false, t ∷ ts))) (Some (z, rest)) → Unit {0} × (t ∷ ts ≡ optional_token_spelled (token_of m) z ++ rest)) [
           | true ↦ λ h f.
               let q = same_value true z ts rest f in
-              subst (λ (w : Bool). Unit {0} × (t ∷ ts ≡ flag_spelled (token_of m) w ++ rest)) q.0 (tt, cc (is_token m t h, q.1))
+              subst (λ (w : Bool). Unit {0} × (t ∷ ts ≡ optional_token_spelled (token_of m) w ++ rest)) q.0 (tt, cc (is_token m t h, q.1))
           | false ↦ λ h f.
               let q = same_value false z (t ∷ ts) rest f in
-              subst (λ (w : Bool). Unit {0} × (t ∷ ts ≡ flag_spelled (token_of m) w ++ rest)) q.0 (tt, q.1)
+              subst (λ (w : Bool). Unit {0} × (t ∷ ts ≡ optional_token_spelled (token_of m) w ++ rest)) q.0 (tt, q.1)
         ]) refl e
 
-    complete : (z : Bool) (rest : List Token) → Unit {0} → Ends (flag m).stop rest → (flag m).read (flag_spelled (token_of m) z ++ rest) ≡ Some (z, rest)
+    complete : (z : Bool) (rest : List Token) → Unit {0} → Ends (optional_token m).stop rest → (optional_token m).read (optional_token_spelled (token_of m) z ++ rest) ≡ Some (z, rest)
     complete true rest s e = rw (is_itself m) refl
     complete false [] s e = refl
     complete false (t ∷ ts) s e = rw (not_true (is m t) e) refl
@@ -332,12 +327,12 @@ pub whole_complete : {X : Type 0} (g : Part X) → IsExact g → (x : X) → g.f
 whole_complete g x y s = ap (λ (r : List Token). whole g.read r) (sym (append-nil (g.form.spelled y))) ∙ rw (x.complete y [] s tt) refl
 
 -- a part that may be absent: what it begins with, and what stands behind it, may stand behind the one before it
-pub leads_perhaps : {X Y : Type 0} (g : Part X) (test : Token → Bool) (h : Part Y) → ((t : Token) → h.stop t ≡ true → g.stop t ≡ true) → Leads g h → Leads g (perhaps test h)
-leads_perhaps {X} {Y} g test h l k None [] s e = tt
-leads_perhaps {X} {Y} g test h l k None (t ∷ ts) s e = l t (both (not (test t)) (h.stop t) e).1
-leads_perhaps {X} {Y} g test h l k (Some y) rest s e = k y rest s (ends_right (λ t. not (test t)) h.stop rest e)
+pub leads_optional : {X Y : Type 0} (g : Part X) (test : Token → Bool) (h : Part Y) → ((t : Token) → h.stop t ≡ true → g.stop t ≡ true) → Leads g h → Leads g (optional test h)
+leads_optional {X} {Y} g test h l k None [] s e = tt
+leads_optional {X} {Y} g test h l k None (t ∷ ts) s e = l t (both (not (test t)) (h.stop t) e).1
+leads_optional {X} {Y} g test h l k (Some y) rest s e = k y rest s (ends_right (λ t. not (test t)) h.stop rest e)
 
-pub leads_maybe : {X Y : Type 0} (g : Part X) (m : Mark) (h : Part Y) → ((t : Token) → h.stop t ≡ true → g.stop t ≡ true) → g.stop (token_of m) ≡ true → Leads g (maybe m h)
-leads_maybe {X} {Y} g m h l k None [] s e = tt
-leads_maybe {X} {Y} g m h l k None (t ∷ ts) s e = l t (both (not (is m t)) (h.stop t) e).1
-leads_maybe {X} {Y} g m h l k (Some y) rest s e = k
+pub leads_optional_behind : {X Y : Type 0} (g : Part X) (m : Mark) (h : Part Y) → ((t : Token) → h.stop t ≡ true → g.stop t ≡ true) → g.stop (token_of m) ≡ true → Leads g (optional_behind m h)
+leads_optional_behind {X} {Y} g m h l k None [] s e = tt
+leads_optional_behind {X} {Y} g m h l k None (t ∷ ts) s e = l t (both (not (is m t)) (h.stop t) e).1
+leads_optional_behind {X} {Y} g m h l k (Some y) rest s e = k

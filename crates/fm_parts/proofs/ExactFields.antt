@@ -3,20 +3,22 @@ use Rattle.std.proofs.Common.{◌≡◌, ℕ, suc, zero, ◌+◌, ◌≤◌, tru
 use Rattle.std.proofs.lemmas.List.{append-nil, take-append-drop}
 use Rattle.std.specs.Cmp.Lexicographic.{same_text}
 use Rattle.std.specs.Prelude.{◌&&◌, IsTrue}
+use Rattle.fm_base.specs.Letters.{is_name_text}
 use Rattle.fm_base.specs.declared.token.Token.{Token}
 use Rattle.fm_base.specs.declared.token.Token.TheVariants as token
-use Rattle.fm_tree.specs.Forms.{perhaps_spelled, PerhapsShape, more_spelled, list_spelled, AllShape}
+use Rattle.fm_tree.specs.Forms.{optional_spelled, OptionalShape, more_spelled, list_spelled, AllShape}
 use Rattle.fm_tree.specs.PortFields.{PortFields, FieldKind, NoFields, FieldThen, Integer, Logical, In, Out, fields_count, kind_count}
 use Rattle.fm_tree.specs.PortReading.{kind_of, fields_of}
 use Rattle.fm_tree.specs.declared.port_type.Bound.{Bound}
 use Rattle.fm_tree.specs.declared.port_type.Field.{Field}
 use Rattle.fm_tree.specs.declared.port_type.Kind.{Kind}
 use Rattle.fm_tree.specs.declared.port_type.Kind.TheVariants as kind
-use Rattle.fm_tree.specs.Parts.{kind_spelled, fields_spelled, more_fields_spelled, word_with, name_tokens, is_name_text, AreBoundsOf, PartsFromKeyword, IsKindShaped, AreFieldsShaped}
-use Rattle.fm_parts.specs.Reading.{Part, Read, Ends, starts, any_token, is_text, is_open, is_close, opens, name, parens, pair, perhaps, over_read, listed, listed_read, bracketed, ◌>>=◌}
+use Rattle.fm_tree.specs.Parts.{kind_spelled, fields_spelled, more_fields_spelled, word_with, name_tokens, AreBoundsOf, PartsFromKeyword, IsKindShaped, AreFieldsShaped}
+use Rattle.fm_parts.specs.Reading.{Part, Read, Ends, starts, any_token, is_same_text, is_open, is_close, opens, name, parens, pair, optional, over_read, listed, listed_read, bracketed, ◌>>=◌}
 use Rattle.fm_parts.specs.Parts.{bound_part}
 use Rattle.fm_parts.specs.Fields.{behind_text, name_behind, Head, head_behind, logical_head, scalar_head_of, scalar_head, is_named, port_read, word_head, head_read, bounds_read, field_of, field_read, fields_read, port_type_part}
-use Rattle.fm_parts.proofs.Exact.{IsExact, Begins, bind_some, same_value, made_of, ends_any, ends_left, ends_right, exact_name, exact_pair, exact_perhaps}
+use Rattle.fm_parts.specs.Exact.{IsExact}
+use Rattle.fm_parts.proofs.Exact.{Begins, bind_some, same_value, made_of, ends_any, ends_left, ends_right, exact_name, exact_pair, exact_optional}
 use Rattle.fm_parts.proofs.ExactLists.{exact_listed, exact_parens, exact_bracketed}
 use Rattle.fm_parts.proofs.ExactParts.{exact_bound}
 
@@ -120,7 +122,7 @@ exact_bounds (Some n) = record {
 
 text_behind : (k n rest : List ℕ) → behind_text k n ≡ Some rest → n ≡ k ++ rest
 text_behind k n rest e =
-    (elim (is_text (take (length k) n) k) as (λ v. is_text (take (length k) n) k ≡ v → cond v (Some (drop (length k) n)) None ≡ Some rest → n ≡ k ++ rest) [
+    (elim (is_same_text (take (length k) n) k) as (λ v. is_same_text (take (length k) n) k ≡ v → cond v (Some (drop (length k) n)) None ≡ Some rest → n ≡ k ++ rest) [
       | true ↦ λ h f.
           let q : drop (length k) n ≡ rest = cc f in
           sym (take-append-drop (length k) n) ∙ ap (λ (r : List ℕ). r ++ drop (length k) n) (same_text (take (length k) n) k (sym h)) ∙ ap (λ (r : List ℕ). k ++ r) q
@@ -166,17 +168,17 @@ scalar_sound d n h e =
         subst P r (make b.0 (p.0, ap token.Named q ∙ p.1))
 
 -- the parts of a port: what stands in its parentheses, and its name
-exact_inside : (d : ℕ) → IsExact (fields_part d) → IsExact (pair (parens (fields_part d)) (perhaps is_named name))
+exact_inside : (d : ℕ) → IsExact (fields_part d) → IsExact (pair (parens (fields_part d)) (optional is_named name))
 unfolding fields_part
 exact_inside d x =
-    exact_pair (parens (fields_part d)) (perhaps is_named name) (exact_parens (fields_part d) x refl) (exact_perhaps is_named name exact_name (λ n rest s. refl)) (λ z rest s e. ends_any _)
+    exact_pair (parens (fields_part d)) (optional is_named name) (exact_parens (fields_part d) x refl) (exact_optional is_named name exact_name (λ n rest s. refl)) (λ z rest s e. ends_any _)
 
 -- with the tokens joined from the right
-port_tokens : (p : PortFields) (n : Option (List ℕ)) → (token.Open ∷ (fields_spelled p ++ token.Close ∷ [])) ++ perhaps_spelled name.form n ≡ token.Open ∷ (fields_spelled p ++ token.Close ∷ name_tokens n)
+port_tokens : (p : PortFields) (n : Option (List ℕ)) → (token.Open ∷ (fields_spelled p ++ token.Close ∷ [])) ++ optional_spelled name.form n ≡ token.Open ∷ (fields_spelled p ++ token.Close ∷ name_tokens n)
 port_tokens p None = ap (λ (r : List Token). token.Open ∷ r) (append_assoc (fields_spelled p) (token.Close ∷ []) [])
 port_tokens p (Some n) = ap (λ (r : List Token). token.Open ∷ r) (append_assoc (fields_spelled p) (token.Close ∷ []) (token.Named n ∷ []))
 
-named_shape : (n : Option (List ℕ)) → PerhapsShape name.form n
+named_shape : (n : Option (List ℕ)) → OptionalShape name.form n
 named_shape None = tt
 named_shape (Some n) = tt
 
@@ -196,8 +198,8 @@ exact_head d x = record {
 
     with_name : (n : List ℕ) (ts : List Token) (h : Head) (rest : List Token) → word_head (fields_read d) n ts ≡ Some (h, rest) → P (token.Named n ∷ ts) rest h
     with_name n ts h rest e =
-        (elim (is_text n (codes "INPORT")) as (λ b. is_text n (codes "INPORT") ≡ b
-        → cond b (over_read (λ p. (kind.In p.0, p.1)) (port_read (fields_read d)) ts) (cond (is_text n (codes "OUTPORT")) (over_read (λ p. (kind.Out p.0, p.1)) (port_read (fields_read d)) ts) (scalar_head n >>= λ g. Some (g, ts))) ≡ Some (h, rest)
+        (elim (is_same_text n (codes "INPORT")) as (λ b. is_same_text n (codes "INPORT") ≡ b
+        → cond b (over_read (λ p. (kind.In p.0, p.1)) (port_read (fields_read d)) ts) (cond (is_same_text n (codes "OUTPORT")) (over_read (λ p. (kind.Out p.0, p.1)) (port_read (fields_read d)) ts) (scalar_head n >>= λ g. Some (g, ts))) ≡ Some (h, rest)
         → P (token.Named n ∷ ts) rest h) [
           | true ↦ λ i f.
               let o = made_of (λ p. (kind.In p.0, p.1)) (port_read (fields_read d)) ts h rest f in
@@ -205,7 +207,7 @@ exact_head d x = record {
               subst (P (token.Named n ∷ ts) rest) o.2
               ((s.0.0.0, s.0.0.1), ap (λ (m : List ℕ). token.Named m ∷ ts) (same_text n (codes "INPORT") (sym i)) ∙ ap (λ (r : List Token). token.Named (codes "INPORT") ∷ r) (s.1 ∙ ap (λ (r : List Token). r ++ rest) (port_tokens o.0.0 o.0.1)))
           | false ↦ λ i f.
-              (elim (is_text n (codes "OUTPORT")) as (λ b. is_text n (codes "OUTPORT") ≡ b
+              (elim (is_same_text n (codes "OUTPORT")) as (λ b. is_same_text n (codes "OUTPORT") ≡ b
               → cond b (over_read (λ p. (kind.Out p.0, p.1)) (port_read (fields_read d)) ts) (scalar_head n >>= λ g. Some (g, ts)) ≡ Some (h, rest)
               → P (token.Named n ∷ ts) rest h) [
                 | true ↦ λ j g.

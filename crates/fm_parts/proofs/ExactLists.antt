@@ -3,12 +3,13 @@ use Rattle.std.proofs.Common.{◌≡◌, ℕ, suc, zero, ◌≤◌, Bool, true, 
 use Rattle.std.specs.Prelude.{◌&&◌}
 use Rattle.fm_base.specs.declared.token.Token.{Token}
 use Rattle.fm_base.specs.declared.token.Token.TheVariants as token
-use Rattle.fm_tree.specs.Forms.{more_spelled, list_spelled, bracketed_spelled, AllShape, SomeShape, may_assign_spelled, swapped_spelled}
+use Rattle.fm_tree.specs.Forms.{more_spelled, list_spelled, bracketed_spelled, AllShape, SomeShape, optional_keyword_spelled, swapped_spelled}
 use Rattle.fm_parts.specs.declared.mark.Mark.{Mark}
 use Rattle.fm_parts.specs.declared.mark.Mark.TheVariants as mark
 use Rattle.fm_parts.specs.declared.mark.Word.{Word}
-use Rattle.fm_parts.specs.Reading.{Part, Read, Ends, starts, token_of, word_text, is, is_open, is_close, is_comma, is_equals, mark_at, behind, before, parens, pair, pair_read, over_read, more, more_read, items_read, some_of, some_read, joined, listed, opens, bracketed, such_that, until, two_read, swapped, assigned_at, may_assign, may_assign_from, ◌>>=◌}
-use Rattle.fm_parts.proofs.Exact.{IsExact, Begins, Leads, bind_some, same_value, made_of, both, not_true, ends_left, ends_right, not_started, is_token, mark_sound, mark_complete, exact_behind, exact_before, exact_pair}
+use Rattle.fm_parts.specs.Reading.{Part, Read, Ends, starts, token_of, word_text, is, is_open, is_close, is_comma, is_equals, mark_at, behind, before, parens, pair, pair_read, over_read, more, more_read, items_read, some_of, some_read, items_of, listed, opens, bracketed, such_that, until, two_read, swapped, assigned_at, optional_keyword, optional_keyword_from, ◌>>=◌}
+use Rattle.fm_parts.specs.Exact.{IsExact}
+use Rattle.fm_parts.proofs.Exact.{Begins, Leads, bind_some, same_value, made_of, both, not_true, ends_left, ends_right, not_started, is_token, mark_sound, mark_complete, exact_behind, exact_before, exact_pair}
 
 pub exact_more : {X : Type 0} (g : Part X) → IsExact g → g.stop token.Comma ≡ true → IsExact (more g)
 exact_more {X} g x k = record {
@@ -66,7 +67,7 @@ leads_more {X} {Y} g h l k (y ∷ ys) rest s e = k
 pub exact_some : {X : Type 0} (g : Part X) → IsExact g → g.stop token.Comma ≡ true → IsExact (some_of g)
 exact_some {X} g x k = record {
   sound = λ ts xs rest e.
-      let o = made_of joined (pair_read g.read (more_read g.read)) ts xs rest e in
+      let o = made_of items_of (pair_read g.read (more_read g.read)) ts xs rest e in
       subst (λ (zs : List X). SomeShape g.form zs × (ts ≡ list_spelled g.form zs ++ rest)) o.2 (px.sound ts o.0 rest o.1);
   complete = complete;
 }
@@ -210,11 +211,11 @@ exact_swapped {X} {Y} test g h x y k l yes_g no_h = record {
 abbrev pub Unassigned : {X : Type 0} → Word → Part X → Type 0
 Unassigned {X} w g = (x : X) (rest : List Token) → g.form.Shape x → Ends (λ t. not (is_equals t) && g.stop t) rest → assigned_at w (g.form.spelled x ++ rest) ≡ None
 
-pub exact_may_assign : {X : Type 0} (w : Word) (g : Part X) → IsExact g → Unassigned w g → IsExact (may_assign w g)
-exact_may_assign {X} w g x apart = record {
+pub exact_optional_keyword : {X : Type 0} (w : Word) (g : Part X) → IsExact g → Unassigned w g → IsExact (optional_keyword w g)
+exact_optional_keyword {X} w g x apart = record {
   sound = λ ts z rest e.
-      let P : Bool × X → Type 0 = λ v. g.form.Shape v.1 × (ts ≡ may_assign_spelled (word_text w) g.form v.0 v.1 ++ rest) in
-      (elim (assigned_at w ts) as (λ o. assigned_at w ts ≡ o → ◌≡◌ {A = Read (Bool × X)} (may_assign_from o g.read ts) (Some (z, rest)) → P z) [
+      let P : Bool × X → Type 0 = λ v. g.form.Shape v.1 × (ts ≡ optional_keyword_spelled (word_text w) g.form v.0 v.1 ++ rest) in
+      (elim (assigned_at w ts) as (λ o. assigned_at w ts ≡ o → ◌≡◌ {A = Read (Bool × X)} (optional_keyword_from o g.read ts) (Some (z, rest)) → P z) [
         | None ↦ λ h f. let o = made_of (λ v. (false, v)) g.read ts z rest f in subst P o.2 (x.sound ts o.0 rest o.1)
         | Some more ↦ λ h f.
             let o = made_of (λ v. (true, v)) g.read more z rest f in
@@ -229,8 +230,8 @@ exact_may_assign {X} w g x apart = record {
         let b = bind_some (mark_at (mark.Word w) ts) (mark_at mark.Equals) more e in
         mark_sound (mark.Word w) ts b.0 b.1 ∙ ap (λ (r : List Token). token_of (mark.Word w) ∷ r) (mark_sound mark.Equals b.0 more b.2)
 
-    complete : (named : Bool) (y : X) (rest : List Token) → g.form.Shape y → Ends (may_assign w g).stop rest
-        → (may_assign w g).read (may_assign_spelled (word_text w) g.form named y ++ rest) ≡ Some ((named, y), rest)
+    complete : (named : Bool) (y : X) (rest : List Token) → g.form.Shape y → Ends (optional_keyword w g).stop rest
+        → (optional_keyword w g).read (optional_keyword_spelled (word_text w) g.form named y ++ rest) ≡ Some ((named, y), rest)
     complete true y rest s e =
         rw (mark_complete (mark.Word w) (token.Equals ∷ (g.form.spelled y ++ rest)), x.complete y rest s (ends_right (λ t. not (is_equals t)) g.stop rest e)) refl
     complete false y rest s e =

@@ -26,10 +26,11 @@ use Rattle.fm_parts.specs.declared.mark.Mark.TheVariants as mark
 use Rattle.fm_parts.specs.declared.mark.Mark.TheVariants.{Open, Close, Comma, Equals, Colon}
 use Rattle.fm_parts.specs.declared.mark.Word.{Word}
 use Rattle.fm_parts.specs.declared.mark.Word.TheVariants as word
-use Rattle.fm_parts.specs.Reading.{Part, Ends, starts, word_text, is_text, is_word, is_open, is_equals, any_token, opens, name, label, expr, constant, behind, before, parens, assigned, pair, either, perhaps, maybe, flag, more, some_of, listed, bracketed, such_that, mark_at, assigned_at, ◌>>=◌}
+use Rattle.fm_parts.specs.Reading.{Part, Ends, starts, word_text, is_same_text, is_word_token, is_open, is_equals, any_token, opens, name, label, expr, constant, behind, before, parens, assigned, pair, either, optional, optional_behind, optional_token, more, some_of, listed, bracketed, such_that, mark_at, assigned_at, ◌>>=◌}
 use Rattle.fm_parts.specs.Parts.{var_part, var_of, bound_part, bound_of, decl_part, decl_of, array_part, defined_part, defined_of, way_part, way_of, way_at, is_number, loop_label_part, loop_label_of, loop_part, loop_of, item_part, item_of, no_constant, unit_part, unit_at, unit_of, number_unit, port_part, extra_part, extra_of, are_each_once, extras_part, location_part, submachine_part, where_part, where_of, call_part_part, call_part_of}
-use Rattle.fm_parts.proofs.Exact.{IsExact, Begins, bind_some, same_value, both, not_true, ends_any, exact_name, exact_label, exact_constant, exact_expr, exact_behind, exact_before, exact_pair, exact_over, exact_either, exact_perhaps, exact_maybe, exact_flag, leads_maybe}
-use Rattle.fm_parts.proofs.ExactLists.{exact_more, exact_some, exact_listed, exact_parens, exact_bracketed, exact_such_that, exact_until, exact_may_assign, Unassigned}
+use Rattle.fm_parts.specs.Exact.{IsExact}
+use Rattle.fm_parts.proofs.Exact.{Begins, bind_some, same_value, both, not_true, ends_any, exact_name, exact_label, exact_constant, exact_expr, exact_behind, exact_before, exact_pair, exact_over, exact_either, exact_optional, exact_optional_behind, exact_optional_token, leads_optional_behind}
+use Rattle.fm_parts.proofs.ExactLists.{exact_more, exact_some, exact_listed, exact_parens, exact_bracketed, exact_such_that, exact_until, exact_optional_keyword, Unassigned}
 
 -- a name comes first, and any token may stand behind it
 pub exact_named : {Y : Type 0} (h : Part Y) → IsExact h → IsExact (pair name h)
@@ -40,8 +41,8 @@ exact_var = exact_over forms.var_parts var_of (pair name (bracketed expr)) (exac
 
 pub exact_bound : IsExact bound_part
 exact_bound =
-    exact_over forms.bound_parts bound_of (pair expr (maybe Colon expr))
-    (exact_pair expr (maybe Colon expr) exact_expr (exact_maybe Colon expr exact_expr) (leads_maybe expr Colon expr (λ t e. e) refl))
+    exact_over forms.bound_parts bound_of (pair expr (optional_behind Colon expr))
+    (exact_pair expr (optional_behind Colon expr) exact_expr (exact_optional_behind Colon expr exact_expr) (leads_optional_behind expr Colon expr (λ t e. e) refl))
     (λ p. there p.0 p.1) back
   where
     there : (e : Tree) (o : Option Tree) → forms.bound_parts (bound_of (e, o)) ≡ (e, o)
@@ -76,13 +77,13 @@ exact_way = record {
 
     text_of : (n : List ℕ) (w : Way) → way_of n ≡ Some w → n ≡ forms.way_text w
     text_of n w e =
-        (elim (is_text n (codes "IN")) as (λ b. is_text n (codes "IN") ≡ b → cond b (Some way.In) (cond (is_text n (codes "OUT")) (Some way.Out) (cond (is_text n (codes "INOUT")) (Some way.InOut) None)) ≡ Some w → n ≡ forms.way_text w) [
+        (elim (is_same_text n (codes "IN")) as (λ b. is_same_text n (codes "IN") ≡ b → cond b (Some way.In) (cond (is_same_text n (codes "OUT")) (Some way.Out) (cond (is_same_text n (codes "INOUT")) (Some way.InOut) None)) ≡ Some w → n ≡ forms.way_text w) [
           | true ↦ λ h f. let q : way.In ≡ w = cc f in same_text n (codes "IN") (sym h) ∙ ap forms.way_text q
           | false ↦ λ h f.
-              (elim (is_text n (codes "OUT")) as (λ b. is_text n (codes "OUT") ≡ b → cond b (Some way.Out) (cond (is_text n (codes "INOUT")) (Some way.InOut) None) ≡ Some w → n ≡ forms.way_text w) [
+              (elim (is_same_text n (codes "OUT")) as (λ b. is_same_text n (codes "OUT") ≡ b → cond b (Some way.Out) (cond (is_same_text n (codes "INOUT")) (Some way.InOut) None) ≡ Some w → n ≡ forms.way_text w) [
                 | true ↦ λ h f. let q : way.Out ≡ w = cc f in same_text n (codes "OUT") (sym h) ∙ ap forms.way_text q
                 | false ↦ λ h f.
-                    (elim (is_text n (codes "INOUT")) as (λ b. is_text n (codes "INOUT") ≡ b → cond b (Some way.InOut) None ≡ Some w → n ≡ forms.way_text w) [
+                    (elim (is_same_text n (codes "INOUT")) as (λ b. is_same_text n (codes "INOUT") ≡ b → cond b (Some way.InOut) None ≡ Some w → n ≡ forms.way_text w) [
                       | true ↦ λ h f. let q : way.InOut ≡ w = cc f in same_text n (codes "INOUT") (sym h) ∙ ap forms.way_text q
                       | false ↦ λ h f. cc
                     ]) refl f
@@ -100,19 +101,19 @@ exact_way = record {
 
 exact_loop_label : IsExact loop_label_part
 exact_loop_label =
-    exact_over forms.loop_label_parts loop_label_of (pair label (flag Comma))
-    (exact_pair label (flag Comma) exact_label (exact_flag Comma) (λ z rest s e. ends_any _))
+    exact_over forms.loop_label_parts loop_label_of (pair label (optional_token Comma))
+    (exact_pair label (optional_token Comma) exact_label (exact_optional_token Comma) (λ z rest s e. ends_any _))
     (λ p. refl) (λ l. refl)
 
 pub exact_loop : IsExact loop_part
 exact_loop =
     exact_over forms.loop_parts loop_of
-    (pair (perhaps is_number loop_label_part) (pair name (pair (behind Equals expr) (pair (behind Comma expr) (maybe Comma expr)))))
-    (exact_pair (perhaps is_number loop_label_part) (pair name (pair (behind Equals expr) (pair (behind Comma expr) (maybe Comma expr))))
-    (exact_perhaps is_number loop_label_part exact_loop_label (λ l rest s. refl))
-    (exact_named (pair (behind Equals expr) (pair (behind Comma expr) (maybe Comma expr)))
-    (exact_pair (behind Equals expr) (pair (behind Comma expr) (maybe Comma expr)) (exact_behind Equals expr exact_expr)
-    (exact_pair (behind Comma expr) (maybe Comma expr) (exact_behind Comma expr exact_expr) (exact_maybe Comma expr exact_expr) (leads_maybe (behind Comma expr) Comma expr (λ t e. e) refl))
+    (pair (optional is_number loop_label_part) (pair name (pair (behind Equals expr) (pair (behind Comma expr) (optional_behind Comma expr)))))
+    (exact_pair (optional is_number loop_label_part) (pair name (pair (behind Equals expr) (pair (behind Comma expr) (optional_behind Comma expr))))
+    (exact_optional is_number loop_label_part exact_loop_label (λ l rest s. refl))
+    (exact_named (pair (behind Equals expr) (pair (behind Comma expr) (optional_behind Comma expr)))
+    (exact_pair (behind Equals expr) (pair (behind Comma expr) (optional_behind Comma expr)) (exact_behind Equals expr exact_expr)
+    (exact_pair (behind Comma expr) (optional_behind Comma expr) (exact_behind Comma expr exact_expr) (exact_optional_behind Comma expr exact_expr) (leads_optional_behind (behind Comma expr) Comma expr (λ t e. e) refl))
     (λ z rest s e. refl)))
     (λ z rest s e. refl))
     (λ p. refl) (λ h. refl)
@@ -218,19 +219,19 @@ var_unassigned w v rest s e = there v.name (forms.var_form.spelled v) v.subscrip
 
     after_name : (n : List ℕ) (ts : List Token) → mark_at mark.Equals ts ≡ None → assigned_at w (token.Named n ∷ ts) ≡ None
     after_name n ts h =
-        (elim (is_text n (word_text w)) as (λ b. (cond b (Some ts) None >>= mark_at mark.Equals) ≡ None) [ true ↦ h | false ↦ refl ])
+        (elim (is_same_text n (word_text w)) as (λ b. (cond b (Some ts) None >>= mark_at mark.Equals) ≡ None) [ true ↦ h | false ↦ refl ])
 
     there : (n : List ℕ) (ts : List Token) (subscripts : List Tree) → ts ≡ token.Named n ∷ (bracketed expr).form.spelled subscripts → assigned_at w (ts ++ rest) ≡ None
     there n ts [] q = ap (λ (r : List Token). assigned_at w (r ++ rest)) q ∙ after_name n rest (no_equals rest e)
     there n ts (x ∷ xs) q = ap (λ (r : List Token). assigned_at w (r ++ rest)) q ∙ after_name n _ refl
 
 pub exact_port : IsExact port_part
-exact_port = exact_may_assign word.Port var_part exact_var (var_unassigned word.Port)
+exact_port = exact_optional_keyword word.Port var_part exact_var (var_unassigned word.Port)
 
-exact_extra : IsExact extra_part
+pub exact_extra : IsExact extra_part
 exact_extra =
-    exact_over forms.extra_parts extra_of (either (is_word word.End) (assigned word.End label) (assigned word.Iostat var_part))
-    (exact_either (is_word word.End) (assigned word.End label) (assigned word.Iostat var_part) (exact_assigned word.End label exact_label) (exact_assigned word.Iostat var_part exact_var) (λ l rest s. refl) (λ v rest s. refl))
+    exact_over forms.extra_parts extra_of (either (is_word_token word.End) (assigned word.End label) (assigned word.Iostat var_part))
+    (exact_either (is_word_token word.End) (assigned word.End label) (assigned word.Iostat var_part) (exact_assigned word.End label exact_label) (exact_assigned word.Iostat var_part exact_var) (λ l rest s. refl) (λ v rest s. refl))
     there back
   where
     exact_assigned : {X : Type 0} (w : Word) (g : Part X) → IsExact g → IsExact (assigned w g)
@@ -259,8 +260,8 @@ exact_extras =
 
 exact_where : IsExact where_part
 exact_where =
-    exact_over forms.where_parts where_of (either (is_word word.Location) location_part submachine_part)
-    (exact_either (is_word word.Location) location_part submachine_part
+    exact_over forms.where_parts where_of (either (is_word_token word.Location) location_part submachine_part)
+    (exact_either (is_word_token word.Location) location_part submachine_part
     (exact_behind (mark.Word word.Location) (parens (some_of expr)) (exact_parens (some_of expr) (exact_some expr exact_expr refl) refl))
     (exact_behind (mark.Word word.Submachine) (parens (pair expr (behind Colon expr)))
     (exact_parens (pair expr (behind Colon expr)) (exact_pair expr (behind Colon expr) exact_expr (exact_behind Colon expr exact_expr) (λ z rest s e. refl)) refl))
@@ -277,10 +278,10 @@ exact_where =
 
 pub exact_call_part : IsExact call_part_part
 exact_call_part =
-    exact_over forms.call_parts call_part_of (pair (before (listed expr) Close) (perhaps any_token where_part))
-    (exact_pair (before (listed expr) Close) (perhaps any_token where_part)
+    exact_over forms.call_parts call_part_of (pair (before (listed expr) Close) (optional any_token where_part))
+    (exact_pair (before (listed expr) Close) (optional any_token where_part)
     (exact_before (listed expr) Close (exact_listed expr exact_expr refl refl expr_opens) refl)
-    (exact_perhaps any_token where_part exact_where where_begins)
+    (exact_optional any_token where_part exact_where where_begins)
     (λ z rest s e. ends_any _))
     (λ p. refl) (λ c. refl)
   where

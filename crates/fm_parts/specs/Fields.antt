@@ -1,6 +1,7 @@
 -- How the types of ports are read: the fields of a message, some of which are ports themselves.
 -- Source: the Fortran M report, and this profile for the names of fields.
 use Rattle.std.specs.Prelude.{ℕ, suc, zero, Bool, true, false, if◌then◌else◌, Option, Some, None, List, [], ◌∷◌, length, take, drop}
+use Rattle.fm_base.specs.Letters.{is_name_text}
 use Rattle.fm_base.specs.declared.token.Token.{Token}
 use Rattle.fm_base.specs.declared.token.Token.TheVariants as token
 use Rattle.fm_tree.specs.PortFields.{PortFields}
@@ -11,17 +12,17 @@ use Rattle.fm_tree.specs.declared.port_type.Kind.{Kind}
 use Rattle.fm_tree.specs.declared.port_type.Kind.TheVariants as kind
 use Rattle.fm_tree.specs.Parts as forms
 use Rattle.fm_parts.specs.declared.mark.Word.TheVariants as word
-use Rattle.fm_parts.specs.Reading.{Part, Read, any_token, is_text, word_text, name_at, parens_read, pair_read, perhaps_read, over_read, listed_read, bracketed_read, ◌>>=◌}
+use Rattle.fm_parts.specs.Reading.{Part, Read, any_token, is_same_text, word_text, name_at, parens_read, pair_read, optional_read, over_read, listed_read, bracketed_read, ◌>>=◌}
 use Rattle.fm_parts.specs.Parts.{bound_part}
 
 -- what stands behind a first text
 abbrev pub behind_text : List ℕ → List ℕ → Option (List ℕ)
-behind_text k n = if is_text (take (length k) n) k then Some (drop (length k) n) else None
+behind_text k n = if is_same_text (take (length k) n) k then Some (drop (length k) n) else None
 
 -- the name behind a keyword in one word with it, if something stands there
 abbrev pub name_behind : List ℕ → Option (Option (List ℕ))
 name_behind [] = Some None
-name_behind (b ∷ bs) = if forms.is_name_text (b ∷ bs) then Some (Some (b ∷ bs)) else None
+name_behind (b ∷ bs) = if is_name_text (b ∷ bs) then Some (Some (b ∷ bs)) else None
 
 -- a field's kind and its name
 abbrev pub Head : Type 0
@@ -48,12 +49,12 @@ is_named t = false
 
 -- ( [list(field)] ) [name], by how the fields inside are read
 abbrev pub port_read : (List Token → Read PortFields) → List Token → Read (PortFields × Option (List ℕ))
-port_read inside = pair_read (parens_read inside) (perhaps_read is_named name_at)
+port_read inside = pair_read (parens_read inside) (optional_read is_named name_at)
 
 abbrev pub word_head : (List Token → Read PortFields) → List ℕ → List Token → Read Head
 word_head inside n ts =
-    if is_text n (word_text word.Inport) then over_read (λ p. (kind.In p.0, p.1)) (port_read inside) ts
-    else if is_text n (word_text word.Outport) then over_read (λ p. (kind.Out p.0, p.1)) (port_read inside) ts
+    if is_same_text n (word_text word.Inport) then over_read (λ p. (kind.In p.0, p.1)) (port_read inside) ts
+    else if is_same_text n (word_text word.Outport) then over_read (λ p. (kind.Out p.0, p.1)) (port_read inside) ts
     else scalar_head n >>= λ h. Some (h, ts)
 
 abbrev pub head_read : (List Token → Read PortFields) → List Token → Read Head

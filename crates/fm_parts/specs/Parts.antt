@@ -1,5 +1,5 @@
 -- How the parts of statements are read: variables, bounds, declarations, heads of loops, items, places.
--- Source: ANSI X3.9-1978, sections 5.1, 8.4, 8.6, 11.10 and 12.8.2, and the Fortran M report.
+-- Source: ANSI X3.9-1978, sections 5.1, 5.3, 8.1, 8.4, 8.6, 11.10, 12.3.3 and 12.8.2, and the Fortran M report.
 use Rattle.std.proofs.Common.{inl, inr}
 use Rattle.std.specs.Prelude.{ℕ, ℤ, pos, Bool, true, false, ◌&&◌, nat_le, ◌==◌, if◌then◌else◌, Option, Some, None, ◌⊎◌, List, [], ◌∷◌}
 use Rattle.fm_base.specs.declared.name.Label.{Label}
@@ -27,7 +27,7 @@ use Rattle.fm_tree.specs.declared.statement.CallPart.{CallPart}
 use Rattle.fm_tree.specs.Parts as forms
 use Rattle.fm_parts.specs.declared.mark.Mark.TheVariants.{Open, Close, Comma, Equals, Colon, Star}
 use Rattle.fm_parts.specs.declared.mark.Word.TheVariants as word
-use Rattle.fm_parts.specs.Reading.{Part, Read, any_token, is_text, is_word, word_text, name, label, expr, constant, behind, before, parens, assigned, pair, over, either, perhaps, maybe, flag, may_assign, more, some_of, listed, bracketed, such_that, until, ◌>>=◌}
+use Rattle.fm_parts.specs.Reading.{Part, Read, any_token, is_same_text, is_word_token, word_text, name, label, expr, constant, behind, before, parens, assigned, pair, over, either, optional, optional_behind, optional_token, optional_keyword, more, some_of, listed, bracketed, such_that, until, ◌>>=◌}
 use Rattle.fm_parts.specs.declared.mark.Mark.TheVariants as mark
 
 -- name [( list(expr) )]
@@ -46,7 +46,7 @@ abbrev pub bound_of : Tree × Option Tree → Bound
 bound_of p = bound_from p.0 p.1
 
 abbrev pub bound_part : Part Bound
-bound_part = over forms.bound_parts bound_of (pair expr (maybe Colon expr))
+bound_part = over forms.bound_parts bound_of (pair expr (optional_behind Colon expr))
 
 -- name [( list(bound) )]
 abbrev pub decl_of : List ℕ × List Bound → Decl
@@ -69,9 +69,9 @@ defined_part = over forms.defined_parts defined_of (pair name (behind Equals exp
 -- IN, OUT or INOUT
 abbrev pub way_of : List ℕ → Option Way
 way_of n =
-    if is_text n (word_text word.In) then Some way.In
-    else if is_text n (word_text word.Out) then Some way.Out
-    else if is_text n (word_text word.InOut) then Some way.InOut
+    if is_same_text n (word_text word.In) then Some way.In
+    else if is_same_text n (word_text word.Out) then Some way.Out
+    else if is_same_text n (word_text word.InOut) then Some way.InOut
     else None
 
 abbrev pub way_at : List Token → Read Way
@@ -95,7 +95,7 @@ abbrev pub loop_label_of : Label × Bool → LoopLabel
 loop_label_of p = record { label = p.0; comma = p.1 }
 
 abbrev pub loop_label_part : Part LoopLabel
-loop_label_part = over forms.loop_label_parts loop_label_of (pair label (flag Comma))
+loop_label_part = over forms.loop_label_parts loop_label_of (pair label (optional_token Comma))
 
 -- [label [,]] name = expr , expr [, expr]
 abbrev pub loop_of : Option LoopLabel × (List ℕ × (Tree × (Tree × Option Tree))) → LoopHead
@@ -104,8 +104,8 @@ loop_of p = record { label = p.0; variable = p.1.0; from = p.1.1.0; to = p.1.1.1
 abbrev pub loop_part : Part LoopHead
 loop_part =
     over forms.loop_parts loop_of
-    (pair (perhaps is_number loop_label_part)
-    (pair name (pair (behind Equals expr) (pair (behind Comma expr) (maybe Comma expr)))))
+    (pair (optional is_number loop_label_part)
+    (pair name (pair (behind Equals expr) (pair (behind Comma expr) (optional_behind Comma expr)))))
 
 -- a character constant, where one comes, or else an expression
 abbrev pub item_of : Tree ⊎ List ℕ → Item
@@ -138,7 +138,7 @@ unit_part = record { form = forms.unit_form; read = unit_at; stop = any_token }
 
 -- [PORT =] var
 abbrev pub port_part : Part (Bool × Var)
-port_part = may_assign word.Port var_part
+port_part = optional_keyword word.Port var_part
 
 -- END = label, where END comes, or else IOSTAT = var
 abbrev pub extra_of : Label ⊎ Var → Extra
@@ -146,7 +146,7 @@ extra_of (inl l) = extra.End l
 extra_of (inr v) = extra.Iostat v
 
 abbrev pub extra_part : Part Extra
-extra_part = over forms.extra_parts extra_of (either (is_word word.End) (assigned word.End label) (assigned word.Iostat var_part))
+extra_part = over forms.extra_parts extra_of (either (is_word_token word.End) (assigned word.End label) (assigned word.Iostat var_part))
 
 abbrev pub is_end : Extra → Bool
 is_end (extra.End l) = true
@@ -171,11 +171,11 @@ abbrev pub submachine_part : Part (Tree × Tree)
 submachine_part = behind (mark.Word word.Submachine) (parens (pair expr (behind Colon expr)))
 
 abbrev pub where_part : Part Where
-where_part = over forms.where_parts where_of (either (is_word word.Location) location_part submachine_part)
+where_part = over forms.where_parts where_of (either (is_word_token word.Location) location_part submachine_part)
 
 -- [list(expr)] ) [where]
 abbrev pub call_part_of : List Tree × Option Where → CallPart
 call_part_of p = record { arguments = p.0; place = p.1 }
 
 abbrev pub call_part_part : Part CallPart
-call_part_part = over forms.call_parts call_part_of (pair (before (listed expr) Close) (perhaps any_token where_part))
+call_part_part = over forms.call_parts call_part_of (pair (before (listed expr) Close) (optional any_token where_part))

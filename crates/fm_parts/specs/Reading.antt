@@ -1,5 +1,6 @@
--- Parts of statements, read from the front of a list of tokens: how each form is recognized, and how the ways of joining are.
--- Source: ANSI X3.9-1978, section 1.4: the notation for forms of statements.
+-- Parts of statements, read from the front of a list of tokens: a function for each form, and for the ways of joining.
+-- That they are exact for the forms is IsExact of Exact.
+-- Source: ANSI X3.9-1978, section 1.5: the notation for forms of statements.
 use Rattle.std.proofs.Common.{inl, inr}
 use Rattle.std.specs.Cmp.Lexicographic.{pointwise}
 use Rattle.std.specs.Prelude.{ℕ, ◌≡◌, suc, zero, ℤ, pos, Bool, true, false, not, ◌&&◌, Option, Some, None, ◌⊎◌, List, [], ◌∷◌, ◌++◌, length, drop, nat_le, nat_eq, if◌then◌else◌, codes}
@@ -10,7 +11,7 @@ use Rattle.fm_base.specs.declared.token.Token.TheVariants as token
 use Rattle.fm_tree.specs.Tree.{Tree}
 use Rattle.fm_tree.specs.Forms as forms
 use Rattle.fm_tree.specs.Forms.{Form}
-use Rattle.fm_expr.specs.Reading.{expr_at}
+use Rattle.fm_expr.specs.Longest.{expr_at}
 use Rattle.fm_parts.specs.declared.mark.Mark.{Mark}
 use Rattle.fm_parts.specs.declared.mark.Mark.TheVariants as mark
 use Rattle.fm_parts.specs.declared.mark.Word.{Word}
@@ -69,12 +70,12 @@ token_of mark.Colon = token.Colon
 token_of mark.Star = forms.star
 token_of (mark.Word w) = token.Named (word_text w)
 
-abbrev pub is_text : List ℕ → List ℕ → Bool
-is_text a b = pointwise nat_eq a b
+abbrev pub is_same_text : List ℕ → List ℕ → Bool
+is_same_text a b = pointwise nat_eq a b
 
-abbrev pub is_word : Word → Token → Bool
-is_word w (token.Named n) = is_text n (word_text w)
-is_word w t = false
+abbrev pub is_word_token : Word → Token → Bool
+is_word_token w (token.Named n) = is_same_text n (word_text w)
+is_word_token w t = false
 
 abbrev pub is_open : Token → Bool
 is_open token.Open = true
@@ -107,7 +108,7 @@ is mark.Comma t = is_comma t
 is mark.Equals t = is_equals t
 is mark.Colon t = is_colon t
 is mark.Star t = is_star t
-is (mark.Word w) t = is_word w t
+is (mark.Word w) t = is_word_token w t
 
 abbrev pub mark_at : Mark → List Token → Option (List Token)
 mark_at m [] = None
@@ -208,40 +209,40 @@ abbrev pub either : {X Y : Type 0} → (Token → Bool) → Part X → Part Y �
 either test g h = record { form = forms.either g.form h.form; read = either_read test g.read h.read; stop = λ t. g.stop t && h.stop t }
 
 -- a part, where the first token is one of these
-abbrev pub perhaps_read : {X : Type 0} → (Token → Bool) → (List Token → Read X) → List Token → Read (Option X)
-perhaps_read test g ts = if starts test ts then over_read Some g ts else Some (None, ts)
+abbrev pub optional_read : {X : Type 0} → (Token → Bool) → (List Token → Read X) → List Token → Read (Option X)
+optional_read test g ts = if starts test ts then over_read Some g ts else Some (None, ts)
 
-abbrev pub perhaps : {X : Type 0} → (Token → Bool) → Part X → Part (Option X)
-perhaps test g = record { form = forms.perhaps g.form; read = perhaps_read test g.read; stop = λ t. not (test t) && g.stop t }
+abbrev pub optional : {X : Type 0} → (Token → Bool) → Part X → Part (Option X)
+optional test g = record { form = forms.optional g.form; read = optional_read test g.read; stop = λ t. not (test t) && g.stop t }
 
 -- a fixed token and a part, or nothing
-abbrev pub maybe_read : {X : Type 0} → Mark → (List Token → Read X) → List Token → Read (Option X)
-maybe_read m g = perhaps_read (is m) (behind_read m g)
+abbrev pub optional_behind_read : {X : Type 0} → Mark → (List Token → Read X) → List Token → Read (Option X)
+optional_behind_read m g = optional_read (is m) (behind_read m g)
 
-abbrev pub maybe : {X : Type 0} → Mark → Part X → Part (Option X)
-maybe m g = record { form = forms.maybe (token_of m) g.form; read = maybe_read m g.read; stop = λ t. not (is m t) && g.stop t }
+abbrev pub optional_behind : {X : Type 0} → Mark → Part X → Part (Option X)
+optional_behind m g = record { form = forms.optional_behind (token_of m) g.form; read = optional_behind_read m g.read; stop = λ t. not (is m t) && g.stop t }
 
 -- whether a fixed token comes
-abbrev pub flag_read : Mark → List Token → Read Bool
-flag_read m [] = Some (false, [])
-flag_read m (t ∷ ts) = if is m t then Some (true, ts) else Some (false, t ∷ ts)
+abbrev pub optional_token_read : Mark → List Token → Read Bool
+optional_token_read m [] = Some (false, [])
+optional_token_read m (t ∷ ts) = if is m t then Some (true, ts) else Some (false, t ∷ ts)
 
-abbrev pub flag : Mark → Part Bool
-flag m = record { form = forms.flag (token_of m); read = flag_read m; stop = λ t. not (is m t) }
+abbrev pub optional_token : Mark → Part Bool
+optional_token m = record { form = forms.optional_token (token_of m); read = optional_token_read m; stop = λ t. not (is m t) }
 
 -- what stands behind the word and an equals sign
 abbrev pub assigned_at : Word → List Token → Option (List Token)
 assigned_at w ts = mark_at (mark.Word w) ts >>= mark_at mark.Equals
 
-abbrev pub may_assign_from : {X : Type 0} → Option (List Token) → (List Token → Read X) → List Token → Read (Bool × X)
-may_assign_from None g ts = over_read (λ x. (false, x)) g ts
-may_assign_from (Some rest) g ts = over_read (λ x. (true, x)) g rest
+abbrev pub optional_keyword_from : {X : Type 0} → Option (List Token) → (List Token → Read X) → List Token → Read (Bool × X)
+optional_keyword_from None g ts = over_read (λ x. (false, x)) g ts
+optional_keyword_from (Some rest) g ts = over_read (λ x. (true, x)) g rest
 
-abbrev pub may_assign_read : {X : Type 0} → Word → (List Token → Read X) → List Token → Read (Bool × X)
-may_assign_read w g ts = may_assign_from (assigned_at w ts) g ts
+abbrev pub optional_keyword_read : {X : Type 0} → Word → (List Token → Read X) → List Token → Read (Bool × X)
+optional_keyword_read w g ts = optional_keyword_from (assigned_at w ts) g ts
 
-abbrev pub may_assign : {X : Type 0} → Word → Part X → Part (Bool × X)
-may_assign w g = record { form = forms.may_assign (word_text w) g.form; read = may_assign_read w g.read; stop = λ t. not (is_equals t) && g.stop t }
+abbrev pub optional_keyword : {X : Type 0} → Word → Part X → Part (Bool × X)
+optional_keyword w g = record { form = forms.optional_keyword (word_text w) g.form; read = optional_keyword_read w g.read; stop = λ t. not (is_equals t) && g.stop t }
 
 -- two parts with a comma between, the first one first where the first token is one of these
 abbrev pub two_read : {X Y : Type 0} → (List Token → Read X) → (List Token → Read Y) → List Token → Read (X × Y)
@@ -266,18 +267,18 @@ abbrev pub more_read : {X : Type 0} → (List Token → Read X) → List Token �
 more_read g ts = items_read g (length ts) ts
 
 -- with other items before it
-abbrev pub with_front : {X : Type 0} → List X → Read (List X) → Read (List X)
-with_front xs None = None
-with_front xs (Some b) = Some (xs ++ b.0, b.1)
+abbrev pub after_items : {X : Type 0} → List X → Read (List X) → Read (List X)
+after_items xs None = None
+after_items xs (Some b) = Some (xs ++ b.0, b.1)
 
 abbrev pub more : {X : Type 0} → Part X → Part (List X)
 more g = record { form = forms.more g.form; read = more_read g.read; stop = λ t. not (is_comma t) && g.stop t }
 
-abbrev pub joined : {X : Type 0} → X × List X → List X
-joined p = p.0 ∷ p.1
+abbrev pub items_of : {X : Type 0} → X × List X → List X
+items_of p = p.0 ∷ p.1
 
 abbrev pub some_read : {X : Type 0} → (List Token → Read X) → List Token → Read (List X)
-some_read g = over_read joined (pair_read g (more_read g))
+some_read g = over_read items_of (pair_read g (more_read g))
 
 abbrev pub some_of : {X : Type 0} → Part X → Part (List X)
 some_of g = record { form = forms.some_of g.form; read = some_read g.read; stop = λ t. not (is_comma t) && g.stop t }

@@ -1,58 +1,27 @@
 //! Types of ports: the fields of a message, some of which are ports themselves.
 
 ghost use Rattle.std.specs.Prelude.{◌≡◌, ◌++◌, ◌∷◌, [], length, MatchOption, None, Some};
-ghost use Rattle.std.specs.List.{list_all};
 ghost use Rattle.fm_tree.specs.PortReading.{fields_of};
 ghost use Rattle.fm_parts.specs.Gives.{Gives};
-ghost use Rattle.fm_parts.specs.Reading.{listed_read, over_read, some_read, perhaps_read, name_at, starts, with_front, more_read};
+ghost use Rattle.fm_parts.specs.Reading.{listed_read, over_read, some_read, optional_read, name_at, starts, after_items, more_read};
 ghost use Rattle.fm_parts.specs.Fields.{behind_text, bounds_read, field_read, fields_read, head_read, is_named, name_behind, port_read, port_type_part, scalar_head};
-ghost use Rattle.fm_tree.specs.Parts.{is_letter, is_name_byte, is_name_text};
 
 use crate::list::bracketed;
 use crate::mark::{Mark, Word, is_comma};
 use crate::parts::BoundForm;
-use crate::reader::{ReadFail, a_mark, a_name, front, goes_on};
-use fm_base::{Name, Seq, Token};
+use crate::reader::{a_mark, a_name, front, goes_on};
+use fm_base::{Name, ParseFail, Seq, Token, is_name_text};
 use fm_tree::{Bound, Field, Kind, PortType};
 use std::alloc::Global;
 
-fn is_letter(byte: u8) -> bool
-    ensures { result ≡ is_letter byte }
-{
-    65 <= byte && byte <= 90
-}
-
-fn is_name_byte(byte: u8) -> bool
-    ensures { result ≡ is_name_byte byte }
-{
-    is_letter(byte) || (48 <= byte && byte <= 57) || byte == 95
-}
-
-fn are_name_bytes(text: &[u8]) -> bool
-    ensures { result ≡ list_all is_name_byte text.now }
-{
-    text.iter().all(|byte| is_name_byte(*byte))
-}
-
-fn is_name_text(text: &[u8]) -> bool
-    ensures { result ≡ is_name_text text.now }
-{
-    match text {
-        [] => false,
-        [first, rest @ ..] => is_letter(*first) && are_name_bytes(rest),
-    }
-}
-
 // The name behind a keyword in one word with it, if something stands there.
-fn name_behind(alloc: Global, text: &[u8]) -> Result<Option<Name>, ReadFail>
+fn name_behind(alloc: Global, text: &[u8]) -> Result<Option<Name>, ParseFail>
     ensures { Gives (λ n. n) result (name_behind text.now) }
 {
-    if text.is_empty() {
-        Ok(None)
-    } else if is_name_text(text) {
-        Ok(Some(Name::from_bytes(alloc, text)?))
-    } else {
-        Err(ReadFail::Bad)
+    match text.split_first() {
+        None => Ok(None),
+        Some(_) if is_name_text(text) => Ok(Some(Name::from_bytes(alloc, text)?)),
+        Some(_) => Err(ParseFail::Bad),
     }
 }
 
@@ -63,14 +32,14 @@ fn behind_text<'a>(keyword: &[u8], text: &'a [u8]) -> Option<&'a [u8]>
 }
 
 // INTEGER or LOGICAL, and the name in one word with it.
-fn a_scalar(alloc: Global, word: &[u8]) -> Result<(Kind, Option<Name>), ReadFail>
+fn a_scalar(alloc: Global, word: &[u8]) -> Result<(Kind, Option<Name>), ParseFail>
     ensures { Gives (λ h. h) result (scalar_head word.now) }
 {
     match behind_text(Word::Integer.text(), word) {
         Some(rest) => Ok((Kind::Integer, name_behind(alloc, rest)?)),
         None => match behind_text(Word::Logical.text(), word) {
             Some(rest) => Ok((Kind::Logical, name_behind(alloc, rest)?)),
-            None => Err(ReadFail::Bad),
+            None => Err(ParseFail::Bad),
         },
     }
 }
@@ -84,8 +53,8 @@ fn starts_with_name(tokens: &[Token]) -> bool
     }
 }
 
-fn maybe_name(alloc: Global, tokens: &[Token]) -> Result<(Option<Name>, &[Token]), ReadFail>
-    ensures { Gives (λ p. (p.0, p.1.now)) result (perhaps_read is_named name_at tokens.now) }
+fn optional_name(alloc: Global, tokens: &[Token]) -> Result<(Option<Name>, &[Token]), ParseFail>
+    ensures { Gives (λ p. (p.0, p.1.now)) result (optional_read is_named name_at tokens.now) }
 {
     if !starts_with_name(tokens) {
         return Ok((None, tokens));
@@ -99,7 +68,7 @@ fn bounds<'a>(
     alloc: Global,
     name: &Option<Name>,
     tokens: &'a [Token],
-) -> Result<(Seq<Bound>, &'a [Token]), ReadFail>
+) -> Result<(Seq<Bound>, &'a [Token]), ParseFail>
     ensures { Gives (λ p. (p.0, p.1.now)) result (bounds_read name.now tokens.now) }
 {
     match name {
@@ -114,13 +83,13 @@ fn a_port_head(
     alloc: Global,
     depth: usize,
     tokens: &[Token],
-) -> Result<((PortType, Option<Name>), &[Token]), ReadFail>
+) -> Result<((PortType, Option<Name>), &[Token]), ParseFail>
     ensures { Gives (λ p. (p.0, p.1.now)) result (port_read (fields_read depth) tokens.now) }
 {
     let rest = a_mark(Mark::Open, tokens)?;
     let (inside, rest) = fields(alloc, depth, rest)?;
     let rest = a_mark(Mark::Close, rest)?;
-    let (name, rest) = maybe_name(alloc, rest)?;
+    let (name, rest) = optional_name(alloc, rest)?;
     Ok(((inside, name), rest))
 }
 
@@ -130,11 +99,11 @@ fn a_head(
     alloc: Global,
     depth: usize,
     tokens: &[Token],
-) -> Result<((Kind, Option<Name>), &[Token]), ReadFail>
+) -> Result<((Kind, Option<Name>), &[Token]), ParseFail>
     ensures { Gives (λ p. (p.0, p.1.now)) result (head_read (fields_read depth) tokens.now) }
 {
     let Some((Token::Named(word), rest)) = tokens.split_first() else {
-        return Err(ReadFail::Bad);
+        return Err(ParseFail::Bad);
     };
     if word.as_bytes() == Word::Inport.text() {
         let ((inside, name), rest) = a_port_head(alloc, depth, rest)?;
@@ -149,7 +118,7 @@ fn a_head(
 }
 
 #[cycle(fields)]
-fn a_field(alloc: Global, depth: usize, tokens: &[Token]) -> Result<(Field, &[Token]), ReadFail>
+fn a_field(alloc: Global, depth: usize, tokens: &[Token]) -> Result<(Field, &[Token]), ParseFail>
     ensures { Gives (λ p. (p.0, p.1.now)) result (field_read (fields_read depth) tokens.now) }
 {
     let ((kind, name), rest) = a_head(alloc, depth, tokens)?;
@@ -164,8 +133,8 @@ fn grow(
     depth: usize,
     mut fields: Vec<Field>,
     tokens: &[Token],
-) -> Result<(Vec<Field>, &[Token]), ReadFail>
-    ensures { Gives (λ p. (p.0.items, p.1.now)) result (with_front fields.items (more_read (field_read (fields_read depth)) tokens.now)) }
+) -> Result<(Vec<Field>, &[Token]), ParseFail>
+    ensures { Gives (λ p. (p.0.items, p.1.now)) result (after_items fields.items (more_read (field_read (fields_read depth)) tokens.now)) }
 {
     let mut rest = tokens;
     'fields: for _ in 0..tokens.len() {
@@ -191,7 +160,7 @@ fn some_fields(
     alloc: Global,
     depth: usize,
     tokens: &[Token],
-) -> Result<(Vec<Field>, &[Token]), ReadFail>
+) -> Result<(Vec<Field>, &[Token]), ParseFail>
     ensures { Gives (λ p. (p.0.items, p.1.now)) result (some_read (field_read (fields_read depth)) tokens.now) }
 {
     let (first, rest) = a_field(alloc, depth, tokens)?;
@@ -206,7 +175,7 @@ fn listed_fields(
     alloc: Global,
     depth: usize,
     tokens: &[Token],
-) -> Result<(PortType, &[Token]), ReadFail>
+) -> Result<(PortType, &[Token]), ParseFail>
     ensures { Gives (λ p. (p.0, p.1.now)) result (over_read fields_of (listed_read (field_read (fields_read depth))) tokens.now) }
 {
     if goes_on(tokens) {
@@ -220,17 +189,17 @@ fn listed_fields(
 
 // The fields of a message, of ports in ports up to a depth.
 #[cycle(fields)]
-fn fields(alloc: Global, depth: usize, tokens: &[Token]) -> Result<(PortType, &[Token]), ReadFail>
+fn fields(alloc: Global, depth: usize, tokens: &[Token]) -> Result<(PortType, &[Token]), ParseFail>
     ensures { Gives (λ p. (p.0, p.1.now)) result (fields_read depth tokens.now) }
 {
     if depth == 0 {
-        return Err(ReadFail::Bad);
+        return Err(ParseFail::Bad);
     }
     listed_fields(alloc, depth - 1, tokens)
 }
 
 /// `( [list(field)] )`.
-pub fn a_port_type(alloc: Global, tokens: &[Token]) -> Result<(PortType, &[Token]), ReadFail>
+pub fn a_port_type(alloc: Global, tokens: &[Token]) -> Result<(PortType, &[Token]), ParseFail>
     ensures { Gives (λ p. (p.0, p.1.now)) result (port_type_part.read tokens.now) }
 {
     let depth = tokens.len();

@@ -3,11 +3,11 @@
 ghost use Rattle.std.specs.Prelude.{List, Option};
 ghost use Rattle.fm_base.specs.declared.token.Token.{Token};
 ghost use Rattle.fm_parts.specs.Gives.{Gives};
-ghost use Rattle.fm_parts.specs.Reading.{before_read, bracketed_read, listed_read, maybe_read, more_read, parens_read, some_read, with_front};
+ghost use Rattle.fm_parts.specs.Reading.{before_read, bracketed_read, listed_read, optional_behind_read, more_read, parens_read, some_read, after_items};
 
 use crate::mark::{Mark, is_comma};
-use crate::reader::{ReadFail, a_mark, front, goes_on, starts_with};
-use fm_base::{Seq, Token};
+use crate::reader::{a_mark, front, goes_on, starts_with};
+use fm_base::{ParseFail, Seq, Token};
 use std::alloc::Global;
 
 /// A form that may be an item of a list.
@@ -18,7 +18,7 @@ pub trait Form {
     ghost reads: { List Token → Option (Self.Item × List Token) };
 
     /// The item at the front of the tokens, and the tokens behind it.
-    fn read_one(alloc: Global, tokens: &[Token]) -> Result<(Self::Item, &[Token]), ReadFail>
+    fn read_one(alloc: Global, tokens: &[Token]) -> Result<(Self::Item, &[Token]), ParseFail>
         ensures { Gives (λ p. (p.0, p.1.now)) result (reads tokens.now) };
 }
 
@@ -27,8 +27,8 @@ fn grow<F: Form>(
     alloc: Global,
     mut items: Vec<F::Item>,
     tokens: &[Token],
-) -> Result<(Vec<F::Item>, &[Token]), ReadFail>
-    ensures { Gives (λ p. (p.0.items, p.1.now)) result (with_front items.items (more_read F.reads tokens.now)) }
+) -> Result<(Vec<F::Item>, &[Token]), ParseFail>
+    ensures { Gives (λ p. (p.0.items, p.1.now)) result (after_items items.items (more_read F.reads tokens.now)) }
 {
     let mut rest = tokens;
     'items: for _ in 0..tokens.len() {
@@ -49,7 +49,7 @@ fn grow<F: Form>(
 }
 
 /// Items, each behind a comma.
-pub fn more<F: Form>(alloc: Global, tokens: &[Token]) -> Result<(Seq<F::Item>, &[Token]), ReadFail>
+pub fn more<F: Form>(alloc: Global, tokens: &[Token]) -> Result<(Seq<F::Item>, &[Token]), ParseFail>
     ensures { Gives (λ p. (p.0, p.1.now)) result (more_read F.reads tokens.now) }
 {
     let (items, rest) = grow::<F>(alloc, Vec::new(alloc), tokens)?;
@@ -57,7 +57,7 @@ pub fn more<F: Form>(alloc: Global, tokens: &[Token]) -> Result<(Seq<F::Item>, &
 }
 
 /// One item or more, with commas between.
-pub fn some<F: Form>(alloc: Global, tokens: &[Token]) -> Result<(Seq<F::Item>, &[Token]), ReadFail>
+pub fn some<F: Form>(alloc: Global, tokens: &[Token]) -> Result<(Seq<F::Item>, &[Token]), ParseFail>
     ensures { Gives (λ p. (p.0, p.1.now)) result (some_read F.reads tokens.now) }
 {
     let (first, rest) = F::read_one(alloc, tokens)?;
@@ -71,7 +71,7 @@ pub fn some<F: Form>(alloc: Global, tokens: &[Token]) -> Result<(Seq<F::Item>, &
 pub fn listed<F: Form>(
     alloc: Global,
     tokens: &[Token],
-) -> Result<(Seq<F::Item>, &[Token]), ReadFail>
+) -> Result<(Seq<F::Item>, &[Token]), ParseFail>
     ensures { Gives (λ p. (p.0, p.1.now)) result (listed_read F.reads tokens.now) }
 {
     if goes_on(tokens) {
@@ -85,7 +85,7 @@ pub fn listed<F: Form>(
 pub fn some_in_parens<F: Form>(
     alloc: Global,
     tokens: &[Token],
-) -> Result<(Seq<F::Item>, &[Token]), ReadFail>
+) -> Result<(Seq<F::Item>, &[Token]), ParseFail>
     ensures { Gives (λ p. (p.0, p.1.now)) result (parens_read (some_read F.reads) tokens.now) }
 {
     let rest = a_mark(Mark::Open, tokens)?;
@@ -98,7 +98,7 @@ pub fn some_in_parens<F: Form>(
 pub fn bracketed<F: Form>(
     alloc: Global,
     tokens: &[Token],
-) -> Result<(Seq<F::Item>, &[Token]), ReadFail>
+) -> Result<(Seq<F::Item>, &[Token]), ParseFail>
     ensures { Gives (λ p. (p.0, p.1.now)) result (bracketed_read F.reads tokens.now) }
 {
     if starts_with(Mark::Open, tokens) {
@@ -109,11 +109,11 @@ pub fn bracketed<F: Form>(
 }
 
 /// Items in parentheses, perhaps none. `None` where no parenthesis comes.
-pub fn maybe_listed<F: Form>(
+pub fn optional_listed<F: Form>(
     alloc: Global,
     tokens: &[Token],
-) -> Result<(Option<Seq<F::Item>>, &[Token]), ReadFail>
-    ensures { Gives (λ p. (p.0, p.1.now)) result (maybe_read Mark.Open (before_read (listed_read F.reads) Mark.Close) tokens.now) }
+) -> Result<(Option<Seq<F::Item>>, &[Token]), ParseFail>
+    ensures { Gives (λ p. (p.0, p.1.now)) result (optional_behind_read Mark.Open (before_read (listed_read F.reads) Mark.Close) tokens.now) }
 {
     if !starts_with(Mark::Open, tokens) {
         return Ok((None, tokens));
@@ -125,12 +125,12 @@ pub fn maybe_listed<F: Form>(
 }
 
 /// A fixed token and an item, or nothing where that token does not come.
-pub fn maybe<F: Form>(
+pub fn optional_behind<F: Form>(
     alloc: Global,
     mark: Mark,
     tokens: &[Token],
-) -> Result<(Option<F::Item>, &[Token]), ReadFail>
-    ensures { Gives (λ p. (p.0, p.1.now)) result (maybe_read mark F.reads tokens.now) }
+) -> Result<(Option<F::Item>, &[Token]), ParseFail>
+    ensures { Gives (λ p. (p.0, p.1.now)) result (optional_behind_read mark F.reads tokens.now) }
 {
     if !starts_with(mark, tokens) {
         return Ok((None, tokens));

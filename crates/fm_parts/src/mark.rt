@@ -1,7 +1,7 @@
 //! Tokens that a form fixes.
 
 ghost use Rattle.std.specs.Prelude.{◌≡◌};
-ghost use Rattle.fm_parts.specs.Reading.{is, is_open, is_close, is_comma, is_equals, is_colon, is_star, is_word, word_text};
+ghost use Rattle.fm_parts.specs.Reading.{is, is_open, is_close, is_comma, is_equals, is_colon, is_star, is_word_token, word_text};
 
 use fm_base::{Op, Token};
 
@@ -65,8 +65,8 @@ impl Word {
 }
 
 /// Whether a token is a word.
-pub fn is_word(word: Word, token: &Token) -> bool
-    ensures { result ≡ is_word word token.now }
+pub fn is_word_token(word: Word, token: &Token) -> bool
+    ensures { result ≡ is_word_token word token.now }
 {
     match token {
         Token::Named(name) => name.as_bytes() == word.text(),
@@ -123,6 +123,6 @@ pub fn is_mark(mark: Mark, token: &Token) -> bool
         Mark::Equals => is_equals(token),
         Mark::Colon => is_colon(token),
         Mark::Star => is_star(token),
-        Mark::Word(word) => is_word(word, token),
+        Mark::Word(word) => is_word_token(word, token),
     }
 }

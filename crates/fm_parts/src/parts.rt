@@ -3,15 +3,15 @@
 ghost use Rattle.std.specs.Prelude.{◌≡◌};
 ghost use Rattle.fm_tree.specs.Parts.{ends_in};
 ghost use Rattle.fm_parts.specs.Gives.{Gives};
-ghost use Rattle.fm_parts.specs.Reading.{any_token, behind_read, expr_read, name_at, perhaps_read, starts};
+ghost use Rattle.fm_parts.specs.Reading.{any_token, behind_read, expr_read, name_at, optional_read, starts};
 ghost use Rattle.fm_parts.specs.Parts.{are_each_once, array_part, bound_part, call_part_part, decl_part, defined_part, extra_part, extras_part, is_end, is_number, item_part, location_part, loop_label_part, loop_part, no_constant, port_part, submachine_part, unit_part, var_part, way_of, way_part, where_part};
 
-use crate::list::{Form, bracketed, listed, maybe, more, some_in_parens};
+use crate::list::{Form, bracketed, listed, more, optional_behind, some_in_parens};
 use crate::mark::{Mark, Word};
 use crate::reader::{
-    ReadFail, a_constant, a_flag, a_label, a_mark, a_name, an_expr, assigned_behind, starts_with,
+    a_constant, a_label, a_mark, a_name, an_expr, an_optional_token, assigned_behind, starts_with,
 };
-use fm_base::{Name, Op, Seq, Token};
+use fm_base::{Name, Op, ParseFail, Seq, Token};
 use fm_tree::{
     Bound, CallPart, Decl, Defined, Expr, Extra, Item, LoopHead, LoopLabel, Var, Way, Where,
     WriteUnit,
@@ -26,7 +26,7 @@ impl Form for NameForm {
 
     ghost reads = { name_at };
 
-    fn read_one(alloc: Global, tokens: &[Token]) -> Result<(Name, &[Token]), ReadFail> {
+    fn read_one(alloc: Global, tokens: &[Token]) -> Result<(Name, &[Token]), ParseFail> {
         a_name(alloc, tokens)
     }
 }
@@ -39,7 +39,7 @@ impl Form for ExprForm {
 
     ghost reads = { expr_read };
 
-    fn read_one(alloc: Global, tokens: &[Token]) -> Result<(Expr, &[Token]), ReadFail> {
+    fn read_one(alloc: Global, tokens: &[Token]) -> Result<(Expr, &[Token]), ParseFail> {
         an_expr(alloc, tokens)
     }
 }
@@ -52,7 +52,7 @@ impl Form for VarForm {
 
     ghost reads = { var_part.read };
 
-    fn read_one(alloc: Global, tokens: &[Token]) -> Result<(Var, &[Token]), ReadFail> {
+    fn read_one(alloc: Global, tokens: &[Token]) -> Result<(Var, &[Token]), ParseFail> {
         let (name, rest) = a_name(alloc, tokens)?;
         let (subscripts, rest) = bracketed::<ExprForm>(alloc, rest)?;
         Ok((Var { name, subscripts }, rest))
@@ -67,9 +67,9 @@ impl Form for BoundForm {
 
     ghost reads = { bound_part.read };
 
-    fn read_one(alloc: Global, tokens: &[Token]) -> Result<(Bound, &[Token]), ReadFail> {
+    fn read_one(alloc: Global, tokens: &[Token]) -> Result<(Bound, &[Token]), ParseFail> {
         let (first, rest) = an_expr(alloc, tokens)?;
-        let (last, rest) = maybe::<ExprForm>(alloc, Mark::Colon, rest)?;
+        let (last, rest) = optional_behind::<ExprForm>(alloc, Mark::Colon, rest)?;
         let bound = match last {
             None => Bound {
                 low: None,
@@ -92,7 +92,7 @@ impl Form for DeclForm {
 
     ghost reads = { decl_part.read };
 
-    fn read_one(alloc: Global, tokens: &[Token]) -> Result<(Decl, &[Token]), ReadFail> {
+    fn read_one(alloc: Global, tokens: &[Token]) -> Result<(Decl, &[Token]), ParseFail> {
         let (name, rest) = a_name(alloc, tokens)?;
         let (bounds, rest) = bracketed::<BoundForm>(alloc, rest)?;
         Ok((Decl { name, bounds }, rest))
@@ -107,7 +107,7 @@ impl Form for ArrayForm {
 
     ghost reads = { array_part.read };
 
-    fn read_one(alloc: Global, tokens: &[Token]) -> Result<(Decl, &[Token]), ReadFail> {
+    fn read_one(alloc: Global, tokens: &[Token]) -> Result<(Decl, &[Token]), ParseFail> {
         let (name, rest) = a_name(alloc, tokens)?;
         let (bounds, rest) = some_in_parens::<BoundForm>(alloc, rest)?;
         Ok((Decl { name, bounds }, rest))
@@ -122,7 +122,7 @@ impl Form for DefinedForm {
 
     ghost reads = { defined_part.read };
 
-    fn read_one(alloc: Global, tokens: &[Token]) -> Result<(Defined, &[Token]), ReadFail> {
+    fn read_one(alloc: Global, tokens: &[Token]) -> Result<(Defined, &[Token]), ParseFail> {
         let (name, rest) = a_name(alloc, tokens)?;
         let rest = a_mark(Mark::Equals, rest)?;
         let (value, rest) = an_expr(alloc, rest)?;
@@ -135,7 +135,7 @@ pub fn assigned<F: Form>(
     alloc: Global,
     word: Word,
     tokens: &[Token],
-) -> Result<(F::Item, &[Token]), ReadFail>
+) -> Result<(F::Item, &[Token]), ParseFail>
     ensures { Gives (λ p. (p.0, p.1.now)) result (behind_read (Mark.Word word) (behind_read Mark.Equals F.reads) tokens.now) }
 {
     let rest = a_mark(Mark::Word(word), tokens)?;
@@ -144,7 +144,7 @@ pub fn assigned<F: Form>(
 }
 
 /// `IN`, `OUT` or `INOUT`.
-pub fn a_way(tokens: &[Token]) -> Result<(Way, &[Token]), ReadFail>
+pub fn a_way(tokens: &[Token]) -> Result<(Way, &[Token]), ParseFail>
     ensures { Gives (λ p. (p.0, p.1.now)) result (way_part.read tokens.now) }
 {
     match tokens.split_first() {
@@ -152,11 +152,11 @@ pub fn a_way(tokens: &[Token]) -> Result<(Way, &[Token]), ReadFail>
             let way = way_of(name.as_bytes())?;
             Ok((way, rest))
         }
-        _ => Err(ReadFail::Bad),
+        _ => Err(ParseFail::Bad),
     }
 }
 
-fn way_of(name: &[u8]) -> Result<Way, ReadFail>
+fn way_of(name: &[u8]) -> Result<Way, ParseFail>
     ensures { Gives (λ w. w) result (way_of name.now) }
 {
     if name == Word::In.text() {
@@ -166,7 +166,7 @@ fn way_of(name: &[u8]) -> Result<Way, ReadFail>
     } else if name == Word::InOut.text() {
         Ok(Way::InOut)
     } else {
-        Err(ReadFail::Bad)
+        Err(ParseFail::Bad)
     }
 }
 
@@ -179,29 +179,37 @@ fn starts_with_number(tokens: &[Token]) -> bool
     }
 }
 
+// `label [,]`
+fn a_loop_label(tokens: &[Token]) -> Result<(LoopLabel, &[Token]), ParseFail>
+    ensures { Gives (λ p. (p.0, p.1.now)) result (loop_label_part.read tokens.now) }
+{
+    let (label, rest) = a_label(tokens)?;
+    let (comma, rest) = an_optional_token(Mark::Comma, rest);
+    Ok((LoopLabel { label, comma }, rest))
+}
+
 // `[label [,]]`
-fn a_loop_label(tokens: &[Token]) -> Result<(Option<LoopLabel>, &[Token]), ReadFail>
-    ensures { Gives (λ p. (p.0, p.1.now)) result (perhaps_read is_number loop_label_part.read tokens.now) }
+fn optional_label(tokens: &[Token]) -> Result<(Option<LoopLabel>, &[Token]), ParseFail>
+    ensures { Gives (λ p. (p.0, p.1.now)) result (optional_read is_number loop_label_part.read tokens.now) }
 {
     if !starts_with_number(tokens) {
         return Ok((None, tokens));
     }
-    let (label, rest) = a_label(tokens)?;
-    let (comma, rest) = a_flag(Mark::Comma, rest);
-    Ok((Some(LoopLabel { label, comma }), rest))
+    let (label, rest) = a_loop_label(tokens)?;
+    Ok((Some(label), rest))
 }
 
 /// `[label [,]] name = expr , expr [, expr]`.
-pub fn a_loop_head(alloc: Global, tokens: &[Token]) -> Result<(LoopHead, &[Token]), ReadFail>
+pub fn a_loop_head(alloc: Global, tokens: &[Token]) -> Result<(LoopHead, &[Token]), ParseFail>
     ensures { Gives (λ p. (p.0, p.1.now)) result (loop_part.read tokens.now) }
 {
-    let (label, rest) = a_loop_label(tokens)?;
+    let (label, rest) = optional_label(tokens)?;
     let (variable, rest) = a_name(alloc, rest)?;
     let rest = a_mark(Mark::Equals, rest)?;
     let (from, rest) = an_expr(alloc, rest)?;
     let rest = a_mark(Mark::Comma, rest)?;
     let (to, rest) = an_expr(alloc, rest)?;
-    let (step, rest) = maybe::<ExprForm>(alloc, Mark::Comma, rest)?;
+    let (step, rest) = optional_behind::<ExprForm>(alloc, Mark::Comma, rest)?;
     let head = LoopHead {
         label,
         variable,
@@ -230,7 +238,7 @@ impl Form for ItemForm {
 
     ghost reads = { item_part.read };
 
-    fn read_one(alloc: Global, tokens: &[Token]) -> Result<(Item, &[Token]), ReadFail> {
+    fn read_one(alloc: Global, tokens: &[Token]) -> Result<(Item, &[Token]), ParseFail> {
         if starts_with_no_constant(tokens) {
             let (value, rest) = an_expr(alloc, tokens)?;
             Ok((Item::Expr(value), rest))
@@ -242,18 +250,18 @@ impl Form for ItemForm {
 }
 
 /// `*` or `6`.
-pub fn a_unit(tokens: &[Token]) -> Result<(WriteUnit, &[Token]), ReadFail>
+pub fn a_unit(tokens: &[Token]) -> Result<(WriteUnit, &[Token]), ParseFail>
     ensures { Gives (λ p. (p.0, p.1.now)) result (unit_part.read tokens.now) }
 {
     match tokens.split_first() {
         Some((Token::Sign(Op::Mul), rest)) => Ok((WriteUnit::Star, rest)),
         Some((Token::Number(n), rest)) if *n == 6 => Ok((WriteUnit::Six, rest)),
-        _ => Err(ReadFail::Bad),
+        _ => Err(ParseFail::Bad),
     }
 }
 
 /// `[PORT =] var`: whether the word is written, and the variable.
-pub fn a_port(alloc: Global, tokens: &[Token]) -> Result<((bool, Var), &[Token]), ReadFail>
+pub fn a_port(alloc: Global, tokens: &[Token]) -> Result<((bool, Var), &[Token]), ParseFail>
     ensures { Gives (λ p. (p.0, p.1.now)) result (port_part.read tokens.now) }
 {
     match assigned_behind(Word::Port, tokens) {
@@ -276,7 +284,7 @@ impl Form for ExtraForm {
 
     ghost reads = { extra_part.read };
 
-    fn read_one(alloc: Global, tokens: &[Token]) -> Result<(Extra, &[Token]), ReadFail> {
+    fn read_one(alloc: Global, tokens: &[Token]) -> Result<(Extra, &[Token]), ParseFail> {
         if starts_with(Mark::Word(Word::End), tokens) {
             let rest = a_mark(Mark::Word(Word::End), tokens)?;
             let rest = a_mark(Mark::Equals, rest)?;
@@ -290,14 +298,14 @@ impl Form for ExtraForm {
 }
 
 /// `{, extra}`, each extra at most once.
-pub fn extras(alloc: Global, tokens: &[Token]) -> Result<(Seq<Extra>, &[Token]), ReadFail>
+pub fn extras(alloc: Global, tokens: &[Token]) -> Result<(Seq<Extra>, &[Token]), ParseFail>
     ensures { Gives (λ p. (p.0, p.1.now)) result (extras_part.read tokens.now) }
 {
     let (extras, rest) = more::<ExtraForm>(alloc, tokens)?;
     if are_each_once(extras.as_slice()) {
         Ok((extras, rest))
     } else {
-        Err(ReadFail::Bad)
+        Err(ParseFail::Bad)
     }
 }
 
@@ -332,14 +340,14 @@ fn ends_in(extras: &[Extra]) -> usize
     count
 }
 
-fn a_location(alloc: Global, tokens: &[Token]) -> Result<(Seq<Expr>, &[Token]), ReadFail>
+fn a_location(alloc: Global, tokens: &[Token]) -> Result<(Seq<Expr>, &[Token]), ParseFail>
     ensures { Gives (λ p. (p.0, p.1.now)) result (location_part.read tokens.now) }
 {
     let rest = a_mark(Mark::Word(Word::Location), tokens)?;
     some_in_parens::<ExprForm>(alloc, rest)
 }
 
-fn a_submachine(alloc: Global, tokens: &[Token]) -> Result<((Expr, Expr), &[Token]), ReadFail>
+fn a_submachine(alloc: Global, tokens: &[Token]) -> Result<((Expr, Expr), &[Token]), ParseFail>
     ensures { Gives (λ p. (p.0, p.1.now)) result (submachine_part.read tokens.now) }
 {
     let rest = a_mark(Mark::Word(Word::Submachine), tokens)?;
@@ -351,7 +359,7 @@ fn a_submachine(alloc: Global, tokens: &[Token]) -> Result<((Expr, Expr), &[Toke
     Ok(((first, last), rest))
 }
 
-fn a_place(alloc: Global, tokens: &[Token]) -> Result<(Where, &[Token]), ReadFail>
+fn a_place(alloc: Global, tokens: &[Token]) -> Result<(Where, &[Token]), ParseFail>
     ensures { Gives (λ p. (p.0, p.1.now)) result (where_part.read tokens.now) }
 {
     if starts_with(Mark::Word(Word::Location), tokens) {
@@ -364,8 +372,8 @@ fn a_place(alloc: Global, tokens: &[Token]) -> Result<(Where, &[Token]), ReadFai
 }
 
 // `[where]`
-fn maybe_place(alloc: Global, tokens: &[Token]) -> Result<(Option<Where>, &[Token]), ReadFail>
-    ensures { Gives (λ p. (p.0, p.1.now)) result (perhaps_read any_token where_part.read tokens.now) }
+fn optional_place(alloc: Global, tokens: &[Token]) -> Result<(Option<Where>, &[Token]), ParseFail>
+    ensures { Gives (λ p. (p.0, p.1.now)) result (optional_read any_token where_part.read tokens.now) }
 {
     if tokens.is_empty() {
         return Ok((None, tokens));
@@ -375,11 +383,11 @@ fn maybe_place(alloc: Global, tokens: &[Token]) -> Result<(Option<Where>, &[Toke
 }
 
 /// `[list(expr)] ) [where]`.
-pub fn a_call_part(alloc: Global, tokens: &[Token]) -> Result<(CallPart, &[Token]), ReadFail>
+pub fn a_call_part(alloc: Global, tokens: &[Token]) -> Result<(CallPart, &[Token]), ParseFail>
     ensures { Gives (λ p. (p.0, p.1.now)) result (call_part_part.read tokens.now) }
 {
     let (arguments, rest) = listed::<ExprForm>(alloc, tokens)?;
     let rest = a_mark(Mark::Close, rest)?;
-    let (place, rest) = maybe_place(alloc, rest)?;
+    let (place, rest) = optional_place(alloc, rest)?;
     Ok((CallPart { arguments, place }, rest))
 }

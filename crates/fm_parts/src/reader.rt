@@ -2,51 +2,13 @@
 
 ghost use Rattle.std.specs.Prelude.{◌≡◌, [], ◌∷◌, MatchOption, Some, None};
 ghost use Rattle.fm_parts.specs.Gives.{Gives};
-ghost use Rattle.fm_parts.specs.Reading.{is, assigned_at, constant_at, expr_read, flag_read, label_at, mark_at, name_at, nothing_left, starts, is_open, opens};
+ghost use Rattle.fm_parts.specs.Reading.{is, assigned_at, constant_at, expr_read, optional_token_read, label_at, mark_at, name_at, nothing_left, starts, is_open, opens};
 
 use crate::mark::{Mark, Word, is_close, is_mark};
-use fm_base::{Label, Name, NoMemory, Seq, Token};
-use fm_expr::{ExprFail, expr};
+use fm_base::{Label, Name, ParseFail, Seq, Token};
+use fm_expr::expr;
 use fm_tree::Expr;
-use std::alloc::{AllocError, AllocFailed, Global};
-
-/// Why a part was not read.
-#[derive(Clone, Copy, Debug, PartialEq, Eq)]
-pub enum ReadFail {
-    /// The tokens do not begin with the part.
-    Bad,
-    NoMemory,
-}
-
-impl From<NoMemory> for ReadFail {
-    ghost use Rattle.fm_parts.specs.declared.reader.ReadFail.TheVariants as fails;
-
-    ghost from_gives = { λ _ e. e ≡ fails.NoMemory };
-
-    fn from(_error: NoMemory) -> ReadFail {
-        ReadFail::NoMemory
-    }
-}
-
-impl From<AllocError> for ReadFail {
-    ghost use Rattle.fm_parts.specs.declared.reader.ReadFail.TheVariants as fails;
-
-    ghost from_gives = { λ _ e. e ≡ fails.NoMemory };
-
-    fn from(_error: AllocError) -> ReadFail {
-        ReadFail::NoMemory
-    }
-}
-
-impl<T: Drop> From<AllocFailed<T>> for ReadFail {
-    ghost use Rattle.fm_parts.specs.declared.reader.ReadFail.TheVariants as fails;
-
-    ghost from_gives = { λ _ e. e ≡ fails.NoMemory };
-
-    fn from(_failed: AllocFailed<T>) -> ReadFail {
-        ReadFail::NoMemory
-    }
-}
+use std::alloc::Global;
 
 /// The first token, and those behind it.
 pub fn front(tokens: &[Token]) -> Option<(&Token, &[Token])>
@@ -56,51 +18,46 @@ pub fn front(tokens: &[Token]) -> Option<(&Token, &[Token])>
 }
 
 /// A name.
-pub fn a_name(alloc: Global, tokens: &[Token]) -> Result<(Name, &[Token]), ReadFail>
+pub fn a_name(alloc: Global, tokens: &[Token]) -> Result<(Name, &[Token]), ParseFail>
     ensures { Gives (λ p. (p.0, p.1.now)) result (name_at tokens.now) }
 {
     match tokens.split_first() {
         Some((Token::Named(name), rest)) => Ok((name.copy(alloc)?, rest)),
-        _ => Err(ReadFail::Bad),
+        _ => Err(ParseFail::Bad),
     }
 }
 
 /// A label, from 1 to 99999.
-pub fn a_label(tokens: &[Token]) -> Result<(Label, &[Token]), ReadFail>
+pub fn a_label(tokens: &[Token]) -> Result<(Label, &[Token]), ParseFail>
     ensures { Gives (λ p. (p.0, p.1.now)) result (label_at tokens.now) }
 {
     match tokens.split_first() {
         Some((Token::Number(n), rest)) if 1 <= *n && *n <= 99_999 => {
             Ok((Label(*n as u32), rest))
         }
-        _ => Err(ReadFail::Bad),
+        _ => Err(ParseFail::Bad),
     }
 }
 
 /// A character constant.
-pub fn a_constant(alloc: Global, tokens: &[Token]) -> Result<(Seq<u8>, &[Token]), ReadFail>
+pub fn a_constant(alloc: Global, tokens: &[Token]) -> Result<(Seq<u8>, &[Token]), ParseFail>
     ensures { Gives (λ p. (p.0, p.1.now)) result (constant_at tokens.now) }
 {
     match tokens.split_first() {
         Some((Token::Constant(bytes), rest)) => {
             Ok((Seq::from_slice(alloc, bytes.as_slice())?, rest))
         }
-        _ => Err(ReadFail::Bad),
+        _ => Err(ParseFail::Bad),
     }
 }
 
 /// An expression.
-pub fn an_expr(alloc: Global, tokens: &[Token]) -> Result<(Expr, &[Token]), ReadFail>
+pub fn an_expr(alloc: Global, tokens: &[Token]) -> Result<(Expr, &[Token]), ParseFail>
     ensures { Gives (λ p. (p.0, p.1.now)) result (expr_read tokens.now) }
 {
-    match expr(alloc, tokens) {
-        Ok((tree, n)) => {
-            let (_, rest) = tokens.split_at(n);
-            Ok((tree, rest))
-        }
-        Err(ExprFail::Bad) => Err(ReadFail::Bad),
-        Err(ExprFail::NoMemory) => Err(ReadFail::NoMemory),
-    }
+    let (tree, n) = expr(alloc, tokens)?;
+    let (_, rest) = tokens.split_at(n);
+    Ok((tree, rest))
 }
 
 /// What stands behind a fixed token, where that comes.
@@ -114,22 +71,26 @@ pub fn behind_mark(mark: Mark, tokens: &[Token]) -> Option<&[Token]>
 }
 
 /// A fixed token.
-pub fn a_mark(mark: Mark, tokens: &[Token]) -> Result<&[Token], ReadFail>
+pub fn a_mark(mark: Mark, tokens: &[Token]) -> Result<&[Token], ParseFail>
     ensures { Gives (λ p. p.now) result (mark_at mark tokens.now) }
 {
     match behind_mark(mark, tokens) {
         Some(rest) => Ok(rest),
-        None => Err(ReadFail::Bad),
+        None => Err(ParseFail::Bad),
     }
 }
 
 /// Whether a fixed token comes.
-pub fn a_flag(mark: Mark, tokens: &[Token]) -> (bool, &[Token])
-    ensures { flag_read mark tokens.now ≡ Some (result.0, result.1.now) }
+pub fn an_optional_token(mark: Mark, tokens: &[Token]) -> (bool, &[Token])
+    ensures { optional_token_read mark tokens.now ≡ Some (result.0, result.1.now) }
 {
-    match tokens.split_first() {
-        Some((token, rest)) if is_mark(mark, token) => (true, rest),
-        _ => (false, tokens),
+    let Some((token, rest)) = tokens.split_first() else {
+        return (false, tokens);
+    };
+    if is_mark(mark, token) {
+        (true, rest)
+    } else {
+        (false, tokens)
     }
 }
 
@@ -164,12 +125,12 @@ pub fn goes_on(tokens: &[Token]) -> bool
 }
 
 /// Whether nothing is left.
-pub fn at_end(tokens: &[Token]) -> Result<(), ReadFail>
+pub fn at_end(tokens: &[Token]) -> Result<(), ParseFail>
     ensures { Gives (λ p. p) result (nothing_left tokens.now) }
 {
     if tokens.is_empty() {
         Ok(())
     } else {
-        Err(ReadFail::Bad)
+        Err(ParseFail::Bad)
     }
 }

@@ -14,8 +14,8 @@ use Rattle.fm_cards.specs.declared.card.Card.{Card}
 use Rattle.fm_token.specs.Statements.{IsTokens}
 use Rattle.fm_tree.specs.declared.program_unit.Placed.{Placed}
 use Rattle.fm_tree.specs.declared.statement.Stmt.{Stmt}
-use Rattle.fm_parts.specs.declared.reader.ReadFail.{ReadFail}
-use Rattle.fm_parts.specs.declared.reader.ReadFail.TheVariants.{Bad, NoMemory}
+use Rattle.fm_base.specs.declared.parse_fail.ParseFail.{ParseFail}
+use Rattle.fm_base.specs.declared.parse_fail.ParseFail.TheVariants.{Bad}
 use Rattle.fm_parts.specs.Gives.{Fails}
 use Rattle.fm_stmt.specs.Statements.{statement_at}
 use Rattle.fm_stmt.specs.Names.{names_of, has_long}
@@ -166,6 +166,5 @@ refused_by card s big h (Some r) e fail v m =
     let q : Refused (record { line = card.line; rule = r }) ≡ fail = cc m in
     subst (IsRefusal (IsBroken card)) q (rule_least card s big (has_long (names_of s)) h refl r (sym e))
 
-pub nothing_read : {Y : Type 0} (e : ReadFail) (o : Option Y) → Fails e o → e ≡ Bad → o ≡ None
-nothing_read Bad o f b = f
-nothing_read NoMemory o f b = cc b
+pub nothing_read : {Y : Type 0} (e : ParseFail) (o : Option Y) → Fails e o → e ≡ Bad → o ≡ None
+nothing_read e o f bad = f bad

@@ -15,11 +15,12 @@ use Rattle.fm_parts.specs.declared.mark.Mark.TheVariants as mark
 use Rattle.fm_parts.specs.declared.mark.Mark.TheVariants.{Open, Close, Comma, Equals, Star}
 use Rattle.fm_parts.specs.declared.mark.Word.{Word}
 use Rattle.fm_parts.specs.declared.mark.Word.TheVariants as word
-use Rattle.fm_parts.specs.Reading.{Part, Ends, no_token, opens, is_word, name, label, expr, behind, before, parens, assigned, pair, maybe, swapped, more, some_of, listed, whole}
+use Rattle.fm_parts.specs.Reading.{Part, Ends, no_token, opens, is_word_token, name, label, expr, behind, before, parens, assigned, pair, optional_behind, swapped, more, some_of, listed, whole}
 use Rattle.fm_parts.specs.Parts.{var_part, decl_part, array_part, defined_part, way_part, loop_part, item_part, unit_part, port_part, extras_part, call_part_part}
 use Rattle.fm_parts.specs.Fields.{port_type_part}
 use Rattle.fm_stmt.specs.Statements.{heading_part, function_part, declaration_part, dimension_part, parameter_part, ports_part, intent_part, processors_part, assignment_part, then_part, call_part, print_part, write_part, channel_part, merger_part, send_part, receive_part, end_channel_part, move_port_part, probe_part, process_call_part, made, all, alone, keyed_simple, simple_at, simple_part, logical_if_part, keyed_statement, statement_at}
-use Rattle.fm_parts.proofs.Exact.{IsExact, Begins, Leads, bind_some, same_value, ends_any, exact_name, exact_label, exact_expr, exact_behind, exact_before, exact_pair, exact_maybe, whole_sound, whole_complete}
+use Rattle.fm_parts.specs.Exact.{IsExact}
+use Rattle.fm_parts.proofs.Exact.{Begins, Leads, bind_some, same_value, ends_any, exact_name, exact_label, exact_expr, exact_behind, exact_before, exact_pair, exact_optional_behind, whole_sound, whole_complete}
 use Rattle.fm_parts.proofs.ExactLists.{exact_more, exact_some, exact_listed, exact_parens, exact_swapped}
 use Rattle.fm_parts.proofs.ExactParts.{exact_named, exact_var, exact_decl, exact_array, exact_defined, exact_way, exact_loop, exact_item, item_opens, expr_opens, exact_unit, exact_port, exact_extras, exact_call_part}
 use Rattle.fm_parts.proofs.ExactFields.{exact_port_type}
@@ -37,7 +38,7 @@ exact_listed_before : {X : Type 0} (g : Part X) → IsExact g → g.stop token.C
 exact_listed_before g x k c b = exact_before (listed g) Close (exact_listed g x k c b) refl
 
 exact_heading : IsExact heading_part
-exact_heading = exact_named (maybe Open (before (listed name) Close)) (exact_maybe Open (before (listed name) Close) (exact_listed_before name exact_name refl refl name_opens))
+exact_heading = exact_named (optional_behind Open (before (listed name) Close)) (exact_optional_behind Open (before (listed name) Close) (exact_listed_before name exact_name refl refl name_opens))
 
 exact_function : IsExact function_part
 exact_function = exact_named (parens (listed name)) (exact_parens (listed name) (exact_listed name exact_name refl refl name_opens) refl)
@@ -70,7 +71,7 @@ exact_then : IsExact then_part
 exact_then = exact_before (parens expr) (mark.Word word.Then) exact_condition refl
 
 exact_call : IsExact call_part
-exact_call = exact_named (maybe Open (before (listed expr) Close)) (exact_maybe Open (before (listed expr) Close) (exact_listed_before expr exact_expr refl refl expr_opens))
+exact_call = exact_named (optional_behind Open (before (listed expr) Close)) (exact_optional_behind Open (before (listed expr) Close) (exact_listed_before expr exact_expr refl refl expr_opens))
 
 exact_print : IsExact print_part
 exact_print = exact_behind Star (more item_part) (exact_more item_part exact_item refl)
@@ -90,8 +91,8 @@ exact_out = exact_assigned word.Out var_part exact_var
 
 exact_channel : IsExact channel_part
 exact_channel =
-    exact_parens (swapped (is_word word.In) (assigned word.In var_part) (assigned word.Out var_part))
-    (exact_swapped (is_word word.In) (assigned word.In var_part) (assigned word.Out var_part) exact_in exact_out refl refl (λ v rest s. refl) (λ v rest s. refl)) refl
+    exact_parens (swapped (is_word_token word.In) (assigned word.In var_part) (assigned word.Out var_part))
+    (exact_swapped (is_word_token word.In) (assigned word.In var_part) (assigned word.Out var_part) exact_in exact_out refl refl (λ v rest s. refl) (λ v rest s. refl)) refl
 
 exact_merger : IsExact merger_part
 exact_merger =
@@ -134,7 +135,7 @@ exact_probe =
     (exact_behind Comma (assigned word.Empty var_part) (exact_assigned word.Empty var_part exact_var)) (λ z rest s e. refl)) refl
 
 exact_process_call : IsExact process_call_part
-exact_process_call = exact_named (maybe Open call_part_part) (exact_maybe Open call_part_part exact_call_part)
+exact_process_call = exact_named (optional_behind Open call_part_part) (exact_optional_behind Open call_part_part exact_call_part)
 
 -- what was made is made of a value
 made_sound : {X S : Type 0} (f : X → S) (o : Option X) (s : S) → made f o ≡ Some s → (x : X) × (o ≡ Some x) × (f x ≡ s)

@@ -1,11 +1,12 @@
 -- The statement of a card, and the rules that a card may break.
--- Source: ANSI X3.9-1978, sections 2.2, 3.3 and 4.3; this profile for the greatest number and the length of names.
+-- Source: ANSI X3.9-1978, sections 2.2 (names), 3.3 (statements) and 4.3.1 (integers); this profile for the greatest number and the length of names.
 use Rattle.std.specs.Prelude.{◌≡◌, ℕ, pos, Bool, true, false, if◌then◌else◌, Option, Some, None, List, map, Contains}
 use Rattle.fm_base.specs.declared.rule.Refusal.{Refusal}
 use Rattle.fm_base.specs.declared.rule.Rule.{Rule}
 use Rattle.fm_base.specs.declared.rule.Rule.TheVariants as rule
 use Rattle.fm_base.specs.declared.token.Token.{Token}
 use Rattle.fm_base.specs.declared.token.Token.TheVariants as token
+use Rattle.fm_base.specs.Integers.{greatest_integer}
 use Rattle.fm_base.specs.Verdict.{IsOfPhase}
 use Rattle.std.specs.List.{list_any}
 use Rattle.fm_cards.specs.declared.card.Card.{Card}
@@ -15,17 +16,14 @@ use Rattle.fm_tree.specs.declared.program_unit.Placed.{Placed}
 use Rattle.fm_tree.specs.declared.statement.Stmt.{Stmt}
 use Rattle.fm_stmt.specs.Names.{names_of, has_long}
 
--- the greatest number
-abbrev pub greatest : ℕ
-greatest = 9223372036854775807
-
--- a number over the greatest one counts as the greatest one
+-- a number over the greatest one
 abbrev pub is_big : Token → Bool
 is_big token.Big = true
 is_big t = false
 
+-- which counts as the greatest one
 abbrev pub read_so : Token → Token
-read_so t = if is_big t then token.Number (pos greatest) else t
+read_so t = if is_big t then token.Number (pos greatest_integer) else t
 
 abbrev pub known : List Token → List Token
 known ts = map read_so ts
@@ -40,8 +38,8 @@ abbrev pub IsTreeOf : List ℕ → Stmt → Type 0
 IsTreeOf text s = (ts : List Token) × (IsTokens text ts × Spells ts s)
 
 -- a number of the text is over the greatest one
-abbrev pub HasBig : List ℕ → Type 0
-HasBig text = (ts : List Token) × (IsTokens text ts × Contains ts token.Big)
+abbrev pub HasLargeNumber : List ℕ → Type 0
+HasLargeNumber text = (ts : List Token) × (IsTokens text ts × Contains ts token.Big)
 
 -- a name of the text's tree is too long
 abbrev pub HasLongName : List ℕ → Type 0
@@ -49,7 +47,7 @@ HasLongName text = (s : Stmt) × (IsTreeOf text s × (has_long (names_of s) ≡ 
 
 abbrev pub BreaksRule : List ℕ → Rule → Type 0
 BreaksRule text rule.E10 = (s : Stmt) → ¬ IsTreeOf text s
-BreaksRule text rule.E11 = HasBig text
+BreaksRule text rule.E11 = HasLargeNumber text
 BreaksRule text rule.E12 = HasLongName text
 BreaksRule text r = ⊥
 

@@ -1,5 +1,6 @@
 -- How statements are read from all of their tokens.
--- Source: ANSI X3.9-1978, sections 8, 10 to 13 and 15, the Fortran M report for processes and channels, MIL-STD-1753 for DO WHILE and ENDDO.
+-- Source: ANSI X3.9-1978, sections 8 and 10 to 15, the Fortran M report for processes and channels, MIL-STD-1753 for
+-- IMPLICIT NONE, DO WHILE and ENDDO.
 use Rattle.std.specs.Prelude.{ℕ, Bool, Option, Some, None, List, [], ◌∷◌}
 use Rattle.fm_base.specs.declared.token.Class.{Class}
 use Rattle.fm_base.specs.declared.token.Class.TheVariants as class
@@ -23,13 +24,13 @@ use Rattle.fm_tree.specs.Statements as forms
 use Rattle.fm_parts.specs.declared.mark.Mark.TheVariants.{Open, Close, Comma, Equals, Star}
 use Rattle.fm_parts.specs.declared.mark.Mark.TheVariants as mark
 use Rattle.fm_parts.specs.declared.mark.Word.TheVariants as word
-use Rattle.fm_parts.specs.Reading.{Part, no_token, is_word, name, label, expr, behind, before, parens, assigned, pair, maybe, swapped, more, some_of, listed, whole, nothing_left, ◌>>=◌}
+use Rattle.fm_parts.specs.Reading.{Part, no_token, is_word_token, name, label, expr, behind, before, parens, assigned, pair, optional_behind, swapped, more, some_of, listed, whole, nothing_left, ◌>>=◌}
 use Rattle.fm_parts.specs.Parts.{var_part, decl_part, array_part, defined_part, way_part, loop_part, item_part, unit_part, port_part, extras_part, call_part_part}
 use Rattle.fm_parts.specs.Fields.{port_type_part}
 
 -- PROCESS name [( [list(name)] )], and SUBROUTINE
 abbrev pub heading_part : Part (List ℕ × Option (List (List ℕ)))
-heading_part = pair name (maybe Open (before (listed name) Close))
+heading_part = pair name (optional_behind Open (before (listed name) Close))
 
 -- FUNCTION name ( [list(name)] )
 abbrev pub function_part : Part (List ℕ × List (List ℕ))
@@ -69,7 +70,7 @@ then_part = before (parens expr) (mark.Word word.Then)
 
 -- CALL name [( [list(expr)] )]
 abbrev pub call_part : Part (List ℕ × Option (List Tree))
-call_part = pair name (maybe Open (before (listed expr) Close))
+call_part = pair name (optional_behind Open (before (listed expr) Close))
 
 -- PRINT * [, list(item)]
 abbrev pub print_part : Part (List Item)
@@ -81,7 +82,7 @@ write_part = pair (parens (before (before unit_part Comma) Star)) (listed item_p
 
 -- IN = var , OUT = var, also OUT first
 abbrev pub two_ports_part : Part (Bool × (Var × Var))
-two_ports_part = swapped (is_word word.In) (assigned word.In var_part) (assigned word.Out var_part)
+two_ports_part = swapped (is_word_token word.In) (assigned word.In var_part) (assigned word.Out var_part)
 
 -- CHANNEL ( IN = var , OUT = var ), also OUT first
 abbrev pub channel_part : Part (Bool × (Var × Var))
@@ -117,7 +118,7 @@ probe_part = parens (pair port_part (behind Comma (assigned word.Empty var_part)
 
 -- PROCESSCALL name [( [list(expr)] ) [where]]
 abbrev pub process_call_part : Part (List ℕ × Option CallPart)
-process_call_part = pair name (maybe Open call_part_part)
+process_call_part = pair name (optional_behind Open call_part_part)
 
 -- what is made of a value, where there is one
 abbrev pub made : {X S : Type 0} → (X → S) → Option X → Option S

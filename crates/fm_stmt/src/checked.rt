@@ -10,10 +10,9 @@ ghost use Rattle.fm_stmt.specs.Names.{has_long, names_of};
 
 use crate::names::statement_long;
 use crate::statements::read_statement;
-use fm_base::{CheckFail, Line, NoMemory, Refusal, Rule, Token};
+use fm_base::{CheckFail, Line, NoMemory, ParseFail, Refusal, Rule, Token};
 use fm_cards::Card;
-use fm_parts::ReadFail;
-use fm_token::{TokenFail, tokens, tokens_are_one};
+use fm_token::tokens;
 use fm_tree::{Placed, Stmt};
 use std::alloc::Global;
 
@@ -52,24 +51,18 @@ fn known(alloc: Global, tokens: Vec<Token>) -> Result<Vec<Token>, NoMemory>
 }
 
 // The tokens of a text as they are read, and whether a number is over the greatest one.
-fn cut(alloc: Global, text: &[u8]) -> Result<(Vec<Token>, bool), ReadFail>
-    ensures { MatchResult result (λ r. HasCut text.now r.0.items r.1) (λ e. e ≡ ReadFail.Bad → (ts : List Token) → ¬ IsTokens text.now ts) }
+fn cut(alloc: Global, text: &[u8]) -> Result<(Vec<Token>, bool), ParseFail>
+    ensures { MatchResult result (λ r. HasCut text.now r.0.items r.1) (λ e. e ≡ ParseFail.Bad → (ts : List Token) → ¬ IsTokens text.now ts) }
 {
-    match tokens(alloc, text) {
-        Ok(tokens) => {
-            let big = has_big(&tokens);
-            Ok((known(alloc, tokens)?, big))
-        }
-        Err(TokenFail::Bad) => Err(ReadFail::Bad),
-        Err(TokenFail::NoMemory) => Err(ReadFail::NoMemory),
-    }
+    let tokens = tokens(alloc, text)?;
+    let big = has_big(&tokens);
+    Ok((known(alloc, tokens)?, big))
 }
 
 // The tree of a text, and whether a number is over the greatest one.
-fn tree(alloc: Global, text: &[u8]) -> Result<(Stmt, bool), ReadFail>
-    ensures { MatchResult result (λ r. IsRead text.now r.0 r.1) (λ e. e ≡ ReadFail.Bad → (s : Stmt) → ¬ IsTreeOf text.now s) }
+fn tree(alloc: Global, text: &[u8]) -> Result<(Stmt, bool), ParseFail>
+    ensures { MatchResult result (λ r. IsRead text.now r.0 r.1) (λ e. e ≡ ParseFail.Bad → (s : Stmt) → ¬ IsTreeOf text.now s) }
 {
-    tokens_are_one();
     let (tokens, big) = match cut(alloc, text) {
         Ok(found) => found,
         Err(fail) => return Err(fail),
@@ -110,7 +103,6 @@ fn judged(card: &Card, big: bool, statement: Stmt) -> Result<Placed, CheckFail>
     ensures clean { IfOk result (λ _. IsClean (IsBroken card.now)) }
     ensures refused { IfErr result (IsRefusal (IsBroken card.now)) }
 {
-    tokens_are_one();
     let rule = rule_of(big, &statement);
     match unless::<Stmt>(card.line, rule, statement) {
         Ok(stmt) => Ok(Placed {
@@ -133,11 +125,11 @@ pub fn statement(alloc: Global, card: &Card) -> Result<Placed, CheckFail>
 {
     match tree(alloc, card.text.as_slice()) {
         Ok((statement, big)) => judged(card, big, statement),
-        Err(ReadFail::Bad) => Err(CheckFail::Refused(Refusal {
+        Err(ParseFail::Bad) => Err(CheckFail::Refused(Refusal {
             line: card.line,
             rule: Rule::E10,
         })),
-        Err(ReadFail::NoMemory) => Err(CheckFail::NoMemory),
+        Err(ParseFail::NoMemory) => Err(CheckFail::NoMemory),
     }
 }
 
@@ -149,9 +141,7 @@ pub fn one_tree()
 /// A card has one statement.
 pub fn one_statement()
     ensures { OneStatement }
-{
-    tokens_are_one();
-}
+{}
 
 /// All that a card may break is of phase 1.
 pub fn all_of_phase_one()

@@ -210,7 +210,7 @@ impl Named for CallPart {
     }
 }
 
-fn maybe_any_long<T: Named>(items: &Option<Seq<T>>) -> bool
+fn option_any_long<T: Named>(items: &Option<Seq<T>>) -> bool
     ensures { result ≡ has_long (option_names (flat_map T.names) items.now) }
 {
     match items {
@@ -230,7 +230,7 @@ impl Named for Simple {
             Simple::Return => false,
             Simple::Stop => false,
             Simple::Call(name, arguments) => {
-                name.has_long() || maybe_any_long::<Expr>(arguments)
+                name.has_long() || option_any_long::<Expr>(arguments)
             }
             Simple::Print(items) => any_long::<Item>(items.as_slice()),
             Simple::Write(_, items) => any_long::<Item>(items.as_slice()),
@@ -281,8 +281,8 @@ pub fn statement_long(statement: &Stmt) -> bool
 {
     match statement {
         Stmt::Program(name) => name.has_long(),
-        Stmt::Process(name, formals) => name.has_long() || maybe_any_long::<Name>(formals),
-        Stmt::Subroutine(name, formals) => name.has_long() || maybe_any_long::<Name>(formals),
+        Stmt::Process(name, formals) => name.has_long() || option_any_long::<Name>(formals),
+        Stmt::Subroutine(name, formals) => name.has_long() || option_any_long::<Name>(formals),
         Stmt::Function(name, formals) => heading_long(name, formals.as_slice()),
         Stmt::IntegerFunction(name, formals) => heading_long(name, formals.as_slice()),
         Stmt::LogicalFunction(name, formals) => heading_long(name, formals.as_slice()),

@@ -3,19 +3,27 @@
 ghost use Rattle.fm_parts.specs.Gives.{Gives};
 ghost use Rattle.fm_parts.specs.Reading.{parens_read};
 ghost use Rattle.fm_parts.specs.Parts.{port_part};
-ghost use Rattle.fm_stmt.specs.Statements.{all, assignment_part, keyed_simple, simple_at, two_ports_part};
+ghost use Rattle.fm_stmt.specs.Statements.{all, alone, assignment_part, keyed_simple, simple_at, two_ports_part};
 ghost use Rattle.fm_tree.specs.declared.statement.Simple.TheVariants as simple;
 
-use fm_base::{Class, Token};
+use fm_base::{Class, ParseFail, Token};
 use fm_parts::{
-    ExprForm, Form, ItemForm, Mark, ReadFail, VarForm, Word, a_label, a_mark, a_name, a_port,
-    a_unit, an_expr, assigned, at_end, extras, listed, maybe_listed, more, some, starts_with,
+    ExprForm, Form, ItemForm, Mark, VarForm, Word, a_label, a_mark, a_name, a_port, a_unit,
+    an_expr, assigned, at_end, extras, listed, more, optional_listed, some, starts_with,
 };
 use fm_tree::{Simple, Var};
 use std::alloc::Global;
 
+/// A statement that is its keyword alone.
+pub fn alone<S: Drop>(statement: S, tokens: &[Token]) -> Result<S, ParseFail>
+    ensures { Gives (λ s. s) result (alone statement tokens.now) }
+{
+    at_end(tokens)?;
+    Ok(statement)
+}
+
 // var = expr
-fn an_assignment(alloc: Global, tokens: &[Token]) -> Result<Simple, ReadFail>
+fn an_assignment(alloc: Global, tokens: &[Token]) -> Result<Simple, ParseFail>
     ensures { Gives (λ s. s) result (all (λ p. simple.Assignment p.0 p.1) assignment_part tokens.now) }
 {
     let (target, rest) = VarForm::read_one(alloc, tokens)?;
@@ -26,7 +34,7 @@ fn an_assignment(alloc: Global, tokens: &[Token]) -> Result<Simple, ReadFail>
 }
 
 // label
-fn a_goto(tokens: &[Token]) -> Result<Simple, ReadFail>
+fn a_goto(tokens: &[Token]) -> Result<Simple, ParseFail>
     ensures { Gives (λ s. s) result (keyed_simple Class.Goto tokens.now) }
 {
     let (label, rest) = a_label(tokens)?;
@@ -34,39 +42,18 @@ fn a_goto(tokens: &[Token]) -> Result<Simple, ReadFail>
     Ok(Simple::Goto(label))
 }
 
-fn a_continue(tokens: &[Token]) -> Result<Simple, ReadFail>
-    ensures { Gives (λ s. s) result (keyed_simple Class.Continue tokens.now) }
-{
-    at_end(tokens)?;
-    Ok(Simple::Continue)
-}
-
-fn a_return(tokens: &[Token]) -> Result<Simple, ReadFail>
-    ensures { Gives (λ s. s) result (keyed_simple Class.Return tokens.now) }
-{
-    at_end(tokens)?;
-    Ok(Simple::Return)
-}
-
-fn a_stop(tokens: &[Token]) -> Result<Simple, ReadFail>
-    ensures { Gives (λ s. s) result (keyed_simple Class.Stop tokens.now) }
-{
-    at_end(tokens)?;
-    Ok(Simple::Stop)
-}
-
 // name [( [list(expr)] )]
-fn a_call(alloc: Global, tokens: &[Token]) -> Result<Simple, ReadFail>
+fn a_call(alloc: Global, tokens: &[Token]) -> Result<Simple, ParseFail>
     ensures { Gives (λ s. s) result (keyed_simple Class.Call tokens.now) }
 {
     let (name, rest) = a_name(alloc, tokens)?;
-    let (arguments, rest) = maybe_listed::<ExprForm>(alloc, rest)?;
+    let (arguments, rest) = optional_listed::<ExprForm>(alloc, rest)?;
     at_end(rest)?;
     Ok(Simple::Call(name, arguments))
 }
 
 // * [, list(item)]
-fn a_print(alloc: Global, tokens: &[Token]) -> Result<Simple, ReadFail>
+fn a_print(alloc: Global, tokens: &[Token]) -> Result<Simple, ParseFail>
     ensures { Gives (λ s. s) result (keyed_simple Class.Print tokens.now) }
 {
     let rest = a_mark(Mark::Star, tokens)?;
@@ -76,7 +63,7 @@ fn a_print(alloc: Global, tokens: &[Token]) -> Result<Simple, ReadFail>
 }
 
 // ( unit , * ) [list(item)]
-fn a_write(alloc: Global, tokens: &[Token]) -> Result<Simple, ReadFail>
+fn a_write(alloc: Global, tokens: &[Token]) -> Result<Simple, ParseFail>
     ensures { Gives (λ s. s) result (keyed_simple Class.Write tokens.now) }
 {
     let rest = a_mark(Mark::Open, tokens)?;
@@ -90,7 +77,7 @@ fn a_write(alloc: Global, tokens: &[Token]) -> Result<Simple, ReadFail>
 }
 
 // IN = var , OUT = var, also OUT first
-fn two_ports(alloc: Global, tokens: &[Token]) -> Result<((bool, (Var, Var)), &[Token]), ReadFail>
+fn two_ports(alloc: Global, tokens: &[Token]) -> Result<((bool, (Var, Var)), &[Token]), ParseFail>
     ensures { Gives (λ p. (p.0, p.1.now)) result (two_ports_part.read tokens.now) }
 {
     if starts_with(Mark::Word(Word::In), tokens) {
@@ -107,7 +94,7 @@ fn two_ports(alloc: Global, tokens: &[Token]) -> Result<((bool, (Var, Var)), &[T
 }
 
 // ( IN = var , OUT = var ), also OUT first
-fn a_channel(alloc: Global, tokens: &[Token]) -> Result<Simple, ReadFail>
+fn a_channel(alloc: Global, tokens: &[Token]) -> Result<Simple, ParseFail>
     ensures { Gives (λ s. s) result (keyed_simple Class.Channel tokens.now) }
 {
     let rest = a_mark(Mark::Open, tokens)?;
@@ -131,13 +118,13 @@ impl Form for OutForm {
 
     ghost reads = { out_part.read };
 
-    fn read_one(alloc: Global, tokens: &[Token]) -> Result<(Var, &[Token]), ReadFail> {
+    fn read_one(alloc: Global, tokens: &[Token]) -> Result<(Var, &[Token]), ParseFail> {
         assigned::<VarForm>(alloc, Word::Out, tokens)
     }
 }
 
 // ( IN = var , list(OUT = var) )
-fn a_merger(alloc: Global, tokens: &[Token]) -> Result<Simple, ReadFail>
+fn a_merger(alloc: Global, tokens: &[Token]) -> Result<Simple, ParseFail>
     ensures { Gives (λ s. s) result (keyed_simple Class.Merger tokens.now) }
 {
     let rest = a_mark(Mark::Open, tokens)?;
@@ -150,7 +137,7 @@ fn a_merger(alloc: Global, tokens: &[Token]) -> Result<Simple, ReadFail>
 }
 
 // ( [PORT =] var )
-fn a_port_in_parens(alloc: Global, tokens: &[Token]) -> Result<((bool, Var), &[Token]), ReadFail>
+fn a_port_in_parens(alloc: Global, tokens: &[Token]) -> Result<((bool, Var), &[Token]), ParseFail>
     ensures { Gives (λ p. (p.0, p.1.now)) result (parens_read port_part.read tokens.now) }
 {
     let rest = a_mark(Mark::Open, tokens)?;
@@ -160,7 +147,7 @@ fn a_port_in_parens(alloc: Global, tokens: &[Token]) -> Result<((bool, Var), &[T
 }
 
 // ( [PORT =] var ) [list(expr)]
-fn a_send(alloc: Global, tokens: &[Token]) -> Result<Simple, ReadFail>
+fn a_send(alloc: Global, tokens: &[Token]) -> Result<Simple, ParseFail>
     ensures { Gives (λ s. s) result (keyed_simple Class.Send tokens.now) }
 {
     let ((named, port), rest) = a_port_in_parens(alloc, tokens)?;
@@ -170,7 +157,7 @@ fn a_send(alloc: Global, tokens: &[Token]) -> Result<Simple, ReadFail>
 }
 
 // ( [PORT =] var {, extra} ) [list(var)]
-fn a_receive(alloc: Global, tokens: &[Token]) -> Result<Simple, ReadFail>
+fn a_receive(alloc: Global, tokens: &[Token]) -> Result<Simple, ParseFail>
     ensures { Gives (λ s. s) result (keyed_simple Class.Receive tokens.now) }
 {
     let rest = a_mark(Mark::Open, tokens)?;
@@ -188,7 +175,7 @@ fn a_receive(alloc: Global, tokens: &[Token]) -> Result<Simple, ReadFail>
 }
 
 // ( [PORT =] var )
-fn an_end_channel(alloc: Global, tokens: &[Token]) -> Result<Simple, ReadFail>
+fn an_end_channel(alloc: Global, tokens: &[Token]) -> Result<Simple, ParseFail>
     ensures { Gives (λ s. s) result (keyed_simple Class.EndChannel tokens.now) }
 {
     let ((named, port), rest) = a_port_in_parens(alloc, tokens)?;
@@ -197,7 +184,7 @@ fn an_end_channel(alloc: Global, tokens: &[Token]) -> Result<Simple, ReadFail>
 }
 
 // ( FROM = var , TO = var )
-fn a_move_port(alloc: Global, tokens: &[Token]) -> Result<Simple, ReadFail>
+fn a_move_port(alloc: Global, tokens: &[Token]) -> Result<Simple, ParseFail>
     ensures { Gives (λ s. s) result (keyed_simple Class.MovePort tokens.now) }
 {
     let rest = a_mark(Mark::Open, tokens)?;
@@ -210,7 +197,7 @@ fn a_move_port(alloc: Global, tokens: &[Token]) -> Result<Simple, ReadFail>
 }
 
 // ( [PORT =] var , EMPTY = var )
-fn a_probe(alloc: Global, tokens: &[Token]) -> Result<Simple, ReadFail>
+fn a_probe(alloc: Global, tokens: &[Token]) -> Result<Simple, ParseFail>
     ensures { Gives (λ s. s) result (keyed_simple Class.Probe tokens.now) }
 {
     let rest = a_mark(Mark::Open, tokens)?;
@@ -223,14 +210,14 @@ fn a_probe(alloc: Global, tokens: &[Token]) -> Result<Simple, ReadFail>
 }
 
 /// What stands behind the keyword of a class, all of the tokens.
-pub fn keyed_simple(alloc: Global, class: Class, tokens: &[Token]) -> Result<Simple, ReadFail>
+pub fn keyed_simple(alloc: Global, class: Class, tokens: &[Token]) -> Result<Simple, ParseFail>
     ensures { Gives (λ s. s) result (keyed_simple class tokens.now) }
 {
     match class {
         Class::Goto => a_goto(tokens),
-        Class::Continue => a_continue(tokens),
-        Class::Return => a_return(tokens),
-        Class::Stop => a_stop(tokens),
+        Class::Continue => alone(Simple::Continue, tokens),
+        Class::Return => alone(Simple::Return, tokens),
+        Class::Stop => alone(Simple::Stop, tokens),
         Class::Call => a_call(alloc, tokens),
         Class::Print => a_print(alloc, tokens),
         Class::Write => a_write(alloc, tokens),
@@ -241,12 +228,12 @@ pub fn keyed_simple(alloc: Global, class: Class, tokens: &[Token]) -> Result<Sim
         Class::EndChannel => an_end_channel(alloc, tokens),
         Class::MovePort => a_move_port(alloc, tokens),
         Class::Probe => a_probe(alloc, tokens),
-        _ => Err(ReadFail::Bad),
+        _ => Err(ParseFail::Bad),
     }
 }
 
 /// A statement that may stand behind a logical IF, all of the tokens.
-pub fn simple(alloc: Global, tokens: &[Token]) -> Result<Simple, ReadFail>
+pub fn simple(alloc: Global, tokens: &[Token]) -> Result<Simple, ParseFail>
     ensures { Gives (λ s. s) result (simple_at tokens.now) }
 {
     match tokens.split_first() {

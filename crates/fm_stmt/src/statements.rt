@@ -1,23 +1,23 @@
 //! The forms of statements.
 
 ghost use Rattle.fm_parts.specs.Gives.{Gives};
-ghost use Rattle.fm_parts.specs.Reading.{expr_read, maybe_read, parens_read, whole};
+ghost use Rattle.fm_parts.specs.Reading.{expr_read, optional_behind_read, parens_read, whole};
 ghost use Rattle.fm_parts.specs.Parts.{call_part_part, loop_part};
 ghost use Rattle.fm_stmt.specs.Statements.{keyed_simple, made, declaration_part, function_part, heading_part, keyed_statement, ports_part, statement_at, then_part};
 ghost use Rattle.fm_tree.specs.declared.statement.Stmt.TheVariants as stmt;
 
-use crate::simple::{keyed_simple, simple};
-use fm_base::{Class, Name, Seq, Token};
+use crate::simple::{alone, keyed_simple, simple};
+use fm_base::{Class, Name, ParseFail, Seq, Token};
 use fm_parts::{
-    ArrayForm, DeclForm, DefinedForm, ExprForm, Mark, NameForm, ReadFail, Word, a_call_part,
-    a_loop_head, a_mark, a_name, a_port_type, a_way, an_expr, at_end, listed, maybe_listed, some,
+    ArrayForm, DeclForm, DefinedForm, ExprForm, Mark, NameForm, Word, a_call_part, a_loop_head,
+    a_mark, a_name, a_port_type, a_way, an_expr, at_end, listed, optional_listed, some,
     some_in_parens, starts_with,
 };
 use fm_tree::{CallPart, Decl, Expr, LoopHead, PortType, Stmt, Way};
 use std::alloc::Global;
 
 // name
-fn a_program(alloc: Global, tokens: &[Token]) -> Result<Stmt, ReadFail>
+fn a_program(alloc: Global, tokens: &[Token]) -> Result<Stmt, ParseFail>
     ensures { Gives (λ s. s) result (keyed_statement Class.Program tokens.now) }
 {
     let (name, rest) = a_name(alloc, tokens)?;
@@ -26,17 +26,17 @@ fn a_program(alloc: Global, tokens: &[Token]) -> Result<Stmt, ReadFail>
 }
 
 // name [( [list(name)] )]
-fn a_heading(alloc: Global, tokens: &[Token]) -> Result<(Name, Option<Seq<Name>>), ReadFail>
+fn a_heading(alloc: Global, tokens: &[Token]) -> Result<(Name, Option<Seq<Name>>), ParseFail>
     ensures { Gives (λ p. p) result (whole heading_part.read tokens.now) }
 {
     let (name, rest) = a_name(alloc, tokens)?;
-    let (formals, rest) = maybe_listed::<NameForm>(alloc, rest)?;
+    let (formals, rest) = optional_listed::<NameForm>(alloc, rest)?;
     at_end(rest)?;
     Ok((name, formals))
 }
 
 // name ( [list(name)] )
-fn a_function(alloc: Global, tokens: &[Token]) -> Result<(Name, Seq<Name>), ReadFail>
+fn a_function(alloc: Global, tokens: &[Token]) -> Result<(Name, Seq<Name>), ParseFail>
     ensures { Gives (λ p. p) result (whole function_part.read tokens.now) }
 {
     let (name, rest) = a_name(alloc, tokens)?;
@@ -48,7 +48,7 @@ fn a_function(alloc: Global, tokens: &[Token]) -> Result<(Name, Seq<Name>), Read
 }
 
 // list(decl)
-fn decls(alloc: Global, tokens: &[Token]) -> Result<Seq<Decl>, ReadFail>
+fn decls(alloc: Global, tokens: &[Token]) -> Result<Seq<Decl>, ParseFail>
     ensures { Gives (λ p. p) result (whole declaration_part.read tokens.now) }
 {
     let (decls, rest) = some::<DeclForm>(alloc, tokens)?;
@@ -57,7 +57,7 @@ fn decls(alloc: Global, tokens: &[Token]) -> Result<Seq<Decl>, ReadFail>
 }
 
 // list(name ( list(bound) ))
-fn a_dimension(alloc: Global, tokens: &[Token]) -> Result<Stmt, ReadFail>
+fn a_dimension(alloc: Global, tokens: &[Token]) -> Result<Stmt, ParseFail>
     ensures { Gives (λ s. s) result (keyed_statement Class.Dimension tokens.now) }
 {
     let (arrays, rest) = some::<ArrayForm>(alloc, tokens)?;
@@ -66,7 +66,7 @@ fn a_dimension(alloc: Global, tokens: &[Token]) -> Result<Stmt, ReadFail>
 }
 
 // ( list(name = expr) )
-fn a_parameter(alloc: Global, tokens: &[Token]) -> Result<Stmt, ReadFail>
+fn a_parameter(alloc: Global, tokens: &[Token]) -> Result<Stmt, ParseFail>
     ensures { Gives (λ s. s) result (keyed_statement Class.Parameter tokens.now) }
 {
     let (constants, rest) = some_in_parens::<DefinedForm>(alloc, tokens)?;
@@ -75,7 +75,7 @@ fn a_parameter(alloc: Global, tokens: &[Token]) -> Result<Stmt, ReadFail>
 }
 
 // ( [list(field)] ) list(decl)
-fn ports(alloc: Global, tokens: &[Token]) -> Result<(PortType, Seq<Decl>), ReadFail>
+fn ports(alloc: Global, tokens: &[Token]) -> Result<(PortType, Seq<Decl>), ParseFail>
     ensures { Gives (λ p. p) result (whole ports_part.read tokens.now) }
 {
     let (fields, rest) = a_port_type(alloc, tokens)?;
@@ -85,7 +85,7 @@ fn ports(alloc: Global, tokens: &[Token]) -> Result<(PortType, Seq<Decl>), ReadF
 }
 
 // ( way ) list(name)
-fn an_intent(alloc: Global, tokens: &[Token]) -> Result<Stmt, ReadFail>
+fn an_intent(alloc: Global, tokens: &[Token]) -> Result<Stmt, ParseFail>
     ensures { Gives (λ s. s) result (keyed_statement Class.Intent tokens.now) }
 {
     let rest = a_mark(Mark::Open, tokens)?;
@@ -97,7 +97,7 @@ fn an_intent(alloc: Global, tokens: &[Token]) -> Result<Stmt, ReadFail>
 }
 
 // ( list(expr) )
-fn processors(alloc: Global, tokens: &[Token]) -> Result<Stmt, ReadFail>
+fn processors(alloc: Global, tokens: &[Token]) -> Result<Stmt, ParseFail>
     ensures { Gives (λ s. s) result (keyed_statement Class.Processors tokens.now) }
 {
     let (extents, rest) = some_in_parens::<ExprForm>(alloc, tokens)?;
@@ -106,7 +106,7 @@ fn processors(alloc: Global, tokens: &[Token]) -> Result<Stmt, ReadFail>
 }
 
 // ( expr )
-fn a_condition(alloc: Global, tokens: &[Token]) -> Result<(Expr, &[Token]), ReadFail>
+fn a_condition(alloc: Global, tokens: &[Token]) -> Result<(Expr, &[Token]), ParseFail>
     ensures { Gives (λ p. (p.0, p.1.now)) result (parens_read expr_read tokens.now) }
 {
     let rest = a_mark(Mark::Open, tokens)?;
@@ -116,7 +116,7 @@ fn a_condition(alloc: Global, tokens: &[Token]) -> Result<(Expr, &[Token]), Read
 }
 
 // ( expr ) THEN
-fn a_then(alloc: Global, tokens: &[Token]) -> Result<Expr, ReadFail>
+fn a_then(alloc: Global, tokens: &[Token]) -> Result<Expr, ParseFail>
     ensures { Gives (λ p. p) result (whole then_part.read tokens.now) }
 {
     let (condition, rest) = a_condition(alloc, tokens)?;
@@ -126,7 +126,7 @@ fn a_then(alloc: Global, tokens: &[Token]) -> Result<Expr, ReadFail>
 }
 
 // ( expr ) simple
-fn a_logical_if(alloc: Global, tokens: &[Token]) -> Result<Stmt, ReadFail>
+fn a_logical_if(alloc: Global, tokens: &[Token]) -> Result<Stmt, ParseFail>
     ensures { Gives (λ s. s) result (keyed_statement Class.LogicalIf tokens.now) }
 {
     let (condition, rest) = a_condition(alloc, tokens)?;
@@ -135,7 +135,7 @@ fn a_logical_if(alloc: Global, tokens: &[Token]) -> Result<Stmt, ReadFail>
 }
 
 // [label [,]] name = expr , expr [, expr]
-fn a_loop(alloc: Global, tokens: &[Token]) -> Result<LoopHead, ReadFail>
+fn a_loop(alloc: Global, tokens: &[Token]) -> Result<LoopHead, ParseFail>
     ensures { Gives (λ p. p) result (whole loop_part.read tokens.now) }
 {
     let (head, rest) = a_loop_head(alloc, tokens)?;
@@ -144,7 +144,7 @@ fn a_loop(alloc: Global, tokens: &[Token]) -> Result<LoopHead, ReadFail>
 }
 
 // ( expr )
-fn a_do_while(alloc: Global, tokens: &[Token]) -> Result<Stmt, ReadFail>
+fn a_do_while(alloc: Global, tokens: &[Token]) -> Result<Stmt, ParseFail>
     ensures { Gives (λ s. s) result (keyed_statement Class.DoWhile tokens.now) }
 {
     let (condition, rest) = a_condition(alloc, tokens)?;
@@ -153,11 +153,11 @@ fn a_do_while(alloc: Global, tokens: &[Token]) -> Result<Stmt, ReadFail>
 }
 
 // [( [list(expr)] ) [where]]
-fn maybe_call_part(
+fn optional_call_part(
     alloc: Global,
     tokens: &[Token],
-) -> Result<(Option<CallPart>, &[Token]), ReadFail>
-    ensures { Gives (λ p. (p.0, p.1.now)) result (maybe_read Mark.Open call_part_part.read tokens.now) }
+) -> Result<(Option<CallPart>, &[Token]), ParseFail>
+    ensures { Gives (λ p. (p.0, p.1.now)) result (optional_behind_read Mark.Open call_part_part.read tokens.now) }
 {
     if !starts_with(Mark::Open, tokens) {
         return Ok((None, tokens));
@@ -168,79 +168,23 @@ fn maybe_call_part(
 }
 
 // name [( [list(expr)] ) [where]]
-fn a_process_call(alloc: Global, tokens: &[Token]) -> Result<Stmt, ReadFail>
+fn a_process_call(alloc: Global, tokens: &[Token]) -> Result<Stmt, ParseFail>
     ensures { Gives (λ s. s) result (keyed_statement Class.ProcessCall tokens.now) }
 {
     let (name, rest) = a_name(alloc, tokens)?;
-    let (part, rest) = maybe_call_part(alloc, rest)?;
+    let (part, rest) = optional_call_part(alloc, rest)?;
     at_end(rest)?;
     Ok(Stmt::ProcessCall(name, part))
 }
 
-fn an_implicit_none(tokens: &[Token]) -> Result<Stmt, ReadFail>
-    ensures { Gives (λ s. s) result (keyed_statement Class.ImplicitNone tokens.now) }
-{
-    at_end(tokens)?;
-    Ok(Stmt::ImplicitNone)
-}
-
-fn an_else(tokens: &[Token]) -> Result<Stmt, ReadFail>
-    ensures { Gives (λ s. s) result (keyed_statement Class.Else tokens.now) }
-{
-    at_end(tokens)?;
-    Ok(Stmt::Else)
-}
-
-fn an_end_if(tokens: &[Token]) -> Result<Stmt, ReadFail>
-    ensures { Gives (λ s. s) result (keyed_statement Class.EndIf tokens.now) }
-{
-    at_end(tokens)?;
-    Ok(Stmt::EndIf)
-}
-
-fn an_end_do(tokens: &[Token]) -> Result<Stmt, ReadFail>
-    ensures { Gives (λ s. s) result (keyed_statement Class.EndDo tokens.now) }
-{
-    at_end(tokens)?;
-    Ok(Stmt::EndDo)
-}
-
-fn an_end(tokens: &[Token]) -> Result<Stmt, ReadFail>
-    ensures { Gives (λ s. s) result (keyed_statement Class.End tokens.now) }
-{
-    at_end(tokens)?;
-    Ok(Stmt::End)
-}
-
-fn processes(tokens: &[Token]) -> Result<Stmt, ReadFail>
-    ensures { Gives (λ s. s) result (keyed_statement Class.Processes tokens.now) }
-{
-    at_end(tokens)?;
-    Ok(Stmt::Processes)
-}
-
-fn end_processes(tokens: &[Token]) -> Result<Stmt, ReadFail>
-    ensures { Gives (λ s. s) result (keyed_statement Class.EndProcesses tokens.now) }
-{
-    at_end(tokens)?;
-    Ok(Stmt::EndProcesses)
-}
-
-fn an_end_process_do(tokens: &[Token]) -> Result<Stmt, ReadFail>
-    ensures { Gives (λ s. s) result (keyed_statement Class.EndProcessDo tokens.now) }
-{
-    at_end(tokens)?;
-    Ok(Stmt::EndProcessDo)
-}
-
-fn a_simple(alloc: Global, class: Class, tokens: &[Token]) -> Result<Stmt, ReadFail>
+fn a_simple(alloc: Global, class: Class, tokens: &[Token]) -> Result<Stmt, ParseFail>
     ensures { Gives (λ s. s) result (made stmt.Simple (keyed_simple class tokens.now)) }
 {
     Ok(Stmt::Simple(keyed_simple(alloc, class, tokens)?))
 }
 
 // name [( [list(name)] )]
-fn a_process(alloc: Global, tokens: &[Token]) -> Result<Stmt, ReadFail>
+fn a_process(alloc: Global, tokens: &[Token]) -> Result<Stmt, ParseFail>
     ensures { Gives (λ s. s) result (keyed_statement Class.Process tokens.now) }
 {
     let (name, formals) = a_heading(alloc, tokens)?;
@@ -248,7 +192,7 @@ fn a_process(alloc: Global, tokens: &[Token]) -> Result<Stmt, ReadFail>
 }
 
 // name [( [list(name)] )]
-fn a_subroutine(alloc: Global, tokens: &[Token]) -> Result<Stmt, ReadFail>
+fn a_subroutine(alloc: Global, tokens: &[Token]) -> Result<Stmt, ParseFail>
     ensures { Gives (λ s. s) result (keyed_statement Class.Subroutine tokens.now) }
 {
     let (name, formals) = a_heading(alloc, tokens)?;
@@ -256,7 +200,7 @@ fn a_subroutine(alloc: Global, tokens: &[Token]) -> Result<Stmt, ReadFail>
 }
 
 // name ( [list(name)] )
-fn a_plain_function(alloc: Global, tokens: &[Token]) -> Result<Stmt, ReadFail>
+fn a_plain_function(alloc: Global, tokens: &[Token]) -> Result<Stmt, ParseFail>
     ensures { Gives (λ s. s) result (keyed_statement Class.Function tokens.now) }
 {
     let (name, formals) = a_function(alloc, tokens)?;
@@ -264,7 +208,7 @@ fn a_plain_function(alloc: Global, tokens: &[Token]) -> Result<Stmt, ReadFail>
 }
 
 // name ( [list(name)] )
-fn an_integer_function(alloc: Global, tokens: &[Token]) -> Result<Stmt, ReadFail>
+fn an_integer_function(alloc: Global, tokens: &[Token]) -> Result<Stmt, ParseFail>
     ensures { Gives (λ s. s) result (keyed_statement Class.IntegerFunction tokens.now) }
 {
     let (name, formals) = a_function(alloc, tokens)?;
@@ -272,7 +216,7 @@ fn an_integer_function(alloc: Global, tokens: &[Token]) -> Result<Stmt, ReadFail
 }
 
 // name ( [list(name)] )
-fn a_logical_function(alloc: Global, tokens: &[Token]) -> Result<Stmt, ReadFail>
+fn a_logical_function(alloc: Global, tokens: &[Token]) -> Result<Stmt, ParseFail>
     ensures { Gives (λ s. s) result (keyed_statement Class.LogicalFunction tokens.now) }
 {
     let (name, formals) = a_function(alloc, tokens)?;
@@ -280,7 +224,7 @@ fn a_logical_function(alloc: Global, tokens: &[Token]) -> Result<Stmt, ReadFail>
 }
 
 // list(decl)
-fn an_integer(alloc: Global, tokens: &[Token]) -> Result<Stmt, ReadFail>
+fn an_integer(alloc: Global, tokens: &[Token]) -> Result<Stmt, ParseFail>
     ensures { Gives (λ s. s) result (keyed_statement Class.Integer tokens.now) }
 {
     let decls = decls(alloc, tokens)?;
@@ -288,7 +232,7 @@ fn an_integer(alloc: Global, tokens: &[Token]) -> Result<Stmt, ReadFail>
 }
 
 // list(decl)
-fn a_logical(alloc: Global, tokens: &[Token]) -> Result<Stmt, ReadFail>
+fn a_logical(alloc: Global, tokens: &[Token]) -> Result<Stmt, ParseFail>
     ensures { Gives (λ s. s) result (keyed_statement Class.Logical tokens.now) }
 {
     let decls = decls(alloc, tokens)?;
@@ -296,7 +240,7 @@ fn a_logical(alloc: Global, tokens: &[Token]) -> Result<Stmt, ReadFail>
 }
 
 // ( [list(field)] ) list(decl)
-fn an_inport(alloc: Global, tokens: &[Token]) -> Result<Stmt, ReadFail>
+fn an_inport(alloc: Global, tokens: &[Token]) -> Result<Stmt, ParseFail>
     ensures { Gives (λ s. s) result (keyed_statement Class.Inport tokens.now) }
 {
     let (fields, decls) = ports(alloc, tokens)?;
@@ -304,7 +248,7 @@ fn an_inport(alloc: Global, tokens: &[Token]) -> Result<Stmt, ReadFail>
 }
 
 // ( [list(field)] ) list(decl)
-fn an_outport(alloc: Global, tokens: &[Token]) -> Result<Stmt, ReadFail>
+fn an_outport(alloc: Global, tokens: &[Token]) -> Result<Stmt, ParseFail>
     ensures { Gives (λ s. s) result (keyed_statement Class.Outport tokens.now) }
 {
     let (fields, decls) = ports(alloc, tokens)?;
@@ -312,7 +256,7 @@ fn an_outport(alloc: Global, tokens: &[Token]) -> Result<Stmt, ReadFail>
 }
 
 // ( expr ) THEN
-fn a_block_if(alloc: Global, tokens: &[Token]) -> Result<Stmt, ReadFail>
+fn a_block_if(alloc: Global, tokens: &[Token]) -> Result<Stmt, ParseFail>
     ensures { Gives (λ s. s) result (keyed_statement Class.BlockIf tokens.now) }
 {
     let condition = a_then(alloc, tokens)?;
@@ -320,7 +264,7 @@ fn a_block_if(alloc: Global, tokens: &[Token]) -> Result<Stmt, ReadFail>
 }
 
 // ( expr ) THEN
-fn an_else_if(alloc: Global, tokens: &[Token]) -> Result<Stmt, ReadFail>
+fn an_else_if(alloc: Global, tokens: &[Token]) -> Result<Stmt, ParseFail>
     ensures { Gives (λ s. s) result (keyed_statement Class.ElseIf tokens.now) }
 {
     let condition = a_then(alloc, tokens)?;
@@ -328,7 +272,7 @@ fn an_else_if(alloc: Global, tokens: &[Token]) -> Result<Stmt, ReadFail>
 }
 
 // [label [,]] name = expr , expr [, expr]
-fn a_do(alloc: Global, tokens: &[Token]) -> Result<Stmt, ReadFail>
+fn a_do(alloc: Global, tokens: &[Token]) -> Result<Stmt, ParseFail>
     ensures { Gives (λ s. s) result (keyed_statement Class.Do tokens.now) }
 {
     let head = a_loop(alloc, tokens)?;
@@ -336,7 +280,7 @@ fn a_do(alloc: Global, tokens: &[Token]) -> Result<Stmt, ReadFail>
 }
 
 // [label [,]] name = expr , expr [, expr]
-fn a_process_do(alloc: Global, tokens: &[Token]) -> Result<Stmt, ReadFail>
+fn a_process_do(alloc: Global, tokens: &[Token]) -> Result<Stmt, ParseFail>
     ensures { Gives (λ s. s) result (keyed_statement Class.ProcessDo tokens.now) }
 {
     let head = a_loop(alloc, tokens)?;
@@ -344,7 +288,7 @@ fn a_process_do(alloc: Global, tokens: &[Token]) -> Result<Stmt, ReadFail>
 }
 
 // What stands behind the keyword of a class, all of the tokens.
-fn keyed(alloc: Global, class: Class, tokens: &[Token]) -> Result<Stmt, ReadFail>
+fn keyed(alloc: Global, class: Class, tokens: &[Token]) -> Result<Stmt, ParseFail>
     ensures { Gives (λ s. s) result (keyed_statement class tokens.now) }
 {
     match class {
@@ -354,7 +298,7 @@ fn keyed(alloc: Global, class: Class, tokens: &[Token]) -> Result<Stmt, ReadFail
         Class::Function => a_plain_function(alloc, tokens),
         Class::IntegerFunction => an_integer_function(alloc, tokens),
         Class::LogicalFunction => a_logical_function(alloc, tokens),
-        Class::ImplicitNone => an_implicit_none(tokens),
+        Class::ImplicitNone => alone(Stmt::ImplicitNone, tokens),
         Class::Integer => an_integer(alloc, tokens),
         Class::Logical => a_logical(alloc, tokens),
         Class::Dimension => a_dimension(alloc, tokens),
@@ -366,23 +310,23 @@ fn keyed(alloc: Global, class: Class, tokens: &[Token]) -> Result<Stmt, ReadFail
         Class::LogicalIf => a_logical_if(alloc, tokens),
         Class::BlockIf => a_block_if(alloc, tokens),
         Class::ElseIf => an_else_if(alloc, tokens),
-        Class::Else => an_else(tokens),
-        Class::EndIf => an_end_if(tokens),
+        Class::Else => alone(Stmt::Else, tokens),
+        Class::EndIf => alone(Stmt::EndIf, tokens),
         Class::Do => a_do(alloc, tokens),
         Class::DoWhile => a_do_while(alloc, tokens),
-        Class::EndDo => an_end_do(tokens),
-        Class::End => an_end(tokens),
-        Class::Processes => processes(tokens),
-        Class::EndProcesses => end_processes(tokens),
+        Class::EndDo => alone(Stmt::EndDo, tokens),
+        Class::End => alone(Stmt::End, tokens),
+        Class::Processes => alone(Stmt::Processes, tokens),
+        Class::EndProcesses => alone(Stmt::EndProcesses, tokens),
         Class::ProcessCall => a_process_call(alloc, tokens),
         Class::ProcessDo => a_process_do(alloc, tokens),
-        Class::EndProcessDo => an_end_process_do(tokens),
+        Class::EndProcessDo => alone(Stmt::EndProcessDo, tokens),
         _ => a_simple(alloc, class, tokens),
     }
 }
 
 /// The statement that the tokens spell, all of them.
-pub fn read_statement(alloc: Global, tokens: &[Token]) -> Result<Stmt, ReadFail>
+pub fn read_statement(alloc: Global, tokens: &[Token]) -> Result<Stmt, ParseFail>
     ensures { Gives (λ s. s) result (statement_at tokens.now) }
 {
     match tokens.split_first() {

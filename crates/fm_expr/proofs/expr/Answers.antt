@@ -1,5 +1,5 @@
-use Rattle.std.proofs.Common.{sym}
-use Rattle.fm_expr.specs.Reading.{expr_at}
+use Rattle.std.proofs.Common.{sym, ◌∙◌}
+use Rattle.fm_expr.specs.Longest.{expr_at-run}
 use Rattle.fm_expr.proofs.Laws.{found_longest, none_begins, reads_the_whole, its_tree}
 use Rattle.fm_expr.proofs.expr.Goals as goal
 
@@ -18,9 +18,7 @@ returns-in-Ok-None-clause-whole c t more w s q =
     let e = reads_the_whole _ _ (rw c.in-Ok-None.field-0-is at c.in-Ok-None.ensures) t more w s q in cc
 
 pub returns-in-Ok-Some-clause-exact : goal.returns-in-Ok-Some-clause-exact
-unfolding expr_at
-returns-in-Ok-Some-clause-exact c = sym (rw c.in-Ok-Some.field-0-is at c.in-Ok-Some.ensures)
+returns-in-Ok-Some-clause-exact c = sym (expr_at-run c.args.tokens.now) ∙ sym (rw c.in-Ok-Some.field-0-is at c.in-Ok-Some.ensures)
 
 pub returns-in-Ok-None-clause-exact : goal.returns-in-Ok-None-clause-exact
-unfolding expr_at
-returns-in-Ok-None-clause-exact c h = sym (rw c.in-Ok-None.field-0-is at c.in-Ok-None.ensures)
+returns-in-Ok-None-clause-exact c h = sym (expr_at-run c.args.tokens.now) ∙ sym (rw c.in-Ok-None.field-0-is at c.in-Ok-None.ensures)

@@ -1,5 +1,5 @@
 use Rattle.std.proofs.Common.{◌≡◌, ◌-◌, ◌*◌, ◌+◌, length}
-use Rattle.fm_parts.specs.Reading.{items_read, more_read, with_front}
+use Rattle.fm_parts.specs.Reading.{items_read, more_read, after_items}
 use Rattle.fm_parts.specs.Fields.{field_read, fields_read}
 use Rattle.fm_parts.proofs.fields.+fields.Given as goal
 
@@ -27,4 +27,4 @@ decreases-listed_fields l = 7 * l.depth + 6
 -- what has been read, before what the rest gives, is what the whole gives
 abbrev pub invariant-grow-fields : goal.invariant-grow-fields
 invariant-grow-fields l =
-    (with_front l.fields.items (items_read (field_read (fields_read l.depth)) (l.end - l.counter) l.rest) ≡ with_front l.initial.fields.items (more_read (field_read (fields_read l.depth)) l.tokens)) × (l.end ≡ length l.tokens)
+    (after_items l.fields.items (items_read (field_read (fields_read l.depth)) (l.end - l.counter) l.rest) ≡ after_items l.initial.fields.items (more_read (field_read (fields_read l.depth)) l.tokens)) × (l.end ≡ length l.tokens)
