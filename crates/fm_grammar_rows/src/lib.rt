@@ -1,0 +1,12 @@
+//! Cards, tokens, long expressions, statements read by the whole grammar and spelled again, copies of
+//! trees. This crate has tests alone.
+#![tactic(auto)]
+
+#[cfg(test)]
+mod cards_and_tokens;
+#[cfg(test)]
+mod expressions;
+#[cfg(test)]
+mod spelling;
+#[cfg(test)]
+mod statements;
