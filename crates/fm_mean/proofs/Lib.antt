@@ -1,4 +1,3 @@
 pub mod Ports
 pub mod Returning
 pub mod Programs
-pub mod Costs

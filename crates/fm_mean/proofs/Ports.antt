@@ -13,8 +13,8 @@ use Rattle.fm_net.proofs.Counts.{count-nil, count-cons, one_self}
 use Rattle.fm_mean.specs.declared.program.Argument.{Argument}
 use Rattle.fm_mean.specs.declared.program.Argument.TheVariants.{Number, Port}
 use Rattle.fm_mean.specs.Process.{Ports, ports_in}
-use Rattle.fm_mean.specs.Actions.{handed_at, handed, ports_for}
-use Rattle.fm_mean.specs.Steps.{kept}
+use Rattle.fm_mean.specs.Actions.{after_handing_at, after_handing, ports_for}
+use Rattle.fm_mean.specs.Steps.{after_keeping}
 
 -- how often the port stands in the variables, in a pair of them, and in what was found
 abbrev pub within : PortValue → Ports → ℕ
@@ -66,20 +66,20 @@ within-found z m k is =
 
 -- what leaves one map comes into the other
 moved : (z : PortValue) (ms : Ports × Ports) (from to : List ℕ) (x y : Option PortValue) → finite.get ms.0 from ≡ x → finite.get ms.1 to ≡ y
-    → within_both z (handed_at ms from to x y) ≡ within_both z ms
+    → within_both z (after_handing_at ms from to x y) ≡ within_both z ms
 moved z ms from to None y p q = refl
 moved z ms from to (Some v) None p q =
     omega (arith, within-remove z ms.0 from, within-insert z ms.1 to v, ap (found z) p, ap (found z) q, found-none z, found-some z v)
 moved z ms from to (Some v) (Some w) p q = refl
 
-pub handed_same : (z : PortValue) (ms : Ports × Ports) (from to : List ℕ) → within_both z (handed ms from to) ≡ within_both z ms
+pub handed_same : (z : PortValue) (ms : Ports × Ports) (from to : List ℕ) → within_both z (after_handing ms from to) ≡ within_both z ms
 handed_same z ms from to = moved z ms from to (finite.get ms.0 from) (finite.get ms.1 to) refl refl
 
 pub ports_for_same : (z : PortValue) (args : List Argument) (ms : Ports × Ports) → within_both z (ports_for args ms) ≡ within_both z ms
 ports_for_same z [] ms = refl
 ports_for_same z (Number f e ∷ args) ms = ports_for_same z args ms
-ports_for_same z (Port f v ∷ args) ms = ports_for_same z args (handed ms v f) ∙ handed_same z ms v f
+ports_for_same z (Port f v ∷ args) ms = ports_for_same z args (after_handing ms v f) ∙ handed_same z ms v f
 
-pub kept_same : (z : PortValue) (fs : List (List ℕ)) (ms : Ports × Ports) → within_both z (kept fs ms) ≡ within_both z ms
+pub kept_same : (z : PortValue) (fs : List (List ℕ)) (ms : Ports × Ports) → within_both z (after_keeping fs ms) ≡ within_both z ms
 kept_same z [] ms = refl
-kept_same z (f ∷ fs) ms = kept_same z fs (handed ms f f) ∙ handed_same z ms f f
+kept_same z (f ∷ fs) ms = kept_same z fs (after_handing ms f f) ∙ handed_same z ms f f

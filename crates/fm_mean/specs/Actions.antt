@@ -1,5 +1,23 @@
 -- What a process does next, with its operands evaluated.
 -- Source: ANSI X3.9-1978, sections 10.1 and 12.8, and the Fortran M report for processes and channels; faults and costs by this profile.
+--
+-- Statement       Action   Needs              Effect                                             Cost in turns
+-- assignment      Local    nothing            the variable has the value                         1
+-- PRINT           Local    nothing            one line more                                      1 and the line's bytes, its line feed included
+-- CHANNEL         Make     a new channel      two variables have its ports                       1
+-- SEND            Send     an event           the value goes last into the channel               2
+-- RECEIVE         Receive  an event           the variable has the word that comes;              2
+--                                             at the end of the channel the process faults       1
+-- ENDCHANNEL      Close    nothing            the writer is closed, its variable is NULL         1
+-- PROCESSES       Local    nothing            the next statement                                 1
+-- PROCESSCALL     Local    nothing            one process more is pending, with its arguments    1 and the words of its frame
+-- ENDPROCESSES    Start    nothing            what is pending starts, and is waited for          1 and 1 for each child
+-- the same, then  Join     children that      arguments are copied back                          1 and 1 for each word that may be copied back
+--                          have ended
+-- END             End      nothing            the process has ended, with the ports of formals   1
+-- any with fault  Fail     nothing            the process has faulted                            1
+--
+-- A process that has ended or faulted rests. What loses its variable is discarded.
 use Rattle.std.specs.Prelude.{ℕ, ℤ, ◌+◌, Option, Some, None, List, [], ◌∷◌, ◌++◌, length, slice_get, Result, Ok, Err}
 use Rattle.std.specs.FinMap as finite
 use Rattle.fm_base.specs.declared.fault.Fault.{Fault}
@@ -86,19 +104,19 @@ numbers_for (Number f e ∷ args) vs = value_of e vs >>= λ n. numbers_for args 
 numbers_for (Port f v ∷ args) vs = numbers_for args vs
 
 -- a port leaves its variable, which is NULL then, for one that is NULL
-abbrev pub handed_at : Ports × Ports → (from to : List ℕ) → Option PortValue → Option PortValue → Ports × Ports
-handed_at ms from to None y = ms
-handed_at ms from to (Some z) None = (finite.remove ms.0 from, finite.insert ms.1 to z)
-handed_at ms from to (Some z) (Some y) = ms
+abbrev pub after_handing_at : Ports × Ports → (from to : List ℕ) → Option PortValue → Option PortValue → Ports × Ports
+after_handing_at ms from to None y = ms
+after_handing_at ms from to (Some z) None = (finite.remove ms.0 from, finite.insert ms.1 to z)
+after_handing_at ms from to (Some z) (Some y) = ms
 
-abbrev pub handed : Ports × Ports → (from to : List ℕ) → Ports × Ports
-handed ms from to = handed_at ms from to (finite.get ms.0 from) (finite.get ms.1 to)
+abbrev pub after_handing : Ports × Ports → (from to : List ℕ) → Ports × Ports
+after_handing ms from to = after_handing_at ms from to (finite.get ms.0 from) (finite.get ms.1 to)
 
 -- the formals that are ports take theirs from left to right: what the caller is left with, and what they got
 abbrev pub ports_for : List Argument → Ports × Ports → Ports × Ports
 ports_for [] ms = ms
 ports_for (Number f e ∷ args) ms = ports_for args ms
-ports_for (Port f v ∷ args) ms = ports_for args (handed ms v f)
+ports_for (Port f v ∷ args) ms = ports_for args (after_handing ms v f)
 
 -- What each statement is, with its operands.
 

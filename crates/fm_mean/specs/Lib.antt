@@ -5,4 +5,3 @@ pub mod Process
 pub mod Actions
 pub mod Steps
 pub mod Report
-pub mod Starts

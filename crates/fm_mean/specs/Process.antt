@@ -56,6 +56,12 @@ is_running (Joining block calls) = false
 is_running Ended = false
 is_running (Faulted line fault) = false
 
+abbrev pub is_joining : Phase → Bool
+is_joining Running = false
+is_joining (Joining block calls) = true
+is_joining Ended = false
+is_joining (Faulted line fault) = false
+
 abbrev pub is_ended : Phase → Bool
 is_ended Running = false
 is_ended (Joining block calls) = false

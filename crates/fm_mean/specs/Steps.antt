@@ -9,7 +9,7 @@ use Rattle.fm_base.specs.declared.path.ChanName.{ChanName}
 use Rattle.fm_base.specs.declared.port.PortValue.{PortValue}
 use Rattle.fm_base.specs.declared.port.PortValue.TheVariants.{Writer, Reader}
 use Rattle.fm_base.specs.Channels.{Words, Ports, Message, Push, Pop, message_ports}
-use Rattle.fm_net.specs.Machine.{Place, Nothing, Event, New, Children, Onward, Ask, Stop, Go, State, machine_step}
+use Rattle.fm_net.specs.Machine.{Place, Need, Nothing, Event, New, Children, Onward, Ask, Stop, Go, State, machine_step}
 use Rattle.fm_net.specs.Language.{Language}
 use Rattle.fm_net.specs.Owned.{main_alone}
 use Rattle.fm_mean.specs.declared.program.Argument.{Argument}
@@ -22,7 +22,7 @@ use Rattle.fm_mean.specs.Terms.{Term, number, named, paren, signed, binary}
 use Rattle.fm_mean.specs.Values.{Variables, variable}
 use Rattle.fm_mean.specs.Process as process
 use Rattle.fm_mean.specs.Process.{ports_in, Pending, Phase, Running, Joining, Ended, Faulted, Proc, has_ended, held}
-use Rattle.fm_mean.specs.Actions.{Action, Rest, Local, Fail, Make, Send, Receive, Close, Start, Join, End, body_of, handed, onto_next, action_of}
+use Rattle.fm_mean.specs.Actions.{Action, Rest, Local, Fail, Make, Send, Receive, Close, Start, Join, End, body_of, after_handing, onto_next, action_of}
 use Rattle.std.specs.Prelude.{slice_get}
 
 -- the block and the parent of children are known from the process that goes on
@@ -30,18 +30,18 @@ abbrev pub onward : (before after : Proc) → (starts : List Proc) → (drops : 
 onward x y starts drops cost = record { self = y; block = x.next_block; starts = starts; drops = drops; cost = cost }
 
 -- a step that faults changes the phase alone, and costs 1
-abbrev pub faulted : Proc → (line : ℕ) → Fault → Onward Proc
-faulted x line fault = onward x (record x { phase = Faulted line fault }) [] [] 1
+abbrev pub after_fault : Proc → (line : ℕ) → Fault → Onward Proc
+after_fault x line fault = onward x (record x { phase = Faulted line fault }) [] [] 1
 
 -- the inport is put first, then the outport; what stood in their variables is discarded
-abbrev pub made : Proc → (inport outport : List ℕ) → ChanName → Onward Proc
-made x p q c = onward x
+abbrev pub after_make : Proc → (inport outport : List ℕ) → ChanName → Onward Proc
+after_make x p q c = onward x
     (record x { entry = x.entry + 1; ports = finite.insert (finite.insert x.ports p (Reader c)) q (Writer c 0); next_channel = suc x.next_channel })
     [] (option_to_list (finite.get x.ports p) ++ option_to_list (finite.get (finite.insert x.ports p (Reader c)) q)) 1
 
 -- a message is one integer, which is one word
-abbrev pub sent : Proc → Onward Proc
-sent x = onward x (onto_next x) [] [] 2
+abbrev pub after_send : Proc → Onward Proc
+after_send x = onward x (onto_next x) [] [] 2
 
 abbrev pub first_word : List ℤ → ℤ
 first_word [] = pos 0
@@ -53,13 +53,13 @@ word_in (Words ns ∷ is) = first_word ns
 word_in (Ports ps ∷ is) = pos 0
 
 -- the variable gets the word; at the end of the channel it is a fault
-abbrev pub received : Proc → (line : ℕ) → (item : List ℕ) → Option Message → Onward Proc
-received x line item None = faulted x line EndOfChannel
-received x line item (Some m) = onward x (record x { entry = x.entry + 1; numbers = finite.insert x.numbers item (word_in m) }) [] (message_ports m) 2
+abbrev pub after_receive : Proc → (line : ℕ) → (item : List ℕ) → Option Message → Onward Proc
+after_receive x line item None = after_fault x line EndOfChannel
+after_receive x line item (Some m) = onward x (record x { entry = x.entry + 1; numbers = finite.insert x.numbers item (word_in m) }) [] (message_ports m) 2
 
 -- the outport leaves NULL
-abbrev pub closed : Proc → (outport : List ℕ) → Onward Proc
-closed x q = onward x (record x { entry = x.entry + 1; ports = finite.remove x.ports q }) [] (option_to_list (finite.get x.ports q)) 1
+abbrev pub after_close : Proc → (outport : List ℕ) → Onward Proc
+after_close x q = onward x (record x { entry = x.entry + 1; ports = finite.remove x.ports q }) [] (option_to_list (finite.get x.ports q)) 1
 
 -- a child begins with what its formals got, at its parent's node
 abbrev pub child_of : Proc → Pending → Proc
@@ -78,8 +78,8 @@ child_of x s = record {
 }
 
 -- all that is pending starts as the next block, and the process joins
-abbrev pub started : Proc → Onward Proc
-started x = onward x
+abbrev pub after_start : Proc → Onward Proc
+after_start x = onward x
     (record x { phase = Joining x.next_block (map (λ s. s.call) x.pending); pending = []; next_block = suc x.next_block })
     (map (child_of x) x.pending) [] (1 + length x.pending)
 
@@ -164,19 +164,19 @@ all_back body [] kids r = record r { drops = r.drops ++ flat_map (λ kid. ports_
 all_back body (c ∷ cs) [] r = r
 all_back body (c ∷ cs) (kid ∷ kids) r = all_back body cs kids (without_child (each_back kid.numbers (arguments_of body c) (with_child r kid)))
 
-abbrev pub joins_with : Proc → (cost : ℕ) → Returned → Onward Proc
-joins_with x cost r = onward x (record x { phase = Running; entry = x.entry + 1; numbers = r.numbers; ports = r.ports }) [] r.drops cost
+abbrev pub after_join_with : Proc → (cost : ℕ) → Returned → Onward Proc
+after_join_with x cost r = onward x (record x { phase = Running; entry = x.entry + 1; numbers = r.numbers; ports = r.ports }) [] r.drops cost
 
-abbrev pub unreturned : Proc → Returned
-unreturned x = record { numbers = x.numbers; ports = x.ports; rest = finite.empty; drops = [] }
+abbrev pub before_return : Proc → Returned
+before_return x = record { numbers = x.numbers; ports = x.ports; rest = finite.empty; drops = [] }
 
 -- the cost of the join: the words that may be copied back, over all children
 abbrev pub joining_words : List Entry → (calls : List ℕ) → ℕ
 joining_words body [] = 0
 joining_words body (c ∷ cs) = all_back_words (arguments_of body c) + joining_words body cs
 
-abbrev pub joined : List Entry → Proc → (calls : List ℕ) → List Proc → Onward Proc
-joined body x calls kids = joins_with x (1 + joining_words body calls) (all_back body calls kids (unreturned x))
+abbrev pub after_join : List Entry → Proc → (calls : List ℕ) → List Proc → Onward Proc
+after_join body x calls kids = after_join_with x (1 + joining_words body calls) (all_back body calls kids (before_return x))
 
 -- what stays of a child that was joined: its output
 abbrev pub emptied : Proc → Proc
@@ -185,30 +185,38 @@ emptied x = record x { numbers = finite.empty; ports = finite.empty }
 -- The end of a process.
 
 -- the ports of the formals are kept; the first map is what is left
-abbrev pub kept : List (List ℕ) → process.Ports × process.Ports → process.Ports × process.Ports
-kept [] ms = ms
-kept (f ∷ fs) ms = kept fs (handed ms f f)
+abbrev pub after_keeping : List (List ℕ) → process.Ports × process.Ports → process.Ports × process.Ports
+after_keeping [] ms = ms
+after_keeping (f ∷ fs) ms = after_keeping fs (after_handing ms f f)
 
 -- all other ports are discarded
-abbrev pub ended : Proc → (formals : List (List ℕ)) → Onward Proc
-ended x fs = onward x (record x { phase = Ended; ports = (kept fs (x.ports, finite.empty)).1 }) [] (ports_in (kept fs (x.ports, finite.empty)).0) 1
+abbrev pub after_end : Proc → (formals : List (List ℕ)) → Onward Proc
+after_end x fs = onward x (record x { phase = Ended; ports = (after_keeping fs (x.ports, finite.empty)).1 }) [] (ports_in (after_keeping fs (x.ports, finite.empty)).0) 1
 
 -- what an action needs, and how the process goes on with the reply
 abbrev pub ask_for : Program → Proc → Action → Ask Proc
 ask_for program x Rest = Stop
 ask_for program x (Local y cost) = Go Nothing (λ c r. onward x y [] [] cost)
-ask_for program x (Fail line fault) = Go Nothing (λ c r. faulted x line fault)
-ask_for program x (Make p q) = Go (New x.next_channel) (λ c r. made x p q c)
-ask_for program x (Send d w m) = Go (Event d (Push w m)) (λ c r. sent x)
-ask_for program x (Receive d line item) = Go (Event d Pop) (λ c r. received x line item r.message)
-ask_for program x (Close q) = Go Nothing (λ c r. closed x q)
-ask_for program x Start = Go Nothing (λ c r. started x)
-ask_for program x (Join b calls) = Go (Children b (length calls)) (λ c r. joined (body_of program x.unit) x calls r.children)
-ask_for program x (End fs) = Go Nothing (λ c r. ended x fs)
+ask_for program x (Fail line fault) = Go Nothing (λ c r. after_fault x line fault)
+ask_for program x (Make p q) = Go (New x.next_channel 1) (λ c r. after_make x p q c)
+ask_for program x (Send d w m) = Go (Event d (Push w m)) (λ c r. after_send x)
+ask_for program x (Receive d line item) = Go (Event d (Pop [])) (λ c r. after_receive x line item r.message)
+ask_for program x (Close q) = Go Nothing (λ c r. after_close x q)
+ask_for program x Start = Go Nothing (λ c r. after_start x)
+ask_for program x (Join b calls) = Go (Children b (length calls)) (λ c r. after_join (body_of program x.unit) x calls r.children)
+ask_for program x (End fs) = Go Nothing (λ c r. after_end x fs)
+
+-- what a process needs for its next step; none where it rests
+abbrev pub needed : Ask Proc → Option Need
+needed Stop = None
+needed (Go need f) = Some need
 
 -- what a process does next
 abbrev pub ask : Program → Proc → Ask Proc
 ask program x = ask_for program x (action_of program x)
+
+abbrev pub need_of : Program → Proc → Option Need
+need_of program x = needed (ask program x)
 
 -- the next state and the cost, where the process at this path can step
 abbrev pub step : Program → State Proc → Place → Option (State Proc × ℕ)

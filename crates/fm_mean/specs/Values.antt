@@ -7,7 +7,7 @@ use Rattle.std.specs.Cmp.Lexicographic.{slice_cmp}
 use Rattle.fm_base.specs.declared.fault.Fault.{Fault}
 use Rattle.fm_base.specs.declared.output.Printed.{Printed}
 use Rattle.fm_base.specs.declared.output.Printed.TheVariants as printed
-use Rattle.fm_base.specs.Values.{sum, difference, product, opposite}
+use Rattle.fm_values.specs.Values.{sum, difference, product, opposite}
 use Rattle.fm_mean.specs.Terms.{Term, number, named, paren, signed, binary}
 use Rattle.fm_mean.specs.declared.tree.Sign.{Sign}
 use Rattle.fm_mean.specs.declared.tree.Sign.TheVariants.{Plus, Minus}

@@ -11,13 +11,15 @@ pub struct OutputLine {
     pub bytes: Seq<u8>,
 }
 
-/// What a variable of main holds in the end.
+/// What a variable of main holds in the end, element after element in column order. A scalar has one.
 #[derive(Debug, PartialEq, Eq, Drop)]
 pub enum Shown {
-    /// An integer.
-    Number(i64),
-    /// A port, by its channel; none where it is NULL.
-    Port(Option<ChanName>),
+    /// Integers.
+    Numbers(Seq<i64>),
+    /// Logicals.
+    Truths(Seq<bool>),
+    /// Ports, each by its channel; none where it is NULL.
+    Ports(Seq<Option<ChanName>>),
 }
 
 /// A variable of main, and what it holds.
@@ -45,8 +47,8 @@ pub struct FaultAt {
 pub enum At {
     /// A message of the channel.
     Receive(ChanName),
-    /// The children of its block.
-    Join,
+    /// The end of this child, the first one of its block that hasn't ended.
+    Join(Path),
 }
 
 /// A process that waits.
