@@ -2,9 +2,7 @@
 #![tactic(auto)]
 
 mod line;
+mod several;
 mod text;
 
 pub use text::report;
-
-#[cfg(test)]
-mod tests;

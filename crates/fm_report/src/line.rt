@@ -1,75 +1,91 @@
 //! The lines of a report.
 
-ghost use Rattle.std.specs.Prelude.{◌≡◌, ◌++◌, OnOk};
-ghost use Rattle.fm_mean.specs.Report.{ended_line, channel_or_null, shown_text, variable_line, fault_line, at_text, wait_line, turns_line};
+ghost use Rattle.std.specs.Prelude.{◌≡◌, ◌++◌, List, ℕ, OnOk};
+ghost use Rattle.fm_mean.specs.Report.{ended_line, channel_or_null, truth_text, shown_text, variable_line, fault_line, at_text, wait_line, turns_line};
 
+use crate::several::{HasText, push_spaced};
 use fm_base::{ChanName, NoMemory};
 use fm_mean::{At, FaultAt, OutputLine, Shown, ShownVariable, Wait};
 use std::alloc::Global;
 
-/// Puts a line of output last.
-pub fn push_output(out: &mut Vec<u8>, line: &OutputLine) -> Result<(), NoMemory>
-    ensures { OnOk result (out.new.items ≡ out.old.items ++ ended_line line.now.bytes) }
-{
-    out.extend_from_slice(line.bytes.as_slice())?;
-    out.push(b'\n')?;
-    Ok(())
+impl HasText for OutputLine {
+    ghost text = { λ l. ended_line l.bytes };
+
+    fn push_text(&self, _alloc: Global, out: &mut Vec<u8>) -> Result<(), NoMemory> {
+        out.extend_from_slice(self.bytes.as_slice())?;
+        out.push(b'\n')?;
+        Ok(())
+    }
 }
 
-fn push_channel(
-    alloc: Global,
-    out: &mut Vec<u8>,
-    channel: &Option<ChanName>,
-) -> Result<(), NoMemory>
-    ensures { OnOk result (out.new.items ≡ out.old.items ++ channel_or_null channel.now) }
-{
-    match channel {
-        Some(name) => out.extend_from_slice(&name.text(alloc)?)?,
-        None => out.extend_from_slice(b"NULL")?,
+impl HasText for i64 {
+    ghost use Rattle.std.specs.Fmt.{signed_decimal};
+
+    ghost text = { signed_decimal };
+
+    fn push_text(&self, alloc: Global, out: &mut Vec<u8>) -> Result<(), NoMemory> {
+        out.extend_from_slice(self.to_string(alloc)?.as_bytes())?;
+        Ok(())
     }
-    Ok(())
+}
+
+impl HasText for bool {
+    ghost text = { truth_text };
+
+    fn push_text(&self, _alloc: Global, out: &mut Vec<u8>) -> Result<(), NoMemory> {
+        out.push(if *self { b'T' } else { b'F' })?;
+        Ok(())
+    }
+}
+
+impl HasText for Option<ChanName> {
+    ghost text = { channel_or_null };
+
+    fn push_text(&self, alloc: Global, out: &mut Vec<u8>) -> Result<(), NoMemory> {
+        match self {
+            Some(channel) => out.extend_from_slice(&channel.text(alloc)?)?,
+            None => out.extend_from_slice(b"NULL")?,
+        }
+        Ok(())
+    }
 }
 
 fn push_shown(alloc: Global, out: &mut Vec<u8>, shown: &Shown) -> Result<(), NoMemory>
     ensures { OnOk result (out.new.items ≡ out.old.items ++ shown_text shown.now) }
 {
     match shown {
-        Shown::Number(n) => {
-            out.extend_from_slice(n.to_string(alloc)?.as_bytes())?;
-            Ok(())
-        }
-        Shown::Port(channel) => push_channel(alloc, out, channel),
+        Shown::Numbers(numbers) => push_spaced::<i64>(alloc, out, numbers.as_slice()),
+        Shown::Truths(truths) => push_spaced::<bool>(alloc, out, truths.as_slice()),
+        Shown::Ports(ports) => push_spaced::<Option<ChanName>>(alloc, out, ports.as_slice()),
     }
 }
 
-/// Puts the line of a variable last.
-pub fn push_variable(
-    alloc: Global,
-    out: &mut Vec<u8>,
-    variable: &ShownVariable,
-) -> Result<(), NoMemory>
-    ensures { OnOk result (out.new.items ≡ out.old.items ++ variable_line variable.now) }
-{
-    out.extend_from_slice(b"var ")?;
-    out.extend_from_slice(variable.name.as_bytes())?;
-    out.extend_from_slice(b" = ")?;
-    push_shown(alloc, out, &variable.shown)?;
-    out.push(b'\n')?;
-    Ok(())
+impl HasText for ShownVariable {
+    ghost text = { variable_line };
+
+    fn push_text(&self, alloc: Global, out: &mut Vec<u8>) -> Result<(), NoMemory> {
+        out.extend_from_slice(b"var ")?;
+        out.extend_from_slice(self.name.as_bytes())?;
+        out.extend_from_slice(b" = ")?;
+        push_shown(alloc, out, &self.shown)?;
+        out.push(b'\n')?;
+        Ok(())
+    }
 }
 
-/// Puts the line of a fault last.
-pub fn push_fault(alloc: Global, out: &mut Vec<u8>, fault: &FaultAt) -> Result<(), NoMemory>
-    ensures { OnOk result (out.new.items ≡ out.old.items ++ fault_line fault.now) }
-{
-    out.extend_from_slice(b"fault ")?;
-    out.extend_from_slice(&fault.path.text(alloc)?)?;
-    out.extend_from_slice(b" line ")?;
-    out.extend_from_slice(fault.line.0.to_string(alloc)?.as_bytes())?;
-    out.push(b' ')?;
-    out.extend_from_slice(fault.fault.name())?;
-    out.push(b'\n')?;
-    Ok(())
+impl HasText for FaultAt {
+    ghost text = { fault_line };
+
+    fn push_text(&self, alloc: Global, out: &mut Vec<u8>) -> Result<(), NoMemory> {
+        out.extend_from_slice(b"fault ")?;
+        out.extend_from_slice(&self.path.text(alloc)?)?;
+        out.extend_from_slice(b" line ")?;
+        out.extend_from_slice(self.line.0.to_string(alloc)?.as_bytes())?;
+        out.push(b' ')?;
+        out.extend_from_slice(self.fault.name())?;
+        out.push(b'\n')?;
+        Ok(())
+    }
 }
 
 fn push_at(alloc: Global, out: &mut Vec<u8>, at: &At) -> Result<(), NoMemory>
@@ -80,27 +96,28 @@ fn push_at(alloc: Global, out: &mut Vec<u8>, at: &At) -> Result<(), NoMemory>
             out.extend_from_slice(b"receive ")?;
             out.extend_from_slice(&channel.text(alloc)?)?;
         }
-        At::Join => out.extend_from_slice(b"join")?,
+        At::Join(_) => out.extend_from_slice(b"join")?,
     }
     Ok(())
 }
 
-/// Puts the line of a process that waits last.
-pub fn push_wait(alloc: Global, out: &mut Vec<u8>, wait: &Wait) -> Result<(), NoMemory>
-    ensures { OnOk result (out.new.items ≡ out.old.items ++ wait_line wait.now) }
-{
-    out.extend_from_slice(b"wait ")?;
-    out.extend_from_slice(&wait.path.text(alloc)?)?;
-    out.extend_from_slice(b" line ")?;
-    out.extend_from_slice(wait.line.0.to_string(alloc)?.as_bytes())?;
-    out.push(b' ')?;
-    push_at(alloc, out, &wait.at)?;
-    out.push(b'\n')?;
-    Ok(())
+impl HasText for Wait {
+    ghost text = { wait_line };
+
+    fn push_text(&self, alloc: Global, out: &mut Vec<u8>) -> Result<(), NoMemory> {
+        out.extend_from_slice(b"wait ")?;
+        out.extend_from_slice(&self.path.text(alloc)?)?;
+        out.extend_from_slice(b" line ")?;
+        out.extend_from_slice(self.line.0.to_string(alloc)?.as_bytes())?;
+        out.push(b' ')?;
+        push_at(alloc, out, &self.at)?;
+        out.push(b'\n')?;
+        Ok(())
+    }
 }
 
 /// Puts the line of the cost last. The cost is in turns.
-pub fn push_turns(alloc: Global, out: &mut Vec<u8>, used: u64) -> Result<(), NoMemory>
+pub(crate) fn push_turns(alloc: Global, out: &mut Vec<u8>, used: u64) -> Result<(), NoMemory>
     ensures { OnOk result (out.new.items ≡ out.old.items ++ turns_line used) }
 {
     out.extend_from_slice(b"turns ")?;
