@@ -12,7 +12,7 @@ use Rattle.fm_base.proofs.Phases.{verdict_join, phase_join}
 use Rattle.fm_cards.specs.Broken as cards
 use Rattle.fm_cards.specs.Cards.{cards_of}
 use Rattle.fm_cards.specs.declared.card.Card.{Card}
-use Rattle.fm_cards.proofs.OneVerdict.{all_of_phase_zero}
+use Rattle.fm_cards.proofs.PhaseZero.{all_of_phase_zero}
 use Rattle.fm_stmt.specs.Checked as card
 use Rattle.fm_stmt.specs.Checked.{IsStatementOf}
 use Rattle.fm_stmt.proofs.CardLaws as laws

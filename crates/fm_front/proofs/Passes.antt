@@ -20,8 +20,8 @@ use Rattle.fm_front.specs.declared.standing.Behind.{Behind}
 use Rattle.fm_front.specs.declared.standing.Standing.{Standing}
 use Rattle.fm_front.specs.declared.tables.Scope.{Scope}
 use Rattle.fm_front.specs.declared.tables.Tables.{Tables}
-use Rattle.fm_front.specs.Units.{Ports, ByName, is_end, declared_by, declared_from, ports_of, with_all}
-use Rattle.fm_front.specs.Built.{has_end, seen_behind, is_no_field, depth_behind, comes_to_none, is_empty, behind_of, is_built, start, passed, unbuilt_from, unbuilt_in_unit, unbuilt_in, settled_from}
+use Rattle.fm_front.specs.Units.{Ports, ByName, is_end, declarations_by, declarations_from, ports_of, with_all}
+use Rattle.fm_front.specs.Built.{has_end, behind_by_front, is_no_field, depth_behind, comes_to_none, is_empty, behind_of, is_built, start, after_statement, unbuilt_from, unbuilt_in_unit, unbuilt_in, closed_front_from}
 use Rattle.fm_front.specs.Program.{entry_of, body_of, unit_of, with_names}
 use Rattle.fm_front.specs.Statements.{statement_of, cons_both, argument_of, arguments_of}
 use Rattle.fm_front.proofs.Maps.{with_all_append, with_names_append}
@@ -38,10 +38,10 @@ below_more : (j i : ℕ) → j ≤ i → nat_lt j (suc i) ≡ true
 below_more j i l = grind (arith, nat_tests)
 
 -- a front behind which no block is open is longer than j where the longest so far is, or one comes
-settled_more : (j i depth last : ℕ) (ps : List Placed) → j ≤ i → nat_lt j (settled_from i depth last ps) ≡ (nat_lt j last || comes_to_none depth ps)
+settled_more : (j i depth last : ℕ) (ps : List Placed) → j ≤ i → nat_lt j (closed_front_from i depth last ps) ≡ (nat_lt j last || comes_to_none depth ps)
 settled_more j i depth last [] l = or-false (nat_lt j last)
 settled_more j i depth last (p ∷ ps) l =
-    elim (depth_behind depth p.stmt == 0) as (λ b. nat_lt j (settled_from (suc i) (depth_behind depth p.stmt) (if b then suc i else last) ps) ≡ (nat_lt j last || (b || comes_to_none (depth_behind depth p.stmt) ps))) [
+    elim (depth_behind depth p.stmt == 0) as (λ b. nat_lt j (closed_front_from (suc i) (depth_behind depth p.stmt) (if b then suc i else last) ps) ≡ (nat_lt j last || (b || comes_to_none (depth_behind depth p.stmt) ps))) [
       | true ↦ settled_more j (suc i) (depth_behind depth p.stmt) (suc i) ps (omega (arith, l))
           ∙ ap (λ b. b || comes_to_none (depth_behind depth p.stmt) ps) (below_more j i l) ∙ or-true (nat_lt j last)
       | false ↦ settled_more j (suc i) (depth_behind depth p.stmt) last ps (omega (arith, l))
@@ -50,8 +50,8 @@ settled_more j i depth last (p ∷ ps) l =
 not_below : (i last : ℕ) → last ≤ i → nat_lt i last ≡ false
 not_below i last l = grind (arith, nat_tests)
 
-settled_here : (i depth last : ℕ) (ps : List Placed) → last ≤ i → nat_lt i (settled_from i depth last ps) ≡ comes_to_none depth ps
-settled_here i depth last ps l = settled_more i i depth last ps (omega arith) ∙ ap (λ b. b || comes_to_none depth ps) (not_below i last l)
+closed_here : (i depth last : ℕ) (ps : List Placed) → last ≤ i → nat_lt i (closed_front_from i depth last ps) ≡ comes_to_none depth ps
+closed_here i depth last ps l = settled_more i i depth last ps (omega arith) ∙ ap (λ b. b || comes_to_none depth ps) (not_below i last l)
 
 last_here : (n i : ℕ) (rest : List Placed) → n ≡ i + 1 + length rest → (i + 1 == n) ≡ is_empty rest
 last_here n i [] e = grind (arith, nat_tests)
@@ -61,11 +61,11 @@ cons_option-append : {X : Type 0} (o : Option X) (xs : List X) → cons_option o
 cons_option-append None xs = refl
 cons_option-append (Some x) xs = refl
 
--- what holds before the statement at place i of a unit
-pub record InUnit (t : Tables) (k : ℕ) (s : Scope) (ends : Bool) (settled i : ℕ) (at : Standing) (body : List Entry) (old best : Option Refusal) : Type 0 where
+-- what holds before the statement at index i of a unit
+pub record InUnit (t : Tables) (k : ℕ) (s : Scope) (ends : Bool) (closed i : ℕ) (at : Standing) (body : List Entry) (old best : Option Refusal) : Type 0 where
   pub last : ℕ
   pub below : last ≤ i
-  pub settled_is : settled_from i at.depth last (drop i s.statements) ≡ settled
+  pub closed_is : closed_front_from i at.depth last (drop i s.statements) ≡ closed
   pub body_is : body ++ body_of t s.ports (drop i s.statements) ≡ body_of t s.ports s.statements
   pub best_is : least_from best (unbuilt_from t k s.ports ends at (drop i s.statements)) ≡ least_from old (unbuilt_from t k s.ports ends start s.statements)
 
@@ -73,44 +73,44 @@ at_most : (b : Bool) (i last : ℕ) → last ≤ i → (if b then suc i else las
 at_most true i last l = omega arith
 at_most false i last l = omega arith
 
-module _ (t : Tables) (k : ℕ) (s : Scope) (ends : Bool) (settled i : ℕ) (at : Standing) (body : List Entry) (old best : Option Refusal) (p : Placed) where
-  behind_is : (rest : List Placed) (last : ℕ) → length s.statements ≡ i + 1 + length rest → last ≤ i → settled_from i at.depth last (p ∷ rest) ≡ settled
-      → seen_behind ends settled i (length s.statements) ≡ behind_of ends at.depth p rest
+module _ (t : Tables) (k : ℕ) (s : Scope) (ends : Bool) (closed i : ℕ) (at : Standing) (body : List Entry) (old best : Option Refusal) (p : Placed) where
+  behind_is : (rest : List Placed) (last : ℕ) → length s.statements ≡ i + 1 + length rest → last ≤ i → closed_front_from i at.depth last (p ∷ rest) ≡ closed
+      → behind_by_front ends closed i (length s.statements) ≡ behind_of ends at.depth p rest
   behind_is rest last count l e =
       let is : (i + 1 == length s.statements) ≡ is_empty rest = last_here (length s.statements) i rest count in
-      let closes : nat_lt i settled ≡ comes_to_none at.depth (p ∷ rest) = ap (nat_lt i) (sym e) ∙ settled_here i at.depth last (p ∷ rest) l in
+      let closes : nat_lt i closed ≡ comes_to_none at.depth (p ∷ rest) = ap (nat_lt i) (sym e) ∙ closed_here i at.depth last (p ∷ rest) l in
       λ j. record { is_last = is j; closes = not ends || closes j }
 
   step : (rest : List Placed) → drop i s.statements ≡ p ∷ rest → drop (i + 1) s.statements ≡ rest → length s.statements ≡ i + 1 + length rest
-      → InUnit t k s ends settled i at body old best
-      → InUnit t k s ends settled (i + 1) (passed at p.stmt) (body ++ option_to_list (entry_of t s.ports p)) old
-      (least_from best (when (not (is_built t k s.ports at (seen_behind ends settled i (length s.statements)) p)) (place p.line.0 E10)))
+      → InUnit t k s ends closed i at body old best
+      → InUnit t k s ends closed (i + 1) (after_statement at p.stmt) (body ++ option_to_list (entry_of t s.ports p)) old
+      (least_from best (when (not (is_built t k s.ports at (behind_by_front ends closed i (length s.statements)) p)) (place p.line.0 E10)))
   step rest e f count h =
-      let here : settled_from i at.depth h.last (p ∷ rest) ≡ settled = ap (settled_from i at.depth h.last) (sym e) ∙ h.settled_is in
+      let here : closed_front_from i at.depth h.last (p ∷ rest) ≡ closed = ap (closed_front_from i at.depth h.last) (sym e) ∙ h.closed_is in
       let behind = behind_is rest h.last count h.below here in
       record {
         last = if depth_behind at.depth p.stmt == 0 then suc i else h.last;
         below = at_most (depth_behind at.depth p.stmt == 0) i h.last h.below;
-        settled_is = ap₂ (λ n l. settled_from n (depth_behind at.depth p.stmt) (if depth_behind at.depth p.stmt == 0 then suc i else h.last) l) (add-one i) f ∙ here;
+        closed_is = ap₂ (λ n l. closed_front_from n (depth_behind at.depth p.stmt) (if depth_behind at.depth p.stmt == 0 then suc i else h.last) l) (add-one i) f ∙ here;
         body_is = ap (λ l. (body ++ option_to_list (entry_of t s.ports p)) ++ body_of t s.ports l) f
             ∙ append_assoc body (option_to_list (entry_of t s.ports p)) (body_of t s.ports rest)
             ∙ ap (λ l. body ++ l) (sym (cons_option-append (entry_of t s.ports p) (body_of t s.ports rest)))
             ∙ ap (λ l. body ++ body_of t s.ports l) (sym e) ∙ h.body_is;
-        best_is = ap₂ (λ b l. least_from (least_from best (when (not (is_built t k s.ports at b p)) (place p.line.0 E10))) (unbuilt_from t k s.ports ends (passed at p.stmt) l)) behind f
-            ∙ sym (least_from_append best (when (not (is_built t k s.ports at (behind_of ends at.depth p rest) p)) (place p.line.0 E10)) (unbuilt_from t k s.ports ends (passed at p.stmt) rest))
+        best_is = ap₂ (λ b l. least_from (least_from best (when (not (is_built t k s.ports at b p)) (place p.line.0 E10))) (unbuilt_from t k s.ports ends (after_statement at p.stmt) l)) behind f
+            ∙ sym (least_from_append best (when (not (is_built t k s.ports at (behind_of ends at.depth p rest) p)) (place p.line.0 E10)) (unbuilt_from t k s.ports ends (after_statement at p.stmt) rest))
             ∙ ap (λ l. least_from best (unbuilt_from t k s.ports ends at l)) (sym e) ∙ h.best_is;
       }
 
   -- one statement more
-  pub unit_more : i < length s.statements → p ≡ get_or s.statements i p → InUnit t k s ends settled i at body old best
-      → InUnit t k s ends settled (i + 1) (passed at p.stmt) (body ++ option_to_list (entry_of t s.ports p)) old
-      (least_from best (when (not (is_built t k s.ports at (seen_behind ends settled i (length s.statements)) p)) (place p.line.0 E10)))
+  pub unit_more : i < length s.statements → p ≡ get_or s.statements i p → InUnit t k s ends closed i at body old best
+      → InUnit t k s ends closed (i + 1) (after_statement at p.stmt) (body ++ option_to_list (entry_of t s.ports p)) old
+      (least_from best (when (not (is_built t k s.ports at (behind_by_front ends closed i (length s.statements)) p)) (place p.line.0 E10)))
   unit_more l is h = step (drop (i + 1) s.statements) (drop_more s.statements i p l ∙ ap (λ x. x ∷ drop (i + 1) s.statements) (sym is)) refl (omega (arith, l, length-drop (i + 1) s.statements)) h
 
-pub unit_start : (t : Tables) (k : ℕ) (s : Scope) (ends : Bool) (settled : ℕ) (old : Option Refusal) → settled ≡ settled_from 0 0 0 s.statements → InUnit t k s ends settled 0 start [] old old
-unit_start t k s ends settled old e = record { last = 0; below = omega arith; settled_is = sym e; body_is = refl; best_is = refl }
+pub unit_start : (t : Tables) (k : ℕ) (s : Scope) (ends : Bool) (closed : ℕ) (old : Option Refusal) → closed ≡ closed_front_from 0 0 0 s.statements → InUnit t k s ends closed 0 start [] old old
+unit_start t k s ends closed old e = record { last = 0; below = omega arith; closed_is = sym e; body_is = refl; best_is = refl }
 
--- what holds before the unit at place i
+-- what holds before the unit at index i
 pub record InUnits (t : Tables) (i : ℕ) (units : List mean.Unit) (best : Option Refusal) : Type 0 where
   pub units_is : units ++ map (unit_of t) (drop i t.scopes) ≡ map (unit_of t) t.scopes
   pub best_is : least_from best (unbuilt_in t i (drop i t.scopes)) ≡ least (unbuilt_in t 0 t.scopes)
@@ -152,13 +152,13 @@ arguments_differ caller callee (f ∷ fs) (e ∷ es) h =
     ap (cons_both (argument_of caller callee f e)) (arguments_differ caller callee fs es (λ k. h (omega (arith, k)))) ∙ none_behind (argument_of caller callee f e)
 
 -- one statement more of those that declare ports
-pub ports_more : (m n : Ports) (i : ℕ) (ps : List Placed) (p : Placed) → i < length ps → p ≡ get_or ps i p → n ≡ with_all m (declared_by i p.stmt) → with_all m (declared_from i (drop i ps)) ≡ ports_of ps
-    → with_all n (declared_from (i + 1) (drop (i + 1) ps)) ≡ ports_of ps
+pub ports_more : (m n : Ports) (i : ℕ) (ps : List Placed) (p : Placed) → i < length ps → p ≡ get_or ps i p → n ≡ with_all m (declarations_by i p.stmt) → with_all m (declarations_from i (drop i ps)) ≡ ports_of ps
+    → with_all n (declarations_from (i + 1) (drop (i + 1) ps)) ≡ ports_of ps
 ports_more m n i ps p l is new h =
     let e : drop i ps ≡ p ∷ drop (i + 1) ps = drop_more ps i p l ∙ ap (λ x. x ∷ drop (i + 1) ps) (sym is) in
-    ap₂ (λ x k. with_all x (declared_from k (drop (i + 1) ps))) new (add-one i)
-    ∙ sym (with_all_append m (declared_by i p.stmt) (declared_from (suc i) (drop (i + 1) ps)))
-    ∙ ap (λ l. with_all m (declared_from i l)) (sym e) ∙ h
+    ap₂ (λ x k. with_all x (declarations_from k (drop (i + 1) ps))) new (add-one i)
+    ∙ sym (with_all_append m (declarations_by i p.stmt) (declarations_from (suc i) (drop (i + 1) ps)))
+    ∙ ap (λ l. with_all m (declarations_from i l)) (sym e) ∙ h
 
 -- one item more of those that have names
 pub names_more : {T : Type 0} (names : T → List (List ℕ)) (ports : Ports) (m n z : ByName Kind) (xs : List T) (i : ℕ) (x : T) → i < length xs → x ≡ get_or xs i x → n ≡ with_names ports m (names x)
@@ -183,9 +183,9 @@ pub names_two : (ports : Ports) (m a b : ByName Kind) (xs ys : List (List ℕ)) 
 names_two ports m a b xs ys e f = f ∙ ap (λ x. with_names ports x ys) e ∙ sym (with_names_append ports m xs ys)
 
 -- the same with what the pass has found
-pub unit_next : (t : Tables) (k : ℕ) (s : Scope) (ends : Bool) (settled i : ℕ) (at next : Standing) (body more : List Entry) (old best least' : Option Refusal) (p : Placed) (o : Option Statement) (b : Bool) (behind : Behind)
-    → i < length s.statements → p ≡ get_or s.statements i p → o ≡ statement_of t s.ports p.stmt → behind ≡ seen_behind ends settled i (length s.statements) → b ≡ is_built t k s.ports at behind p
-    → least' ≡ least_from best (when (not b) (place p.line.0 E10)) → more ≡ body ++ option_to_list (option_map (λ (x : Statement). record { line = p.line; statement = x }) o) → next ≡ passed at p.stmt
-    → InUnit t k s ends settled i at body old best → InUnit t k s ends settled (i + 1) next more old least'
-unit_next t k s ends settled i at next body more old best least' p o b behind l is made far built worst longer on h =
-    rw (on, longer, worst, made, built, far) (unit_more t k s ends settled i at body old best p l is h)
+pub unit_next : (t : Tables) (k : ℕ) (s : Scope) (ends : Bool) (closed i : ℕ) (at next : Standing) (body more : List Entry) (old best least' : Option Refusal) (p : Placed) (o : Option Statement) (b : Bool) (behind : Behind)
+    → i < length s.statements → p ≡ get_or s.statements i p → o ≡ statement_of t s.ports p.stmt → behind ≡ behind_by_front ends closed i (length s.statements) → b ≡ is_built t k s.ports at behind p
+    → least' ≡ least_from best (when (not b) (place p.line.0 E10)) → more ≡ body ++ option_to_list (option_map (λ (x : Statement). record { line = p.line; statement = x }) o) → next ≡ after_statement at p.stmt
+    → InUnit t k s ends closed i at body old best → InUnit t k s ends closed (i + 1) next more old least'
+unit_next t k s ends closed i at next body more old best least' p o b behind l is made far built worst longer on h =
+    rw (on, longer, worst, made, built, far) (unit_more t k s ends closed i at body old best p l is h)

@@ -8,7 +8,7 @@ use Rattle.fm_base.specs.Verdict.{IsClean, IsLeast, IsRefusal, IsVerdict, LeastL
 use Rattle.fm_base.proofs.Least.{verdict_same}
 use Rattle.fm_cards.specs.Cards.{cards_of}
 use Rattle.fm_cards.specs.declared.card.Card.{Card}
-use Rattle.fm_cards.proofs.OneVerdict.{verdict_one}
+use Rattle.fm_base.proofs.OneVerdict.{verdict_one}
 use Rattle.fm_stmt.specs.Checked.{OneStatement}
 use Rattle.fm_tree.specs.declared.program_unit.Placed.{Placed}
 use Rattle.fm_mean.specs.declared.program.Program.{Program}
@@ -17,7 +17,7 @@ use Rattle.fm_front.specs.Units.{tables_of}
 use Rattle.fm_front.proofs.CardVerdicts.{heading_next}
 use Rattle.fm_front.specs.Built.{unbuilt_in, unbuilt_of}
 use Rattle.fm_front.specs.Verdict.{AreStatementsOf, IsBroken, IsBrokenForm, IsBrokenHeading, IsVerdictOn, program_lines, wrong_programs}
-use Rattle.fm_front.specs.Program.{IsProgramOf, IsFirstUnbuilt, IsRefusalOf, program_in, program_of}
+use Rattle.fm_front.specs.Program.{IsProgramOf, IsBuilt, IsUnbuilt, IsRefusalOf, program_in, program_of}
 use Rattle.fm_front.specs.Laws.{OneVerdict, OneProgram, OneRefusal, ProgramOrRefusal, ProgramIsClean, VerdictIsRefusal}
 
 pub one_verdict : OneVerdict
@@ -48,7 +48,7 @@ module _ (one : OneStatement) where
   pub one_program : OneProgram
   one_program source a b h k = h.program ∙ ap program_of (one_list (cards_of source) h.statements k.statements h.read k.read) ∙ sym k.program
 
-  unbuilt_alone : (source : List ℕ) (a b : Refusal) → IsFirstUnbuilt source a → IsFirstUnbuilt source b → a ≡ b
+  unbuilt_alone : (source : List ℕ) (a b : Refusal) → IsUnbuilt source a → IsUnbuilt source b → a ≡ b
   unbuilt_alone source a b h k = same_some a b (verdict_one (Contains (unbuilt_of k.statements)) (Some a) (Some b)
       (subst (λ (l : List Placed). IsLeast (Contains (unbuilt_of l)) a) (one_list (cards_of source) h.statements k.statements h.read k.read) h.least) k.least)
     where
@@ -65,8 +65,8 @@ module _ (one : OneStatement) where
   one_refusal source a b (inr u) (inr w) = unbuilt_alone source a b u w
 
   pub program_or_refusal : ProgramOrRefusal
-  program_or_refusal source a q h (inl v) = clean_alone source q h.clean v
-  program_or_refusal source a q h (inr u) = h.built q (subst (λ (l : List Placed). Contains (unbuilt_of l) q) (one_list (cards_of source) u.statements h.statements u.read h.read) u.least.broken)
+  program_or_refusal source a q h k (inl v) = clean_alone source q h.clean v
+  program_or_refusal source a q h k (inr u) = k.built q (subst (λ (l : List Placed). Contains (unbuilt_of l) q) (one_list (cards_of source) u.statements k.statements u.read k.read) u.least.broken)
 
   -- the verdict on PROGRAM statements, where the statements are known
   pub heading_verdict : (source : List ℕ) (ps : List Placed) (v : Option Refusal) → AreStatementsOf (cards_of source) ps → IsVerdict (Contains (wrong_programs (program_lines ps))) v → IsVerdict (IsBrokenHeading source) v
@@ -82,14 +82,11 @@ module _ (one : OneStatement) where
       (sym (ap (λ l. least (wrong_programs (program_lines l))) same) ∙ sym is ∙ e) (law (wrong_programs (program_lines ps)))))
 
 pub program_is : (source : List ℕ) (ps : List Placed) (t : Tables) (p : Program) → AreStatementsOf (cards_of source) ps → IsVerdictOn source None → t ≡ tables_of ps
-    → p ≡ program_in t → IsClean (Contains (unbuilt_in t 0 t.scopes)) → IsProgramOf source p
-program_is source ps t p h clean e is built = record {
-  statements = ps;
-  read = h;
-  clean = clean;
-  built = subst (λ (x : Tables). IsClean (Contains (unbuilt_in x 0 x.scopes))) e built;
-  program = is ∙ ap program_in e;
-}
+    → p ≡ program_in t → IsProgramOf source p
+program_is source ps t p h clean e is = record { statements = ps; read = h; clean = clean; program = is ∙ ap program_in e }
+
+pub built_is : (source : List ℕ) (ps : List Placed) (t : Tables) → AreStatementsOf (cards_of source) ps → t ≡ tables_of ps → IsClean (Contains (unbuilt_in t 0 t.scopes)) → IsBuilt source
+built_is source ps t h e built = record { statements = ps; read = h; built = subst (λ (x : Tables). IsClean (Contains (unbuilt_in x 0 x.scopes))) e built }
 
 pub unbuilt_is : (source : List ℕ) (ps : List Placed) (t : Tables) (e : CheckFail) → AreStatementsOf (cards_of source) ps → IsVerdictOn source None → t ≡ tables_of ps
     → IsRefusal (Contains (unbuilt_in t 0 t.scopes)) e → IsRefusalOf source e
@@ -106,9 +103,14 @@ not_some (Some q) h = absurd (h q refl)
 
 -- what was answered, by what the last call ensures
 pub answered : (source : List ℕ) (ps : List Placed) (t : Tables) (r : Result Program CheckFail) → AreStatementsOf (cards_of source) ps → IsVerdictOn source None → t ≡ tables_of ps
-    → IfOk r (λ p. p ≡ program_in t) → IfOk r (λ p. IsClean (Contains (unbuilt_in t 0 t.scopes))) → IfOk r (IsProgramOf source)
-answered source ps t (Ok p) h clean e is built = program_is source ps t p h clean e is built
-answered source ps t (Err fail) h clean e is built = tt
+    → IfOk r (λ p. p ≡ program_in t) → IfOk r (IsProgramOf source)
+answered source ps t (Ok p) h clean e is = program_is source ps t p h clean e is
+answered source ps t (Err fail) h clean e is = tt
+
+pub answered_built : (source : List ℕ) (ps : List Placed) (t : Tables) (r : Result Program CheckFail) → AreStatementsOf (cards_of source) ps → t ≡ tables_of ps
+    → IfOk r (λ p. IsClean (Contains (unbuilt_in t 0 t.scopes))) → IfOk r (λ p. IsBuilt source)
+answered_built source ps t (Ok p) h e built = built_is source ps t h e built
+answered_built source ps t (Err fail) h e built = tt
 
 pub refused : (source : List ℕ) (ps : List Placed) (t : Tables) (r : Result Program CheckFail) → AreStatementsOf (cards_of source) ps → IsVerdictOn source None → t ≡ tables_of ps
     → IfErr r (IsRefusal (Contains (unbuilt_in t 0 t.scopes))) → IfErr r (IsRefusalOf source)

@@ -1,11 +1,11 @@
--- A source has one verdict, and one program or one refusal.
+-- A source has one verdict, one program, and one refusal; and no refusal where it has a program and is built.
 -- Source: this profile.
 use Rattle.std.specs.Prelude.{◌≡◌, ℕ, Option, Some, None, List}
 use Rattle.fm_base.specs.declared.rule.Refusal.{Refusal}
 use Rattle.fm_base.specs.declared.rule.CheckFail.TheVariants.{Refused}
 use Rattle.fm_mean.specs.declared.program.Program.{Program}
 use Rattle.fm_front.specs.Verdict.{IsVerdictOn}
-use Rattle.fm_front.specs.Program.{IsProgramOf, IsRefusalOf}
+use Rattle.fm_front.specs.Program.{IsProgramOf, IsBuilt, IsRefusalOf}
 
 -- two verdicts on a source are one
 abbrev pub OneVerdict : Type 0
@@ -19,9 +19,9 @@ OneProgram = (source : List ℕ) (a b : Program) → IsProgramOf source a → Is
 abbrev pub OneRefusal : Type 0
 OneRefusal = (source : List ℕ) (a b : Refusal) → IsRefusalOf source (Refused a) → IsRefusalOf source (Refused b) → a ≡ b
 
--- a source that has a program has no refusal
+-- a source that has a program and is built has no refusal
 abbrev pub ProgramOrRefusal : Type 0
-ProgramOrRefusal = (source : List ℕ) (a : Program) (q : Refusal) → IsProgramOf source a → IsRefusalOf source (Refused q) → ⊥
+ProgramOrRefusal = (source : List ℕ) (a : Program) (q : Refusal) → IsProgramOf source a → IsBuilt source → IsRefusalOf source (Refused q) → ⊥
 
 -- a source that has a program breaks no rule
 abbrev pub ProgramIsClean : Type 0

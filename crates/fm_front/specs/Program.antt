@@ -76,13 +76,13 @@ abbrev pub decl_names : List Decl → List (List ℕ)
 decl_names decls = map (λ (d : Decl). d.name) decls
 
 -- the ports that a statement declares
-abbrev pub declared_in : Stmt → List (List ℕ)
-declared_in (stmt.Inport ty decls) = decl_names decls
-declared_in (stmt.Outport ty decls) = decl_names decls
-declared_in s = []
+abbrev pub declaration_names : Stmt → List (List ℕ)
+declaration_names (stmt.Inport ty decls) = decl_names decls
+declaration_names (stmt.Outport ty decls) = decl_names decls
+declaration_names s = []
 
 abbrev pub declared_names : Placed → List (List ℕ)
-declared_names p = declared_in p.stmt
+declared_names p = declaration_names p.stmt
 
 -- a name is a port where the unit declares it so, else an integer
 abbrev pub kind_of : Ports → List ℕ → Kind
@@ -120,8 +120,8 @@ abbrev pub is_main : List Placed → Bool
 is_main [] = false
 is_main (p ∷ ps) = is_program p.stmt
 
--- the first unit from this place on that PROGRAM heads
-abbrev pub main_from : (place : ℕ) → List Scope → ℕ
+-- the first unit from this number on that PROGRAM heads
+abbrev pub main_from : (number : ℕ) → List Scope → ℕ
 main_from k [] = 0
 main_from k (s ∷ ss) = if is_main s.statements then k else main_from (suc k) ss
 
@@ -131,16 +131,21 @@ program_in t = record { main = main_from 0 t.scopes; units = map (unit_of t) t.s
 abbrev pub program_of : List Placed → Program
 program_of ps = program_in (tables_of ps)
 
--- the program of a source that breaks no rule, and whose statements are all built
+-- the program of the statements of a source that breaks no rule
 pub record IsProgramOf (source : List ℕ) (p : Program) : Type 0 where
   pub statements : List Placed
   pub read : AreStatementsOf (cards_of source) statements
   pub clean : IsVerdictOn source None
-  pub built : IsClean (Contains (unbuilt_of statements))
   pub program : p ≡ program_of statements
 
+-- each statement of a source is built
+pub record IsBuilt (source : List ℕ) : Type 0 where
+  pub statements : List Placed
+  pub read : AreStatementsOf (cards_of source) statements
+  pub built : IsClean (Contains (unbuilt_of statements))
+
 -- no rule is broken, and q is the least statement that isn't built
-pub record IsFirstUnbuilt (source : List ℕ) (q : Refusal) : Type 0 where
+pub record IsUnbuilt (source : List ℕ) (q : Refusal) : Type 0 where
   pub statements : List Placed
   pub read : AreStatementsOf (cards_of source) statements
   pub clean : IsVerdictOn source None
@@ -148,5 +153,5 @@ pub record IsFirstUnbuilt (source : List ℕ) (q : Refusal) : Type 0 where
 
 -- a refusal is the verdict, or the least statement that isn't built
 abbrev pub IsRefusalOf : List ℕ → CheckFail → Type 0
-IsRefusalOf source (Refused q) = IsVerdictOn source (Some q) ⊎ IsFirstUnbuilt source q
+IsRefusalOf source (Refused q) = IsVerdictOn source (Some q) ⊎ IsUnbuilt source q
 IsRefusalOf source NoMemory = Unit {0}

@@ -56,8 +56,8 @@ is_port ports d v = is_bare v && is_port_name ports d v.name
 abbrev pub is_number_variable : Ports → Var → Bool
 is_number_variable ports v = is_bare v && is_number ports v.name
 
-abbrev pub assigned : Ports → Var → Tree → Option Statement
-assigned ports v e = if is_number_variable ports v then option_map (Assign v.name) (term_of ports e) else None
+abbrev pub assignment_of : Ports → Var → Tree → Option Statement
+assignment_of ports v e = if is_number_variable ports v then option_map (Assign v.name) (term_of ports e) else None
 
 abbrev pub item_of : Ports → parsed.Item → Option Item
 item_of ports (item.Expr e) = option_map Value (term_of ports e)
@@ -67,30 +67,30 @@ abbrev pub items_of : Ports → List parsed.Item → Option (List Item)
 items_of ports [] = Some []
 items_of ports (i ∷ is) = cons_both (item_of ports i) (items_of ports is)
 
-abbrev pub printed : Ports → List parsed.Item → Option Statement
-printed ports is = option_map Print (items_of ports is)
+abbrev pub print_of : Ports → List parsed.Item → Option Statement
+print_of ports is = option_map Print (items_of ports is)
 
 -- one item is sent
-abbrev pub sent : Ports → List ℕ → List Tree → Option Statement
-sent ports q [] = None
-sent ports q (e ∷ []) = option_map (Send q) (term_of ports e)
-sent ports q (e ∷ f ∷ more) = None
+abbrev pub send_of : Ports → List ℕ → List Tree → Option Statement
+send_of ports q [] = None
+send_of ports q (e ∷ []) = option_map (Send q) (term_of ports e)
+send_of ports q (e ∷ f ∷ more) = None
 
 -- and one is received
-abbrev pub received : Ports → List ℕ → List Var → Option Statement
-received ports p [] = None
-received ports p (v ∷ []) = if is_number_variable ports v then Some (Receive p v.name) else None
-received ports p (v ∷ w ∷ more) = None
+abbrev pub receive_of : Ports → List ℕ → List Var → Option Statement
+receive_of ports p [] = None
+receive_of ports p (v ∷ []) = if is_number_variable ports v then Some (Receive p v.name) else None
+receive_of ports p (v ∷ w ∷ more) = None
 
 abbrev pub simple_of : Ports → Simple → Option Statement
-simple_of ports (simple.Assignment v e) = assigned ports v e
-simple_of ports (simple.Print is) = printed ports is
-simple_of ports (simple.Write unit is) = printed ports is
+simple_of ports (simple.Assignment v e) = assignment_of ports v e
+simple_of ports (simple.Print is) = print_of ports is
+simple_of ports (simple.Write unit is) = print_of ports is
 simple_of ports (simple.Channel in_first inport outport) =
     if in_first && (is_port ports In inport && is_port ports Out outport) then Some (Channel inport.name outport.name) else None
-simple_of ports (simple.Send named port es) = if not named && is_port ports Out port then sent ports port.name es else None
+simple_of ports (simple.Send named port es) = if not named && is_port ports Out port then send_of ports port.name es else None
 simple_of ports (simple.Receive named port extras vs) =
-    if not named && (is_port ports In port && (length extras == 0)) then received ports port.name vs else None
+    if not named && (is_port ports In port && (length extras == 0)) then receive_of ports port.name vs else None
 simple_of ports (simple.EndChannel named port) = if not named && is_port ports Out port then Some (EndChannel port.name) else None
 simple_of ports s = None
 
@@ -121,12 +121,12 @@ arguments_of caller callee (f ∷ fs) [] = None
 arguments_of caller callee (f ∷ fs) (e ∷ es) = cons_both (argument_of caller callee f e) (arguments_of caller callee fs es)
 
 -- no parentheses are as an empty list
-abbrev pub listed : Option (List (List ℕ)) → List (List ℕ)
-listed formals = unwrap_or formals []
+abbrev pub formal_list : Option (List (List ℕ)) → List (List ℕ)
+formal_list formals = unwrap_or formals []
 
 -- the formals of a PROCESS heading
 abbrev pub process_formals : Stmt → Option (List (List ℕ))
-process_formals (stmt.Process name formals) = Some (listed formals)
+process_formals (stmt.Process name formals) = Some (formal_list formals)
 process_formals s = None
 
 -- the formals of a process
@@ -145,15 +145,15 @@ call_of caller k callee es =
     option_and_then (λ fs. option_map (ProcessCall k) (arguments_of caller callee.ports fs es)) (formals_in callee.statements)
 
 -- the call of the first unit that the name heads
-abbrev pub called : Tables → (caller : Ports) → (name : List ℕ) → List Tree → Option Statement
-called t caller name es =
+abbrev pub call_by_name : Tables → (caller : Ports) → (name : List ℕ) → List Tree → Option Statement
+call_by_name t caller name es =
     option_and_then (λ k. option_and_then (λ callee. call_of caller k callee es) (slice_get t.scopes k)) (get t.headings name)
 
 -- headings and declarations become none, and so does what isn't built by its form and its names
 abbrev pub statement_of : Tables → Ports → Stmt → Option Statement
 statement_of t ports (stmt.Simple s) = simple_of ports s
 statement_of t ports stmt.Processes = Some Processes
-statement_of t ports (stmt.ProcessCall name part) = option_and_then (called t ports name) (actuals_of part)
+statement_of t ports (stmt.ProcessCall name part) = option_and_then (call_by_name t ports name) (actuals_of part)
 statement_of t ports stmt.EndProcesses = Some EndProcesses
 statement_of t ports stmt.End = Some End
 statement_of t ports s = None

@@ -47,25 +47,25 @@ units_from unit (p ∷ ps) = if is_end p.stmt then (unit ++ p ∷ []) ∷ units_
 abbrev pub units_of : List Placed → List (List Placed)
 units_of ps = units_from [] ps
 
--- the ports that a list declares from this item on, in a statement at this place in its unit
-abbrev pub declared_as : Direction → (place item : ℕ) → List Decl → List (List ℕ × Declared)
-declared_as d i j [] = []
-declared_as d i j (x ∷ xs) = (x.name, record { direction = d; place = i; item = j }) ∷ declared_as d i (suc j) xs
+-- the ports that a list declares from this item on, in the statement at this index of its unit
+abbrev pub declarations_as : Direction → (index item : ℕ) → List Decl → List (List ℕ × Declared)
+declarations_as d i j [] = []
+declarations_as d i j (x ∷ xs) = (x.name, record { direction = d; index = i; item = j }) ∷ declarations_as d i (suc j) xs
 
 -- and those that a statement declares
-abbrev pub declared_by : (place : ℕ) → Stmt → List (List ℕ × Declared)
-declared_by i (stmt.Inport ty decls) = declared_as In i 0 decls
-declared_by i (stmt.Outport ty decls) = declared_as Out i 0 decls
-declared_by i s = []
+abbrev pub declarations_by : (index : ℕ) → Stmt → List (List ℕ × Declared)
+declarations_by i (stmt.Inport ty decls) = declarations_as In i 0 decls
+declarations_by i (stmt.Outport ty decls) = declarations_as Out i 0 decls
+declarations_by i s = []
 
--- and those that statements from this place on declare
-abbrev pub declared_from : (place : ℕ) → List Placed → List (List ℕ × Declared)
-declared_from i [] = []
-declared_from i (p ∷ ps) = declared_by i p.stmt ++ declared_from (suc i) ps
+-- and those that statements from this index on declare
+abbrev pub declarations_from : (index : ℕ) → List Placed → List (List ℕ × Declared)
+declarations_from i [] = []
+declarations_from i (p ∷ ps) = declarations_by i p.stmt ++ declarations_from (suc i) ps
 
 -- the first declaration of each port of a unit
 abbrev pub ports_of : List Placed → Ports
-ports_of unit = first_of_each (declared_from 0 unit)
+ports_of unit = first_of_each (declarations_from 0 unit)
 
 abbrev pub scope_of : List Placed → Scope
 scope_of unit = record { statements = unit; ports = ports_of unit }
@@ -81,15 +81,15 @@ abbrev pub title_of : List Placed → Option (List ℕ)
 title_of [] = None
 title_of (p ∷ ps) = title_in p.stmt
 
--- the unit at this place, under its name
-abbrev pub titled : (place : ℕ) → Option (List ℕ) → List (List ℕ × ℕ)
-titled k None = []
-titled k (Some name) = (name, k) ∷ []
+-- the unit of this number, under its name
+abbrev pub title_entry : (number : ℕ) → Option (List ℕ) → List (List ℕ × ℕ)
+title_entry k None = []
+title_entry k (Some name) = (name, k) ∷ []
 
--- the units from this place on, under their names
-abbrev pub titles_from : (place : ℕ) → List Scope → List (List ℕ × ℕ)
+-- the units from this number on, under their names
+abbrev pub titles_from : (number : ℕ) → List Scope → List (List ℕ × ℕ)
 titles_from k [] = []
-titles_from k (s ∷ ss) = titled k (title_of s.statements) ++ titles_from (suc k) ss
+titles_from k (s ∷ ss) = title_entry k (title_of s.statements) ++ titles_from (suc k) ss
 
 -- the first unit that each name heads
 abbrev pub headings_of : List Scope → ByName ℕ

@@ -7,18 +7,18 @@ ghost use Rattle.fm_front.specs.Statements.{statement_of};
 ghost use Rattle.std.specs.List.{list_all};
 ghost use Rattle.std.specs.Prelude.{is_some};
 
-use crate::by_name::ByName;
 use crate::expressions::begins_integer;
 use crate::standing::{Behind, Standing, is_declaration, is_heading};
 use crate::tables::{Declared, Tables, is_end};
-use crate::translation::listed;
+use crate::translation::formal_list;
 use fm_base::Name;
+use fm_maps::NameMap;
 use fm_tree::{Decl, Field, Kind, Placed, PortType, Stmt};
 
 fn is_first_heading(tables: &Tables, unit: u32, name: &Name) -> bool
     ensures { result ≡ is_first_heading tables.now unit name.now }
 {
-    match tables.headings.get(name) {
+    match tables.headings.get(name).copied() {
         Some(first) => first == unit,
         None => false,
     }
@@ -43,27 +43,27 @@ fn are_distinct(names: &[Name]) -> bool
     true
 }
 
-fn is_typed(ports: &ByName<Declared>, name: &Name) -> bool
+fn is_typed(ports: &NameMap<Declared>, name: &Name) -> bool
     ensures { result ≡ is_typed ports.now name.now }
 {
-    ports.contains(name) || begins_integer(name)
+    ports.contains_key(name) || begins_integer(name)
 }
 
-fn are_typed(ports: &ByName<Declared>, names: &[Name]) -> bool
+fn are_typed(ports: &NameMap<Declared>, names: &[Name]) -> bool
     ensures { result ≡ list_all (is_typed ports.now) names.now }
 {
     names.iter().all(|name| is_typed(ports, name))
 }
 
-fn is_built_heading(tables: &Tables, unit: u32, ports: &ByName<Declared>, stmt: &Stmt) -> bool
+fn is_built_heading(tables: &Tables, unit: u32, ports: &NameMap<Declared>, stmt: &Stmt) -> bool
     ensures { result ≡ is_built_heading tables.now unit ports.now stmt.now }
 {
     match stmt {
         Stmt::Program(name) => is_first_heading(tables, unit, name),
         Stmt::Process(name, formals) => {
             is_first_heading(tables, unit, name)
-                && are_distinct(listed(formals))
-                && are_typed(ports, listed(formals))
+                && are_distinct(formal_list(formals))
+                && are_typed(ports, formal_list(formals))
         }
         _ => false,
     }
@@ -96,41 +96,41 @@ fn is_one_integer(port_type: &PortType) -> bool
     }
 }
 
-fn is_first_declaration(ports: &ByName<Declared>, place: usize, item: usize, name: &Name) -> bool
-    ensures { result ≡ is_first_declaration ports.now place item name.now }
+fn is_first_declaration(ports: &NameMap<Declared>, index: usize, item: usize, name: &Name) -> bool
+    ensures { result ≡ is_first_declaration ports.now index item name.now }
 {
-    match ports.get(name) {
-        Some(declared) => declared.place == place && declared.item == item,
+    match ports.get(name).copied() {
+        Some(declared) => declared.index == index && declared.item == item,
         None => false,
     }
 }
 
-fn is_built_name(ports: &ByName<Declared>, place: usize, item: usize, decl: &Decl) -> bool
-    ensures { result ≡ is_built_name ports.now place item decl.now }
+fn is_built_name(ports: &NameMap<Declared>, index: usize, item: usize, decl: &Decl) -> bool
+    ensures { result ≡ is_built_name ports.now index item decl.now }
 {
-    decl.bounds.is_empty() && is_first_declaration(ports, place, item, &decl.name)
+    decl.bounds.is_empty() && is_first_declaration(ports, index, item, &decl.name)
 }
 
-fn are_built_names(ports: &ByName<Declared>, place: usize, decls: &[Decl]) -> bool
-    ensures { result ≡ are_built_names ports.now place 0 decls.now }
+fn are_built_names(ports: &NameMap<Declared>, index: usize, decls: &[Decl]) -> bool
+    ensures { result ≡ are_built_names ports.now index 0 decls.now }
 {
     for item in 0..decls.len() {
-        if !is_built_name(ports, place, item, &decls[item]) {
+        if !is_built_name(ports, index, item, &decls[item]) {
             return false;
         }
     }
     true
 }
 
-fn is_built_declaration(ports: &ByName<Declared>, place: usize, stmt: &Stmt) -> bool
-    ensures { result ≡ is_built_declaration ports.now place stmt.now }
+fn is_built_declaration(ports: &NameMap<Declared>, index: usize, stmt: &Stmt) -> bool
+    ensures { result ≡ is_built_declaration ports.now index stmt.now }
 {
     match stmt {
         Stmt::Inport(port_type, decls) => {
-            is_one_integer(port_type) && are_built_names(ports, place, decls.as_slice())
+            is_one_integer(port_type) && are_built_names(ports, index, decls.as_slice())
         }
         Stmt::Outport(port_type, decls) => {
-            is_one_integer(port_type) && are_built_names(ports, place, decls.as_slice())
+            is_one_integer(port_type) && are_built_names(ports, index, decls.as_slice())
         }
         _ => false,
     }
@@ -139,7 +139,7 @@ fn is_built_declaration(ports: &ByName<Declared>, place: usize, stmt: &Stmt) -> 
 fn is_built_order(standing: Standing, behind: Behind, stmt: &Stmt) -> bool
     ensures { result ≡ is_built_order standing behind stmt.now }
 {
-    let headed = if standing.place == 0 {
+    let headed = if standing.index == 0 {
         is_heading(stmt)
     } else {
         !is_heading(stmt)
@@ -162,7 +162,7 @@ fn is_built_block(depth: usize, closes: bool, stmt: &Stmt) -> bool
 pub(crate) fn is_built(
     tables: &Tables,
     unit: u32,
-    ports: &ByName<Declared>,
+    ports: &NameMap<Declared>,
     standing: Standing,
     behind: Behind,
     placed: &Placed,
@@ -176,5 +176,5 @@ pub(crate) fn is_built(
         && is_built_block(standing.depth, behind.closes, &placed.stmt)
         && (becomes
             || is_built_heading(tables, unit, ports, &placed.stmt)
-            || is_built_declaration(ports, standing.place, &placed.stmt))
+            || is_built_declaration(ports, standing.index, &placed.stmt))
 }

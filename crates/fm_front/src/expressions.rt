@@ -3,11 +3,12 @@
 ghost use Rattle.std.specs.Prelude.{◌≡◌, IfOk, option_map};
 ghost use Rattle.fm_tree.specs.Tree as tree;
 ghost use Rattle.fm_mean.specs.Reading.{reading};
+ghost use Rattle.fm_mean.specs.Terms.{binary};
 ghost use Rattle.fm_front.specs.Expressions.{begins_integer, is_number, sign_of, operator_of, term_of};
 
-use crate::by_name::ByName;
 use crate::tables::Declared;
 use fm_base::{Name, NoMemory, Op};
+use fm_maps::NameMap;
 use fm_mean::{Expr, Node, Operator, Sign};
 use fm_tree::ExprNode;
 use std::alloc::Global;
@@ -21,10 +22,10 @@ pub(crate) fn begins_integer(name: &Name) -> bool
     }
 }
 
-pub(crate) fn is_number(ports: &ByName<Declared>, name: &Name) -> bool
+pub(crate) fn is_number(ports: &NameMap<Declared>, name: &Name) -> bool
     ensures { result ≡ is_number ports.now name.now }
 {
-    begins_integer(name) && !ports.contains(name)
+    begins_integer(name) && !ports.contains_key(name)
 }
 
 fn sign(op: Op) -> Option<Sign>
@@ -48,7 +49,7 @@ fn operator(op: Op) -> Option<Operator>
     }
 }
 
-fn variable(alloc: Global, ports: &ByName<Declared>, name: &Name) -> Result<Option<Node>, NoMemory>
+fn variable(alloc: Global, ports: &NameMap<Declared>, name: &Name) -> Result<Option<Node>, NoMemory>
     ensures { IfOk result (λ o. option_map reading o ≡ term_of ports.now (tree.Named name.now)) }
 {
     if is_number(ports, name) {
@@ -58,10 +59,18 @@ fn variable(alloc: Global, ports: &ByName<Declared>, name: &Name) -> Result<Opti
     }
 }
 
+fn binary(alloc: Global, operator: Operator, left: Node, right: Node) -> Result<Node, NoMemory>
+    ensures { IfOk result (λ n. reading n ≡ binary operator (reading left) (reading right)) }
+{
+    let left = Box::new(alloc, left)?;
+    let right = Box::new(alloc, right)?;
+    Ok(Node::Binary(operator, left, right))
+}
+
 /// The node of a tree, where the tree is built.
 fn node(
     alloc: Global,
-    ports: &ByName<Declared>,
+    ports: &NameMap<Declared>,
     tree: &fm_tree::Expr,
 ) -> Result<Option<Node>, NoMemory>
     ensures { IfOk result (λ o. option_map reading o ≡ term_of ports.now tree.now) }
@@ -90,11 +99,7 @@ fn node(
                 return Ok(None);
             };
             match node(alloc, ports, right)? {
-                Some(right) => {
-                    let left = Box::new(alloc, left)?;
-                    let right = Box::new(alloc, right)?;
-                    Ok(Some(Node::Binary(operator, left, right)))
-                }
+                Some(right) => Ok(Some(binary(alloc, operator, left, right)?)),
                 None => Ok(None),
             }
         }
@@ -105,7 +110,7 @@ fn node(
 /// The expression of a tree, where the tree is built in a unit with these ports.
 pub(crate) fn expression(
     alloc: Global,
-    ports: &ByName<Declared>,
+    ports: &NameMap<Declared>,
     tree: &fm_tree::Expr,
 ) -> Result<Option<Expr>, NoMemory>
     ensures { IfOk result (λ o. o ≡ term_of ports.now tree.now) }

@@ -9,8 +9,8 @@ ghost use Rattle.fm_front.specs.Program.{body_of, is_main, main_from, program_in
 
 use crate::built::is_built;
 use crate::reading::is_program;
-use crate::standing::{Standing, has_end, seen_behind, settled};
-use crate::tables::{Scope, Tables, unit_place};
+use crate::standing::{Standing, behind_by_front, closed_front, has_end};
+use crate::tables::{Scope, Tables, unit_number};
 use crate::translation::statement;
 use crate::variables::{formals, variables};
 use fm_base::{CheckFail, Line, Name, NoMemory, Refusal, Rule, Seq, keep_earlier, least_law};
@@ -51,7 +51,7 @@ fn keep_unless(best: Option<Refusal>, built: bool, line: Line) -> Option<Refusal
     }
 }
 
-// The body of a unit at this place, and the least of the best so far and of its statements that aren't
+// The body of a unit of this number, and the least of the best so far and of its statements that aren't
 // built.
 fn body(
     alloc: Global,
@@ -68,11 +68,11 @@ fn body(
     let mut standing = Standing::start();
     let statements = scope.statements.as_slice();
     let ends = has_end(statements);
-    let settled = settled(statements)?;
+    let closed = closed_front(statements)?;
     'statements: for index in 0..statements.len() {
         let placed = &statements[index];
         let statement = statement(alloc, tables, &scope.ports, &placed.stmt)?;
-        let behind = seen_behind(ends, settled, index, statements.len());
+        let behind = behind_by_front(ends, closed, index, statements.len());
         let becomes = statement.is_some();
         let built = is_built(
             tables,
@@ -85,7 +85,7 @@ fn body(
         );
         best = keep_unless(best, built, placed.line);
         push_entry(placed.line, statement, &mut body)?;
-        standing = standing.passed(&placed.stmt)?;
+        standing = standing.after_statement(&placed.stmt)?;
     }
     Ok((body, best))
 }
@@ -128,8 +128,8 @@ fn units(alloc: Global, tables: &Tables) -> Result<(Vec<Unit>, Option<Refusal>),
     let mut best = None;
     let scopes = tables.scopes.as_slice();
     'scopes: for index in 0..scopes.len() {
-        let place = unit_place(index)?;
-        let (unit, least) = unit(alloc, tables, place, &scopes[index], best)?;
+        let number = unit_number(index)?;
+        let (unit, least) = unit(alloc, tables, number, &scopes[index], best)?;
         units.push(unit)?;
         best = least;
     }
@@ -145,7 +145,7 @@ fn is_main(unit: &[Placed]) -> bool
     }
 }
 
-fn main_place(scopes: &[Scope]) -> usize
+fn main_number(scopes: &[Scope]) -> usize
     ensures { result ≡ main_from 0 scopes.now }
 {
     for index in 0..scopes.len() {
@@ -167,7 +167,7 @@ pub(crate) fn program(alloc: Global, tables: &Tables) -> Result<Program, CheckFa
     if let Some(refusal) = best {
         return Err(CheckFail::Refused(refusal));
     }
-    let main = unit_place(main_place(tables.scopes.as_slice()))?;
+    let main = unit_number(main_number(tables.scopes.as_slice()))?;
     Ok(Program {
         main,
         units: Seq::from_vec(units),

@@ -2,7 +2,7 @@
 
 ghost use Rattle.std.specs.Prelude.{◌≡◌, ◌≤◌, length, IfOk, IfErr};
 ghost use Rattle.fm_front.specs.Laws.{OneProgram, OneRefusal, OneVerdict, ProgramIsClean, ProgramOrRefusal, VerdictIsRefusal};
-ghost use Rattle.fm_front.specs.Program.{IsProgramOf, IsRefusalOf};
+ghost use Rattle.fm_front.specs.Program.{IsBuilt, IsProgramOf, IsRefusalOf};
 
 use crate::program::program;
 use crate::reading::{statements, wrong_heading};
@@ -17,6 +17,7 @@ use std::alloc::Global;
 pub fn front(alloc: Global, source: &[u8]) -> Result<Program, CheckFail>
     requires { length source.now ≤ 1_000_000 }
     ensures program { IfOk result (λ p. IsProgramOf source.now p) }
+    ensures built { IfOk result (λ _. IsBuilt source.now) }
     ensures refused { IfErr result (IsRefusalOf source.now) }
 {
     least_law();
@@ -38,7 +39,7 @@ pub fn one_verdict()
     ensures { OneVerdict }
 {}
 
-/// A source has one program or one refusal.
+/// A source has one program and one refusal, and not both where it is built.
 pub fn one_program()
     ensures program { OneProgram }
     ensures refusal { OneRefusal }

@@ -1,7 +1,7 @@
 //! Where a statement stands in its unit.
 
 ghost use Rattle.std.specs.Prelude.{◌≡◌, ◌+◌, ◌<◌, length, take, drop, IfOk, ℕ};
-ghost use Rattle.fm_front.specs.Built.{depth_behind, has_end, is_declaration, is_heading, passed, seen_behind, settled_from, start};
+ghost use Rattle.fm_front.specs.Built.{depth_behind, has_end, is_declaration, is_heading, after_statement, behind_by_front, closed_front_from, start};
 
 use crate::tables::is_end;
 use fm_base::NoMemory;
@@ -11,7 +11,7 @@ use fm_tree::{Placed, Stmt};
 #[derive(Clone, Copy, Debug, PartialEq, Eq)]
 pub struct Standing {
     /// The number of statements.
-    pub place: usize,
+    pub index: usize,
     /// Whether one of them is neither a heading nor a declaration.
     pub acted: bool,
     /// The number of process blocks that are open.
@@ -23,7 +23,7 @@ pub struct Standing {
 pub struct Behind {
     /// Whether nothing does.
     pub is_last: bool,
-    /// Whether no block is open at some place behind the statement. Where the unit has no END this is not
+    /// Whether no block is open somewhere behind the statement. Where the unit has no END this is not
     /// asked.
     pub closes: bool,
 }
@@ -57,18 +57,18 @@ impl Standing {
         ensures { result ≡ start }
     {
         Standing {
-            place: 0,
+            index: 0,
             acted: false,
             depth: 0,
         }
     }
 
     /// What stands before the next statement.
-    pub(crate) fn passed(self, stmt: &Stmt) -> Result<Standing, NoMemory>
-        ensures { IfOk result (λ s. s ≡ passed self stmt.now) }
+    pub(crate) fn after_statement(self, stmt: &Stmt) -> Result<Standing, NoMemory>
+        ensures { IfOk result (λ s. s ≡ after_statement self stmt.now) }
     {
         Ok(Standing {
-            place: self.place.checked_add(1).ok_or(NoMemory)?,
+            index: self.index.checked_add(1).ok_or(NoMemory)?,
             acted: self.acted || !(is_heading(stmt) || is_declaration(stmt)),
             depth: depth_behind(self.depth, stmt)?,
         })
@@ -86,8 +86,8 @@ pub(crate) fn has_end(unit: &[Placed]) -> bool
 }
 
 /// The number of statements of the longest front of a unit behind which no block is open.
-pub(crate) fn settled(unit: &[Placed]) -> Result<usize, NoMemory>
-    ensures { IfOk result (λ n. n ≡ settled_from 0 0 0 unit.now) }
+pub(crate) fn closed_front(unit: &[Placed]) -> Result<usize, NoMemory>
+    ensures { IfOk result (λ n. n ≡ closed_front_from 0 0 0 unit.now) }
 {
     let mut depth = 0;
     let mut last = 0;
@@ -100,13 +100,13 @@ pub(crate) fn settled(unit: &[Placed]) -> Result<usize, NoMemory>
     Ok(last)
 }
 
-/// What stands behind the statement at this place of so many, in a unit with END or not, by the longest front
+/// What stands behind the statement at this index of so many, in a unit with END or not, by the longest front
 /// behind which no block is open.
-pub(crate) fn seen_behind(ends: bool, settled: usize, place: usize, count: usize) -> Behind
-    requires { place < count }
-    ensures { result ≡ seen_behind ends settled place count }
+pub(crate) fn behind_by_front(ends: bool, closed: usize, index: usize, count: usize) -> Behind
+    requires { index < count }
+    ensures { result ≡ behind_by_front ends closed index count }
 {
-    let is_last = place + 1 == count;
-    let closes = !ends || place < settled;
+    let is_last = index + 1 == count;
+    let closes = !ends || index < closed;
     Behind { is_last, closes }
 }

@@ -2,10 +2,11 @@
 
 ghost use Rattle.std.specs.Prelude.{◌≡◌, IfOk, OnOk, map, option_copied};
 ghost use Rattle.std.specs.Option.{option_map};
-ghost use Rattle.fm_front.specs.Units.{declared_as, declared_by, headings_of, is_end, ports_of, scope_of, tables_of, title_in, title_of, titled, units_of, with_all};
+ghost use Rattle.fm_front.specs.Units.{declarations_as, declarations_by, headings_of, is_end, ports_of, scope_of, tables_of, title_in, title_of, title_entry, units_of, with_all};
 
-use crate::by_name::ByName;
+use crate::insertion::insert_new;
 use fm_base::{Name, NoMemory, Seq};
+use fm_maps::NameMap;
 use fm_tree::{Decl, Placed, Stmt};
 use std::alloc::Global;
 
@@ -23,9 +24,9 @@ pub enum Direction {
 pub struct Declared {
     /// Which end the port is.
     pub direction: Direction,
-    /// The place of the declaration among the statements of its unit, from 0.
-    pub place: usize,
-    /// Its place in the list of its statement, from 0.
+    /// The index of the declaration among the statements of its unit, from 0.
+    pub index: usize,
+    /// Its index in the list of its statement, from 0.
     pub item: usize,
 }
 
@@ -35,7 +36,7 @@ pub struct Scope {
     /// Its statements, in the order of the source.
     pub statements: Seq<Placed>,
     /// The first declaration of each port.
-    pub ports: ByName<Declared>,
+    pub ports: NameMap<Declared>,
 }
 
 /// The units of a source, and which of them each name heads.
@@ -43,8 +44,8 @@ pub struct Scope {
 pub struct Tables {
     /// The units, in the order of the source.
     pub scopes: Seq<Scope>,
-    /// The place of the first unit that the name heads, from 0.
-    pub headings: ByName<u32>,
+    /// The number of the first unit that the name heads, from 0.
+    pub headings: NameMap<u32>,
 }
 
 pub(crate) fn is_end(stmt: &Stmt) -> bool
@@ -76,45 +77,45 @@ fn units(alloc: Global, statements: Vec<Placed>) -> Result<Vec<Seq<Placed>>, NoM
 fn declare(
     alloc: Global,
     direction: Direction,
-    place: usize,
+    index: usize,
     decls: &[Decl],
-    ports: &mut ByName<Declared>,
+    ports: &mut NameMap<Declared>,
 ) -> Result<(), NoMemory>
-    ensures { OnOk result (ports.new ≡ with_all ports.old (declared_as direction place 0 decls.now)) }
+    ensures { OnOk result (ports.new ≡ with_all ports.old (declarations_as direction index 0 decls.now)) }
 {
     for item in 0..decls.len() {
         let declared = Declared {
             direction,
-            place,
+            index,
             item,
         };
-        ports.add(alloc, &decls[item].name, declared)?;
+        insert_new(alloc, ports, &decls[item].name, declared)?;
     }
     Ok(())
 }
 
-// Declares what a statement at this place in its unit does.
+// Declares what the statement at this index of its unit does.
 fn declare_in(
     alloc: Global,
-    place: usize,
+    index: usize,
     stmt: &Stmt,
-    ports: &mut ByName<Declared>,
+    ports: &mut NameMap<Declared>,
 ) -> Result<(), NoMemory>
-    ensures { OnOk result (ports.new ≡ with_all ports.old (declared_by place stmt.now)) }
+    ensures { OnOk result (ports.new ≡ with_all ports.old (declarations_by index stmt.now)) }
 {
     match stmt {
-        Stmt::Inport(_, decls) => declare(alloc, Direction::In, place, decls.as_slice(), ports),
-        Stmt::Outport(_, decls) => declare(alloc, Direction::Out, place, decls.as_slice(), ports),
+        Stmt::Inport(_, decls) => declare(alloc, Direction::In, index, decls.as_slice(), ports),
+        Stmt::Outport(_, decls) => declare(alloc, Direction::Out, index, decls.as_slice(), ports),
         _ => Ok(()),
     }
 }
 
-fn ports(alloc: Global, unit: &[Placed]) -> Result<ByName<Declared>, NoMemory>
+fn ports(alloc: Global, unit: &[Placed]) -> Result<NameMap<Declared>, NoMemory>
     ensures { IfOk result (λ m. m ≡ ports_of unit.now) }
 {
-    let mut ports = ByName::new(alloc);
-    for place in 0..unit.len() {
-        declare_in(alloc, place, &unit[place].stmt, &mut ports)?;
+    let mut ports = NameMap::new(alloc);
+    for index in 0..unit.len() {
+        declare_in(alloc, index, &unit[index].stmt, &mut ports)?;
     }
     Ok(ports)
 }
@@ -155,37 +156,37 @@ fn unit_title(unit: &[Placed]) -> Option<&Name>
     }
 }
 
-// Puts the unit at this place under its name.
+// Puts the unit of this number under its name.
 fn entitle(
     alloc: Global,
-    place: u32,
+    number: u32,
     unit: &[Placed],
-    headings: &mut ByName<u32>,
+    headings: &mut NameMap<u32>,
 ) -> Result<(), NoMemory>
-    ensures { OnOk result (headings.new ≡ with_all headings.old (titled place (title_of unit.now))) }
+    ensures { OnOk result (headings.new ≡ with_all headings.old (title_entry number (title_of unit.now))) }
 {
     match unit_title(unit) {
-        Some(name) => headings.add(alloc, name, place),
+        Some(name) => insert_new(alloc, headings, name, number),
         None => Ok(()),
     }
 }
 
-/// The place of a unit, as programs have it.
-pub(crate) fn unit_place(index: usize) -> Result<u32, NoMemory>
-    ensures { IfOk result (λ place. place ≡ index) }
+/// The number of a unit, as programs have it.
+pub(crate) fn unit_number(index: usize) -> Result<u32, NoMemory>
+    ensures { IfOk result (λ number. number ≡ index) }
 {
     u32::try_from(index).map_err(|_| NoMemory)
 }
 
-fn headings(alloc: Global, scopes: &[Scope]) -> Result<ByName<u32>, NoMemory>
+fn headings(alloc: Global, scopes: &[Scope]) -> Result<NameMap<u32>, NoMemory>
     ensures { IfOk result (λ m. m ≡ headings_of scopes.now) }
 {
-    let mut headings = ByName::new(alloc);
+    let mut headings = NameMap::new(alloc);
     for index in 0..scopes.len() {
-        let place = unit_place(index)?;
+        let number = unit_number(index)?;
         entitle(
             alloc,
-            place,
+            number,
             scopes[index].statements.as_slice(),
             &mut headings,
         )?;

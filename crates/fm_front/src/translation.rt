@@ -3,12 +3,12 @@
 ghost use Rattle.std.specs.Prelude.{◌≡◌, IfOk, map};
 ghost use Rattle.std.specs.Option.{option_map};
 ghost use Rattle.fm_tree.specs.declared.statement.Simple.TheVariants as parsed;
-ghost use Rattle.fm_front.specs.Statements.{actuals_of, argument_of, arguments_of, assigned, call_of, called, formals_in, is_bare, is_number_variable, is_port, is_port_name, is_same, item_of, items_of, listed, number_argument, port_argument, printed, process_formals, received, sent, simple_of, statement_of};
+ghost use Rattle.fm_front.specs.Statements.{actuals_of, argument_of, arguments_of, assignment_of, call_of, call_by_name, formals_in, is_bare, is_number_variable, is_port, is_port_name, is_same, item_of, items_of, formal_list, number_argument, port_argument, print_of, process_formals, receive_of, send_of, simple_of, statement_of};
 
-use crate::by_name::ByName;
 use crate::expressions::{begins_integer, expression, is_number};
 use crate::tables::{Declared, Direction, Scope, Tables};
 use fm_base::{Name, NoMemory, Seq};
+use fm_maps::NameMap;
 use fm_mean::{Argument, Expr, Item, Node, Statement};
 use fm_tree::{CallPart, ExprNode, Placed, Simple, Stmt, Var};
 use std::alloc::Global;
@@ -24,10 +24,10 @@ fn is_same(left: Direction, right: Direction) -> bool
     }
 }
 
-fn is_port_name(ports: &ByName<Declared>, direction: Direction, name: &Name) -> bool
+fn is_port_name(ports: &NameMap<Declared>, direction: Direction, name: &Name) -> bool
     ensures { result ≡ is_port_name ports.now direction name.now }
 {
-    match ports.get(name) {
+    match ports.get(name).copied() {
         Some(declared) => is_same(direction, declared.direction),
         None => false,
     }
@@ -39,25 +39,25 @@ fn is_bare(var: &Var) -> bool
     var.subscripts.is_empty()
 }
 
-fn is_port(ports: &ByName<Declared>, direction: Direction, var: &Var) -> bool
+fn is_port(ports: &NameMap<Declared>, direction: Direction, var: &Var) -> bool
     ensures { result ≡ is_port ports.now direction var.now }
 {
     is_bare(var) && is_port_name(ports, direction, &var.name)
 }
 
-fn is_number_variable(ports: &ByName<Declared>, var: &Var) -> bool
+fn is_number_variable(ports: &NameMap<Declared>, var: &Var) -> bool
     ensures { result ≡ is_number_variable ports.now var.now }
 {
     is_bare(var) && is_number(ports, &var.name)
 }
 
-fn assigned(
+fn assignment_of(
     alloc: Global,
-    ports: &ByName<Declared>,
+    ports: &NameMap<Declared>,
     target: &Var,
     value: &fm_tree::Expr,
 ) -> Result<Option<Statement>, NoMemory>
-    ensures { IfOk result (λ o. o ≡ assigned ports.now target.now value.now) }
+    ensures { IfOk result (λ o. o ≡ assignment_of ports.now target.now value.now) }
 {
     if !is_number_variable(ports, target) {
         return Ok(None);
@@ -70,7 +70,7 @@ fn assigned(
 
 fn item(
     alloc: Global,
-    ports: &ByName<Declared>,
+    ports: &NameMap<Declared>,
     item: &fm_tree::Item,
 ) -> Result<Option<Item>, NoMemory>
     ensures { IfOk result (λ o. o ≡ item_of ports.now item.now) }
@@ -89,7 +89,7 @@ fn item(
 
 fn items(
     alloc: Global,
-    ports: &ByName<Declared>,
+    ports: &NameMap<Declared>,
     items: &[fm_tree::Item],
 ) -> Result<Option<Seq<Item>>, NoMemory>
     ensures { IfOk result (λ o. o ≡ items_of ports.now items.now) }
@@ -104,12 +104,12 @@ fn items(
     Ok(Some(built))
 }
 
-fn printed(
+fn print_of(
     alloc: Global,
-    ports: &ByName<Declared>,
+    ports: &NameMap<Declared>,
     list: &[fm_tree::Item],
 ) -> Result<Option<Statement>, NoMemory>
-    ensures { IfOk result (λ o. o ≡ printed ports.now list.now) }
+    ensures { IfOk result (λ o. o ≡ print_of ports.now list.now) }
 {
     match items(alloc, ports, list)? {
         Some(items) => Ok(Some(Statement::Print(items))),
@@ -117,13 +117,13 @@ fn printed(
     }
 }
 
-fn sent(
+fn send_of(
     alloc: Global,
-    ports: &ByName<Declared>,
+    ports: &NameMap<Declared>,
     port: &Name,
     values: &[fm_tree::Expr],
 ) -> Result<Option<Statement>, NoMemory>
-    ensures { IfOk result (λ o. o ≡ sent ports.now port.now values.now) }
+    ensures { IfOk result (λ o. o ≡ send_of ports.now port.now values.now) }
 {
     let [value] = values else {
         return Ok(None);
@@ -134,13 +134,13 @@ fn sent(
     }
 }
 
-fn received(
+fn receive_of(
     alloc: Global,
-    ports: &ByName<Declared>,
+    ports: &NameMap<Declared>,
     port: &Name,
     targets: &[Var],
 ) -> Result<Option<Statement>, NoMemory>
-    ensures { IfOk result (λ o. o ≡ received ports.now port.now targets.now) }
+    ensures { IfOk result (λ o. o ≡ receive_of ports.now port.now targets.now) }
 {
     let [target] = targets else {
         return Ok(None);
@@ -155,7 +155,7 @@ fn received(
 
 fn channel(
     alloc: Global,
-    ports: &ByName<Declared>,
+    ports: &NameMap<Declared>,
     in_first: bool,
     inport: &Var,
     outport: &Var,
@@ -175,7 +175,7 @@ fn channel(
 
 fn end_channel(
     alloc: Global,
-    ports: &ByName<Declared>,
+    ports: &NameMap<Declared>,
     named: bool,
     port: &Var,
 ) -> Result<Option<Statement>, NoMemory>
@@ -190,15 +190,15 @@ fn end_channel(
 
 fn simple(
     alloc: Global,
-    ports: &ByName<Declared>,
+    ports: &NameMap<Declared>,
     simple: &Simple,
 ) -> Result<Option<Statement>, NoMemory>
     ensures { IfOk result (λ o. o ≡ simple_of ports.now simple.now) }
 {
     match simple {
-        Simple::Assignment(target, value) => assigned(alloc, ports, target, value),
-        Simple::Print(items) => printed(alloc, ports, items.as_slice()),
-        Simple::Write(_, items) => printed(alloc, ports, items.as_slice()),
+        Simple::Assignment(target, value) => assignment_of(alloc, ports, target, value),
+        Simple::Print(items) => print_of(alloc, ports, items.as_slice()),
+        Simple::Write(_, items) => print_of(alloc, ports, items.as_slice()),
         Simple::Channel {
             in_first,
             inport,
@@ -206,7 +206,7 @@ fn simple(
         } => channel(alloc, ports, *in_first, inport, outport),
         Simple::Send { named, port, items } => {
             if !*named && is_port(ports, Direction::Out, port) {
-                sent(alloc, ports, &port.name, items.as_slice())
+                send_of(alloc, ports, &port.name, items.as_slice())
             } else {
                 Ok(None)
             }
@@ -218,7 +218,7 @@ fn simple(
             items,
         } => {
             if !*named && is_port(ports, Direction::In, port) && extras.is_empty() {
-                received(alloc, ports, &port.name, items.as_slice())
+                receive_of(alloc, ports, &port.name, items.as_slice())
             } else {
                 Ok(None)
             }
@@ -230,7 +230,7 @@ fn simple(
 
 fn port_argument(
     alloc: Global,
-    caller: &ByName<Declared>,
+    caller: &NameMap<Declared>,
     direction: Direction,
     formal: &Name,
     actual: &fm_tree::Expr,
@@ -252,7 +252,7 @@ fn port_argument(
 
 fn number_argument(
     alloc: Global,
-    caller: &ByName<Declared>,
+    caller: &NameMap<Declared>,
     formal: &Name,
     actual: &fm_tree::Expr,
 ) -> Result<Option<Argument>, NoMemory>
@@ -272,14 +272,14 @@ fn number_argument(
 
 fn argument(
     alloc: Global,
-    caller: &ByName<Declared>,
-    callee: &ByName<Declared>,
+    caller: &NameMap<Declared>,
+    callee: &NameMap<Declared>,
     formal: &Name,
     actual: &fm_tree::Expr,
 ) -> Result<Option<Argument>, NoMemory>
     ensures { IfOk result (λ o. o ≡ argument_of caller.now callee.now formal.now actual.now) }
 {
-    match callee.get(formal) {
+    match callee.get(formal).copied() {
         Some(declared) => port_argument(alloc, caller, declared.direction, formal, actual),
         None => number_argument(alloc, caller, formal, actual),
     }
@@ -287,8 +287,8 @@ fn argument(
 
 fn arguments(
     alloc: Global,
-    caller: &ByName<Declared>,
-    callee: &ByName<Declared>,
+    caller: &NameMap<Declared>,
+    callee: &NameMap<Declared>,
     formals: &[Name],
     actuals: &[fm_tree::Expr],
 ) -> Result<Option<Seq<Argument>>, NoMemory>
@@ -308,8 +308,8 @@ fn arguments(
 }
 
 /// The names of a list; none where no parentheses are written.
-pub(crate) fn listed(formals: &Option<Seq<Name>>) -> &[Name]
-    ensures { result.now ≡ listed formals.now }
+pub(crate) fn formal_list(formals: &Option<Seq<Name>>) -> &[Name]
+    ensures { result.now ≡ formal_list formals.now }
 {
     match formals {
         Some(formals) => formals.as_slice(),
@@ -321,7 +321,7 @@ fn process_formals(stmt: &Stmt) -> Option<&[Name]>
     ensures { option_map (λ s. s.now) result ≡ process_formals stmt.now }
 {
     match stmt {
-        Stmt::Process(_, formals) => Some(listed(formals)),
+        Stmt::Process(_, formals) => Some(formal_list(formals)),
         _ => None,
     }
 }
@@ -350,7 +350,7 @@ fn actuals(part: &Option<CallPart>) -> Option<&[fm_tree::Expr]>
 
 fn call(
     alloc: Global,
-    caller: &ByName<Declared>,
+    caller: &NameMap<Declared>,
     unit: u32,
     callee: &Scope,
     actuals: &[fm_tree::Expr],
@@ -366,16 +366,16 @@ fn call(
     }
 }
 
-fn called(
+fn call_by_name(
     alloc: Global,
     tables: &Tables,
-    caller: &ByName<Declared>,
+    caller: &NameMap<Declared>,
     name: &Name,
     actuals: &[fm_tree::Expr],
 ) -> Result<Option<Statement>, NoMemory>
-    ensures { IfOk result (λ o. o ≡ called tables.now caller.now name.now actuals.now) }
+    ensures { IfOk result (λ o. o ≡ call_by_name tables.now caller.now name.now actuals.now) }
 {
-    let Some(unit) = tables.headings.get(name) else {
+    let Some(unit) = tables.headings.get(name).copied() else {
         return Ok(None);
     };
     match tables.scopes.as_slice().get(unit as usize) {
@@ -389,7 +389,7 @@ fn called(
 pub(crate) fn statement(
     alloc: Global,
     tables: &Tables,
-    ports: &ByName<Declared>,
+    ports: &NameMap<Declared>,
     stmt: &Stmt,
 ) -> Result<Option<Statement>, NoMemory>
     ensures { IfOk result (λ o. o ≡ statement_of tables.now ports.now stmt.now) }
@@ -398,7 +398,7 @@ pub(crate) fn statement(
         Stmt::Simple(statement) => simple(alloc, ports, statement),
         Stmt::Processes => Ok(Some(Statement::Processes)),
         Stmt::ProcessCall(name, part) => match actuals(part) {
-            Some(actuals) => called(alloc, tables, ports, name, actuals),
+            Some(actuals) => call_by_name(alloc, tables, ports, name, actuals),
             None => Ok(None),
         },
         Stmt::EndProcesses => Ok(Some(Statement::EndProcesses)),

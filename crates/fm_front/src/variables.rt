@@ -4,20 +4,21 @@ ghost use Rattle.std.specs.Prelude.{◌≡◌, ◌++◌, ◌∷◌, [], OnOk, If
 ghost use Rattle.std.specs.List.{flat_map};
 ghost use Rattle.std.specs.FinMap as finite;
 ghost use Rattle.fm_mean.specs.Reading.{reading};
-ghost use Rattle.fm_front.specs.Program.{argument_names, decl_names, declared_in, declared_names, entry_names, formals_of, item_names, kind_of, statement_names, term_names, unit_names, variable_of, variables_of, with_names};
+ghost use Rattle.fm_front.specs.Program.{argument_names, decl_names, declaration_names, declared_names, entry_names, formals_of, item_names, kind_of, statement_names, term_names, unit_names, variable_of, variables_of, with_names};
 
-use crate::by_name::ByName;
+use crate::insertion::insert_new;
 use crate::tables::Declared;
 use crate::translation::formals_in;
 use fm_base::{Name, NoMemory, Seq};
+use fm_maps::NameMap;
 use fm_mean::{Argument, Entry, Item, Kind, Node, Statement, Variable};
 use fm_tree::{Decl, Placed, Stmt};
 use std::alloc::Global;
 
-fn kind(ports: &ByName<Declared>, name: &Name) -> Kind
+fn kind(ports: &NameMap<Declared>, name: &Name) -> Kind
     ensures { result ≡ kind_of ports.now name.now }
 {
-    if ports.contains(name) {
+    if ports.contains_key(name) {
         Kind::Port
     } else {
         Kind::Integer
@@ -32,17 +33,17 @@ trait HasNames {
     fn add_names(
         &self,
         alloc: Global,
-        ports: &ByName<Declared>,
-        variables: &mut ByName<Kind>,
+        ports: &NameMap<Declared>,
+        variables: &mut NameMap<Kind>,
     ) -> Result<(), NoMemory>
         ensures { OnOk result (variables.new ≡ with_names ports.now variables.old (names self.now)) };
 }
 
 fn add_all<T: HasNames>(
     alloc: Global,
-    ports: &ByName<Declared>,
+    ports: &NameMap<Declared>,
     items: &[T],
-    variables: &mut ByName<Kind>,
+    variables: &mut NameMap<Kind>,
 ) -> Result<(), NoMemory>
     ensures { OnOk result (variables.new ≡ with_names ports.now variables.old (flat_map T.names items.now)) }
 {
@@ -54,20 +55,20 @@ fn add_all<T: HasNames>(
 
 fn add_name(
     alloc: Global,
-    ports: &ByName<Declared>,
+    ports: &NameMap<Declared>,
     name: &Name,
-    variables: &mut ByName<Kind>,
+    variables: &mut NameMap<Kind>,
 ) -> Result<(), NoMemory>
     ensures { OnOk result (variables.new ≡ with_names ports.now variables.old (name.now ∷ [])) }
 {
-    variables.add(alloc, name, kind(ports, name))
+    insert_new(alloc, variables, name, kind(ports, name))
 }
 
 fn add_node(
     alloc: Global,
-    ports: &ByName<Declared>,
+    ports: &NameMap<Declared>,
     node: &Node,
-    variables: &mut ByName<Kind>,
+    variables: &mut NameMap<Kind>,
 ) -> Result<(), NoMemory>
     ensures { OnOk result (variables.new ≡ with_names ports.now variables.old (term_names (reading node.now))) }
 {
@@ -90,8 +91,8 @@ impl HasNames for Item {
     fn add_names(
         &self,
         alloc: Global,
-        ports: &ByName<Declared>,
-        variables: &mut ByName<Kind>,
+        ports: &NameMap<Declared>,
+        variables: &mut NameMap<Kind>,
     ) -> Result<(), NoMemory> {
         match self {
             Item::Value(value) => add_node(alloc, ports, &value.node, variables),
@@ -106,8 +107,8 @@ impl HasNames for Argument {
     fn add_names(
         &self,
         alloc: Global,
-        ports: &ByName<Declared>,
-        variables: &mut ByName<Kind>,
+        ports: &NameMap<Declared>,
+        variables: &mut NameMap<Kind>,
     ) -> Result<(), NoMemory> {
         match self {
             Argument::Number(_, value) => add_node(alloc, ports, &value.node, variables),
@@ -118,10 +119,10 @@ impl HasNames for Argument {
 
 fn add_pair(
     alloc: Global,
-    ports: &ByName<Declared>,
+    ports: &NameMap<Declared>,
     first: &Name,
     second: &Name,
-    variables: &mut ByName<Kind>,
+    variables: &mut NameMap<Kind>,
 ) -> Result<(), NoMemory>
     ensures { OnOk result (variables.new ≡ with_names ports.now variables.old (first.now ∷ second.now ∷ [])) }
 {
@@ -131,10 +132,10 @@ fn add_pair(
 
 fn add_valued(
     alloc: Global,
-    ports: &ByName<Declared>,
+    ports: &NameMap<Declared>,
     name: &Name,
     node: &Node,
-    variables: &mut ByName<Kind>,
+    variables: &mut NameMap<Kind>,
 ) -> Result<(), NoMemory>
     ensures { OnOk result (variables.new ≡ with_names ports.now variables.old (name.now ∷ term_names (reading node.now))) }
 {
@@ -148,8 +149,8 @@ impl HasNames for Entry {
     fn add_names(
         &self,
         alloc: Global,
-        ports: &ByName<Declared>,
-        variables: &mut ByName<Kind>,
+        ports: &NameMap<Declared>,
+        variables: &mut NameMap<Kind>,
     ) -> Result<(), NoMemory> {
         match &self.statement {
             Statement::Assign(name, value) => {
@@ -178,28 +179,28 @@ impl HasNames for Entry {
 
 fn add_each(
     alloc: Global,
-    ports: &ByName<Declared>,
+    ports: &NameMap<Declared>,
     names: &[Name],
-    variables: &mut ByName<Kind>,
+    variables: &mut NameMap<Kind>,
 ) -> Result<(), NoMemory>
     ensures { OnOk result (variables.new ≡ with_names ports.now variables.old names.now) }
 {
     for name in names {
-        variables.add(alloc, name, kind(ports, name))?;
+        insert_new(alloc, variables, name, kind(ports, name))?;
     }
     Ok(())
 }
 
 fn add_decls(
     alloc: Global,
-    ports: &ByName<Declared>,
+    ports: &NameMap<Declared>,
     decls: &[Decl],
-    variables: &mut ByName<Kind>,
+    variables: &mut NameMap<Kind>,
 ) -> Result<(), NoMemory>
     ensures { OnOk result (variables.new ≡ with_names ports.now variables.old (decl_names decls.now)) }
 {
     for decl in decls {
-        variables.add(alloc, &decl.name, kind(ports, &decl.name))?;
+        insert_new(alloc, variables, &decl.name, kind(ports, &decl.name))?;
     }
     Ok(())
 }
@@ -210,8 +211,8 @@ impl HasNames for Placed {
     fn add_names(
         &self,
         alloc: Global,
-        ports: &ByName<Declared>,
-        variables: &mut ByName<Kind>,
+        ports: &NameMap<Declared>,
+        variables: &mut NameMap<Kind>,
     ) -> Result<(), NoMemory> {
         match &self.stmt {
             Stmt::Inport(_, decls) => add_decls(alloc, ports, decls.as_slice(), variables),
@@ -231,22 +232,22 @@ pub(crate) fn formals(unit: &[Placed]) -> &[Name]
     }
 }
 
-fn named(
+fn kinds(
     alloc: Global,
-    ports: &ByName<Declared>,
+    ports: &NameMap<Declared>,
     unit: &[Placed],
     body: &[Entry],
-) -> Result<ByName<Kind>, NoMemory>
+) -> Result<NameMap<Kind>, NoMemory>
     ensures { IfOk result (λ m. m ≡ with_names ports.now finite.empty (unit_names unit.now body.now)) }
 {
-    let mut variables = ByName::new(alloc);
+    let mut variables = NameMap::new(alloc);
     add_each(alloc, ports, formals(unit), &mut variables)?;
     add_all::<Placed>(alloc, ports, unit, &mut variables)?;
     add_all::<Entry>(alloc, ports, body, &mut variables)?;
     Ok(variables)
 }
 
-fn listed(alloc: Global, entries: Vec<(Name, Kind)>) -> Result<Seq<Variable>, NoMemory>
+fn variable_list(alloc: Global, entries: Vec<(Name, Kind)>) -> Result<Seq<Variable>, NoMemory>
     ensures { IfOk result (λ v. v ≡ map variable_of entries.items) }
 {
     let mut variables = Seq::new(alloc);
@@ -259,12 +260,12 @@ fn listed(alloc: Global, entries: Vec<(Name, Kind)>) -> Result<Seq<Variable>, No
 /// The variables of a unit with this body, in byte order of their names.
 pub(crate) fn variables(
     alloc: Global,
-    ports: &ByName<Declared>,
+    ports: &NameMap<Declared>,
     unit: &[Placed],
     body: &[Entry],
 ) -> Result<Seq<Variable>, NoMemory>
     ensures { IfOk result (λ v. v ≡ variables_of ports.now (unit_names unit.now body.now)) }
 {
-    let named = named(alloc, ports, unit, body)?;
-    listed(alloc, named.into_entries(alloc)?)
+    let kinds = kinds(alloc, ports, unit, body)?;
+    variable_list(alloc, kinds.into_entries(alloc)?)
 }
