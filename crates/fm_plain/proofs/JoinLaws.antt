@@ -7,7 +7,7 @@ use Rattle.fm_base.specs.declared.port.PortValue.{PortValue}
 use Rattle.fm_mean.specs.declared.program.Entry.{Entry}
 use Rattle.fm_mean.specs.Values.{Variables}
 use Rattle.fm_mean.specs.Process.{Proc, Ports, ports_in, Running}
-use Rattle.fm_mean.specs.Steps.{Returned, unreturned, joined, all_back, arguments_of, joining_words}
+use Rattle.fm_mean.specs.Steps.{Returned, before_return, after_join, all_back, arguments_of, joining_words}
 use Rattle.fm_plain.specs.declared.process.Kept.{Kept}
 use Rattle.fm_plain.specs.Kept.{kept_of, kept_in}
 use Rattle.fm_plain.specs.Returning.{child_back, kept_back}
@@ -35,22 +35,22 @@ no_child body cs i kids r whole lt none is =
     ∙ is
 
 -- before any child
-pub begun : (x : Proc) (m : Variables) (n p : Ports) (d : List PortValue) → m ≡ x.numbers → n ≡ x.ports → p ≡ finite.empty → d ≡ [] → record { numbers = m; ports = n; rest = p; drops = d } ≡ unreturned x
+pub begun : (x : Proc) (m : Variables) (n p : Ports) (d : List PortValue) → m ≡ x.numbers → n ≡ x.ports → p ≡ finite.empty → d ≡ [] → record { numbers = m; ports = n; rest = p; drops = d } ≡ before_return x
 begun x m n p d a b e f = λ i. record { numbers = a i; ports = b i; rest = e i; drops = f i }
 
 -- a join is done by what the children kept
 module _ (body : List Entry) (x : Proc) (cs : List ℕ) (kids : List Proc) (found : List Entry) (given : List (Variables × Ports)) (start after : Returned) (entry words cost : ℕ)
-    (at : found ≡ body) (first : start ≡ unreturned x) (back : after ≡ kept_back found cs given start) (same : map kept_of kids ≡ given) (next : entry ≡ x.entry + 1) (sum : words ≡ joining_words found cs) (price : cost ≡ 1 + words) where
-  all : after ≡ all_back body cs kids (unreturned x)
+    (at : found ≡ body) (first : start ≡ before_return x) (back : after ≡ kept_back found cs given start) (same : map kept_of kids ≡ given) (next : entry ≡ x.entry + 1) (sum : words ≡ joining_words found cs) (price : cost ≡ 1 + words) where
+  all : after ≡ all_back body cs kids (before_return x)
   all =
       back ∙ ap (λ (b : List Entry). kept_back b cs given start) at ∙ ap (λ (ks : List (Variables × Ports)). kept_back body cs ks start) (sym same)
-      ∙ ap (kept_back body cs (map kept_of kids)) first ∙ sym (back_of_kept body cs kids (unreturned x))
+      ∙ ap (kept_back body cs (map kept_of kids)) first ∙ sym (back_of_kept body cs kids (before_return x))
 
-  pub joined_self : record x { phase = Running; entry = entry; numbers = after.numbers; ports = after.ports } ≡ (joined body x cs kids).self
+  pub joined_self : record x { phase = Running; entry = entry; numbers = after.numbers; ports = after.ports } ≡ (after_join body x cs kids).self
   joined_self = λ i. record x { phase = Running; entry = next i; numbers = (all i).numbers; ports = (all i).ports }
 
-  pub joined_drops : after.drops ≡ (joined body x cs kids).drops
+  pub joined_drops : after.drops ≡ (after_join body x cs kids).drops
   joined_drops = ap (λ (r : Returned). r.drops) all
 
-  pub joined_cost : cost ≡ (joined body x cs kids).cost
+  pub joined_cost : cost ≡ (after_join body x cs kids).cost
   joined_cost = price ∙ ap (λ (n : ℕ). 1 + n) (sum ∙ ap (λ (b : List Entry). joining_words b cs) at)

@@ -1,4 +1,3 @@
-pub mod Maps
 pub mod PrintLaws
 pub mod EventLaws
 pub mod Handing

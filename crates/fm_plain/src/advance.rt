@@ -4,29 +4,29 @@ ghost use Rattle.std.specs.Prelude.{◌≡◌, IfOk};
 ghost use Rattle.fm_plain.specs.Readings.{proc_of};
 ghost use Rattle.fm_plain.specs.Advance.{IsAdvanced};
 
-use crate::counting::both;
+use crate::event::Event;
 use crate::local::{Local, step_locally};
 use crate::process::PlainProc;
-use fm_base::{Fault, NoMemory};
+use fm_base::NoMemory;
 use fm_mean::Program;
 use std::alloc::Global;
 
 /// Why a process stopped.
-#[derive(Clone, Copy, Debug, PartialEq, Eq)]
-pub enum Stop {
+#[derive(Drop)]
+pub enum Stop<'p> {
     /// It made as many steps as it was allowed.
     More,
-    /// Its next step is an event, or it has none.
-    Event,
-    /// Its next step faults.
-    Fault(Fault),
+    /// It does nothing more.
+    Rest,
+    /// It is at an event.
+    Event(Event<'p>),
 }
 
 /// What a process did.
-#[derive(Clone, Copy, Debug, PartialEq, Eq)]
-pub struct Advanced {
+#[derive(Drop)]
+pub struct Advanced<'p> {
     /// Why it stopped.
-    pub stop: Stop,
+    pub stop: Stop<'p>,
     /// The steps that it made.
     pub steps: u32,
     /// Their cost in turns.
@@ -34,26 +34,27 @@ pub struct Advanced {
 }
 
 impl PlainProc {
-    /// Makes local steps, as many as `slice` at most, and stops before an event, a fault or a rest.
+    /// Makes local steps, as many as `slice` at most, and stops before an event, which it tells with its
+    /// operands, or where it does nothing more.
     ///
     /// After want of memory the process isn't to be used any more.
-    pub fn advance(
+    pub fn advance<'p>(
         &mut self,
         alloc: Global,
-        program: &Program,
+        program: &'p Program,
         slice: u32,
-    ) -> Result<Advanced, NoMemory>
+    ) -> Result<Advanced<'p>, NoMemory>
         ensures { IfOk result (λ a. IsAdvanced program.now slice (proc_of self.old) a (proc_of self.new)) }
     {
         let mut cost = 0;
         'steps: for steps in 0..slice {
-            let stop = match step_locally(alloc, program, self)? {
-                Local::Done(more) => {
-                    cost = both(cost, more)?;
+            let stop = match step_locally(alloc, program, self, cost)? {
+                Local::Done(_, paid) => {
+                    cost = paid;
                     continue;
                 }
-                Local::Event => Stop::Event,
-                Local::Fault(fault) => Stop::Fault(fault),
+                Local::Rest => Stop::Rest,
+                Local::Event(event) => Stop::Event(event),
             };
             return Ok(Advanced { stop, steps, cost });
         }

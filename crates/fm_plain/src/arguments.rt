@@ -1,12 +1,12 @@
 //! The arguments of a process call.
 
 ghost use Rattle.std.specs.Prelude.{◌≡◌, IfOk, OnOk};
-ghost use Rattle.fm_mean.specs.Actions.{numbers_for, handed, ports_for};
+ghost use Rattle.fm_mean.specs.Actions.{numbers_for, after_handing, ports_for};
 ghost use Rattle.fm_plain.specs.Arguments.{with_formal};
 
 use crate::expression::eval;
-use crate::frame::Frame;
-use crate::ports::PortMap;
+use crate::frame::{Frame, set_variable};
+use crate::ports::{PortMap, put_port};
 use fm_base::{Fault, Name, NoMemory};
 use fm_mean::Argument;
 use std::alloc::Global;
@@ -23,7 +23,7 @@ fn with_number(
     match numbers {
         Err(fault) => Ok(Err(fault)),
         Ok(mut frame) => {
-            frame.set(alloc, formal, value)?;
+            set_variable(alloc, &mut frame, formal, value)?;
             Ok(Ok(frame))
         }
     }
@@ -55,14 +55,14 @@ pub(crate) fn hand(
     variable: &Name,
     formal: &Name,
 ) -> Result<(), NoMemory>
-    ensures { OnOk result ((from.new, to.new) ≡ handed (from.old, to.old) variable.now formal.now) }
+    ensures { OnOk result ((from.new, to.new) ≡ after_handing (from.old, to.old) variable.now formal.now) }
 {
-    if to.contains(formal) {
+    if to.contains_key(formal) {
         return Ok(());
     }
-    match from.take(variable) {
+    match from.remove(variable) {
         Some(port) => {
-            let _nothing = to.put(alloc, formal, port)?;
+            let _nothing = put_port(alloc, to, formal, port)?;
             Ok(())
         }
         None => Ok(()),

@@ -3,7 +3,8 @@
 ghost use Rattle.std.specs.Prelude.{◌≡◌, ℕ, List};
 ghost use Rattle.std.specs.FinMap as map;
 ghost use Rattle.fm_mean.specs.declared.program.Program as declared;
-ghost use Rattle.fm_mean.specs.Actions.{action_of, action_at, action_by, receives, entry_of};
+ghost use Rattle.fm_mean.specs.Actions.{action_at, action_by, receives, entry_of};
+ghost use Rattle.fm_mean.specs.Steps.{ask_for, needed, need_of};
 ghost use Rattle.fm_plain.specs.Readings.{proc_of};
 ghost use Rattle.fm_plain.specs.Events.{IsBlocker};
 
@@ -15,7 +16,7 @@ use fm_mean::{Program, Statement};
 impl PlainProc {
     // At a RECEIVE by the port of this variable.
     fn receiving(&self, inport: &Name) -> Blocker<'_>
-        ensures { (line : ℕ) (item : List ℕ) → IsBlocker (receives line item (map.get (proc_of self.now).ports inport.now)) result }
+        ensures { (program : declared.Program) (line : ℕ) (item : List ℕ) → IsBlocker (needed (ask_for program (proc_of self.now) (receives line item (map.get (proc_of self.now).ports inport.now)))) result }
     {
         match self.ports.get(inport) {
             Some(port) => {
@@ -30,7 +31,7 @@ impl PlainProc {
     }
 
     fn blocker_at(&self, statement: &Statement) -> Blocker<'_>
-        ensures { (program : declared.Program) (line : ℕ) → IsBlocker (action_at program (proc_of self.now) line statement.now) result }
+        ensures { (program : declared.Program) (line : ℕ) → IsBlocker (needed (ask_for program (proc_of self.now) (action_at program (proc_of self.now) line statement.now))) result }
     {
         match statement {
             Statement::Receive(inport, _) => self.receiving(inport),
@@ -47,7 +48,7 @@ impl PlainProc {
     }
 
     fn running_blocker(&self, program: &Program) -> Blocker<'_>
-        ensures { IsBlocker (action_by program.now (proc_of self.now) (entry_of program.now (proc_of self.now))) result }
+        ensures { IsBlocker (needed (ask_for program.now (proc_of self.now) (action_by program.now (proc_of self.now) (entry_of program.now (proc_of self.now))))) result }
     {
         match self.entry(program) {
             Some(entry) => self.blocker_at(&entry.statement),
@@ -57,7 +58,7 @@ impl PlainProc {
 
     /// What may keep it from its next step. Takes no memory, and evaluates nothing.
     pub fn blocker<'a>(&'a self, program: &Program) -> Blocker<'a>
-        ensures { IsBlocker (action_of program.now (proc_of self.now)) result }
+        ensures { IsBlocker (need_of program.now (proc_of self.now)) result }
     {
         match &self.phase {
             Phase::Running => self.running_blocker(program),

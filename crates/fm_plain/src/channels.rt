@@ -1,13 +1,15 @@
 //! What a process does with a new channel, and with a message that came in.
 
-ghost use Rattle.std.specs.Prelude.{◌≡◌, ◌+◌, ◌++◌, IfOk, OnOk, option_to_list, Option, option_map};
+ghost use Rattle.std.specs.Prelude.{◌≡◌, ◌+◌, ◌++◌, IfOk, OnOk, OnErr, option_to_list, Option, option_map};
 ghost use Rattle.fm_base.specs.Channels as base;
 ghost use Rattle.fm_base.specs.declared.path.ChanName as declared;
 ghost use Rattle.fm_base.specs.declared.port.PortValue.TheVariants.{Writer, Reader};
-ghost use Rattle.fm_mean.specs.Steps.{made, received, word_in, first_word};
+ghost use Rattle.fm_mean.specs.Steps.{after_make, after_receive, word_in, first_word};
 ghost use Rattle.fm_plain.specs.Readings.{proc_of};
 
 use crate::counting::{behind, next_number};
+use crate::frame::set_variable;
+use crate::ports::put_port;
 use crate::process::PlainProc;
 use fm_base::{Fault, Line, Name, NoMemory};
 use fm_chan::{Item, Message, Port};
@@ -58,24 +60,29 @@ impl PlainProc {
         ends: (Port, Port),
     ) -> Result<Vec<Port>, NoMemory>
         ensures { IfOk result (λ v. (c : declared.ChanName) → ends.0 ≡ Reader c → ends.1 ≡ Writer c 0 →
-            (proc_of self.new ≡ (made (proc_of self.old) inport.now outport.now c).self)
-            × (v.items ≡ (made (proc_of self.old) inport.now outport.now c).drops)) }
+            (proc_of self.new ≡ (after_make (proc_of self.old) inport.now outport.now c).self)
+            × (v.items ≡ (after_make (proc_of self.old) inport.now outport.now c).drops)) }
     {
         let (reader, writer) = ends;
         let entry = behind(self.entry)?;
         let next_channel = next_number(self.next_channel)?;
         let mut displaced = Vec::new(alloc);
-        push_some(&mut displaced, self.ports.put(alloc, inport, reader)?)?;
-        push_some(&mut displaced, self.ports.put(alloc, outport, writer)?)?;
+        push_some(
+            &mut displaced,
+            put_port(alloc, &mut self.ports, inport, reader)?,
+        )?;
+        push_some(
+            &mut displaced,
+            put_port(alloc, &mut self.ports, outport, writer)?,
+        )?;
         self.entry = entry;
         self.next_channel = next_channel;
         Ok(displaced)
     }
 
     /// A variable gets the word of a message, or at the end of the channel the process faults at this
-    /// line. Gives the cost in turns. The ports in the message are the caller's to discard.
-    ///
-    /// After want of memory the process isn't to be used any more.
+    /// line. Gives the cost in turns. The ports in the message are the caller's to discard. After want of
+    /// memory the process is as it was.
     pub fn received(
         &mut self,
         alloc: Global,
@@ -83,14 +90,15 @@ impl PlainProc {
         item: &Name,
         message: Option<&Message>,
     ) -> Result<u64, NoMemory>
-        ensures { IfOk result (λ cost. (o : Option base.Message) → option_map (λ m. m.now) message.entry ≡ o →
-            (proc_of self.new ≡ (received (proc_of self.old) line.0 item.now o).self)
-            × (cost ≡ (received (proc_of self.old) line.0 item.now o).cost)) }
+        ensures ok { IfOk result (λ cost. (o : Option base.Message) → option_map (λ m. m.now) message.entry ≡ o →
+            (proc_of self.new ≡ (after_receive (proc_of self.old) line.0 item.now o).self)
+            × (cost ≡ (after_receive (proc_of self.old) line.0 item.now o).cost)) }
+        ensures err { OnErr result (proc_of self.new ≡ proc_of self.old) }
     {
         match message {
             Some(message) => {
                 let entry = behind(self.entry)?;
-                self.numbers.set(alloc, item, word_of_message(message))?;
+                set_variable(alloc, &mut self.numbers, item, word_of_message(message))?;
                 self.entry = entry;
                 Ok(2)
             }

@@ -2,14 +2,14 @@
 
 ghost use Rattle.std.specs.Prelude.{◌≡◌, IfOk, OnOk};
 ghost use Rattle.fm_mean.specs.Actions.{formals_of};
-ghost use Rattle.fm_mean.specs.Steps.{emptied, ended, kept};
+ghost use Rattle.fm_mean.specs.Steps.{emptied, after_end, after_keeping};
 ghost use Rattle.fm_plain.specs.Readings.{proc_of};
 ghost use Rattle.fm_plain.specs.Kept.{kept_of, kept_in};
 
 use crate::arguments::hand;
 use crate::entries::formals;
 use crate::frame::Frame;
-use crate::ports::PortMap;
+use crate::ports::{PortMap, into_ports};
 use crate::process::{Kept, Phase, PlainProc};
 use fm_base::{Name, NoMemory};
 use fm_chan::Port;
@@ -24,7 +24,7 @@ fn keep_formals(
     from: &mut PortMap,
     to: &mut PortMap,
 ) -> Result<(), NoMemory>
-    ensures { OnOk result ((from.new, to.new) ≡ kept formals.now (from.old, to.old)) }
+    ensures { OnOk result ((from.new, to.new) ≡ after_keeping formals.now (from.old, to.old)) }
 {
     match formals.split_first() {
         None => Ok(()),
@@ -40,8 +40,8 @@ impl PlainProc {
     ///
     /// After want of memory the process isn't to be used any more.
     pub fn end(&mut self, alloc: Global, program: &Program) -> Result<Vec<Port>, NoMemory>
-        ensures { IfOk result (λ v. (proc_of self.new ≡ (ended (proc_of self.old) (formals_of program.now (proc_of self.old).unit)).self)
-            × (v.items ≡ (ended (proc_of self.old) (formals_of program.now (proc_of self.old).unit)).drops)) }
+        ensures { IfOk result (λ v. (proc_of self.new ≡ (after_end (proc_of self.old) (formals_of program.now (proc_of self.old).unit)).self)
+            × (v.items ≡ (after_end (proc_of self.old) (formals_of program.now (proc_of self.old).unit)).drops)) }
     {
         let mut kept = PortMap::new(alloc);
         keep_formals(
@@ -52,7 +52,7 @@ impl PlainProc {
         )?;
         let others = replace(&mut self.ports, kept);
         self.phase = Phase::Ended;
-        others.into_ports(alloc)
+        into_ports(alloc, others)
     }
 
     /// Takes out what an ended child kept. Its lines stay. Takes no memory.

@@ -3,19 +3,20 @@
 use fm_base::{Fault, Line, Name};
 use fm_chan::{Message, Port};
 
-/// An event, with its operands. A step that touches more than its process is one, or that faults.
+/// An event, with its operands. A step that touches more than its process is one, or that faults. The
+/// names are those of the program; a port is told by the variable in which it stands.
 #[derive(Drop)]
-pub enum Event<'a> {
+pub enum Event<'p> {
     /// The statement at this line faults.
     Fault(Line, Fault),
     /// A channel is made for two variables, an inport and an outport.
-    Make(&'a Name, &'a Name),
-    /// A message goes out by a port.
-    Send(&'a Port, Message),
-    /// A message comes in by a port, at this line, for a variable.
-    Receive(&'a Port, Line, &'a Name),
+    Make(&'p Name, &'p Name),
+    /// A message goes out by the outport of a variable.
+    Send(&'p Name, Message),
+    /// A message comes in by the inport of a variable, at this line, for a variable.
+    Receive(&'p Name, Line, &'p Name),
     /// The outport of a variable is closed.
-    Close(&'a Name),
+    Close(&'p Name),
     /// The pending processes start.
     Start,
     /// The children of this block are joined, of which there are so many.

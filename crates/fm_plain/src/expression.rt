@@ -4,9 +4,10 @@ ghost use Rattle.std.specs.Prelude.{◌≡◌};
 ghost use Rattle.fm_mean.specs.Reading.{reading};
 ghost use Rattle.fm_mean.specs.Values.{value_of, with_sign, applied};
 
-use crate::frame::Frame;
-use fm_base::{Fault, add, multiply, negate, subtract};
+use crate::frame::{Frame, variable};
+use fm_base::Fault;
 use fm_mean::{Expr, Node, Operator, Sign};
+use fm_values::{add, multiply, negate, subtract};
 
 fn signed(sign: Sign, value: i64) -> Result<i64, Fault>
     ensures { result ≡ with_sign sign value }
@@ -32,7 +33,7 @@ fn value(node: &Node, frame: &Frame) -> Result<i64, Fault>
 {
     match node {
         Node::Number(n) => Ok(*n),
-        Node::Named(name) => Ok(frame.get(name)),
+        Node::Named(name) => Ok(variable(frame, name)),
         Node::Paren(inner) => value(inner, frame),
         Node::Signed(sign, inner) => {
             let x = value(inner, frame)?;

@@ -1,9 +1,9 @@
 //! The join of a process with its children.
 
-ghost use Rattle.std.specs.Prelude.{◌≡◌, ℕ, List, IfOk, OnOk, map};
-ghost use Rattle.fm_mean.specs.Process.{Proc};
+ghost use Rattle.std.specs.Prelude.{◌≡◌, true, ℕ, List, IfOk, OnOk, map};
+ghost use Rattle.fm_mean.specs.Process.{Proc, is_joining};
 ghost use Rattle.fm_mean.specs.Actions.{Join as join_of, action_of, body_of};
-ghost use Rattle.fm_mean.specs.Steps.{joined, back_words, all_back_words, joining_words};
+ghost use Rattle.fm_mean.specs.Steps.{after_join, back_words, all_back_words, joining_words};
 ghost use Rattle.fm_plain.specs.Readings.{proc_of};
 ghost use Rattle.fm_plain.specs.Kept.{kept_of, kept_in};
 ghost use Rattle.fm_plain.specs.Returning.{returned_of, kept_back, left_over};
@@ -11,7 +11,7 @@ ghost use Rattle.fm_plain.specs.Returning.{returned_of, kept_back, left_over};
 use crate::counting::{behind, both};
 use crate::entries::body;
 use crate::frame::Frame;
-use crate::ports::PortMap;
+use crate::ports::{PortMap, put_last};
 use crate::process::{Kept, Phase, PlainProc};
 use crate::returning::{Returned, arguments_of, place_in};
 use fm_base::{NoMemory, Seq};
@@ -60,7 +60,7 @@ impl Returned {
     {
         let mut waiting = children;
         'children: while let Some(child) = waiting.pop_front() {
-            child.ports.put_last(&mut self.drops)?;
+            put_last(child.ports, &mut self.drops)?;
         }
         Ok(())
     }
@@ -95,9 +95,9 @@ impl PlainProc {
         children: Vec<Kept>,
     ) -> Result<(Vec<Port>, u64), NoMemory>
         ensures { IfOk result (λ r. (kids : List Proc) → map kept_of kids ≡ map kept_in children.items →
-            (proc_of self.new ≡ (joined (body_of program.now (proc_of self.old).unit) (proc_of self.old) calls.now kids).self)
-            × (r.0.items ≡ (joined (body_of program.now (proc_of self.old).unit) (proc_of self.old) calls.now kids).drops)
-            × (r.1 ≡ (joined (body_of program.now (proc_of self.old).unit) (proc_of self.old) calls.now kids).cost)) }
+            (proc_of self.new ≡ (after_join (body_of program.now (proc_of self.old).unit) (proc_of self.old) calls.now kids).self)
+            × (r.0.items ≡ (after_join (body_of program.now (proc_of self.old).unit) (proc_of self.old) calls.now kids).drops)
+            × (r.1 ≡ (after_join (body_of program.now (proc_of self.old).unit) (proc_of self.old) calls.now kids).cost)) }
     {
         let entry = behind(self.entry)?;
         let body = body(program, self.unit);
@@ -118,7 +118,7 @@ impl PlainProc {
 
     /// Joins its children, which have ended: what each of them kept, in the order of the starts, is
     /// copied back by the arguments of its call. Gives the ports that are discarded, in order, and the
-    /// cost in turns. A process that doesn't wait for children stays as it was.
+    /// cost in turns.
     ///
     /// After want of memory the process isn't to be used any more.
     pub fn join(
@@ -127,22 +127,17 @@ impl PlainProc {
         program: &Program,
         children: Vec<Kept>,
     ) -> Result<(Vec<Port>, u64), NoMemory>
+        requires { is_joining (proc_of self.old).phase ≡ true }
         ensures { IfOk result (λ r. (b : ℕ) (calls : List ℕ) (kids : List Proc) → action_of program.now (proc_of self.old) ≡ join_of b calls → map kept_of kids ≡ map kept_in children.items →
-            (proc_of self.new ≡ (joined (body_of program.now (proc_of self.old).unit) (proc_of self.old) calls kids).self)
-            × (r.0.items ≡ (joined (body_of program.now (proc_of self.old).unit) (proc_of self.old) calls kids).drops)
-            × (r.1 ≡ (joined (body_of program.now (proc_of self.old).unit) (proc_of self.old) calls kids).cost)) }
+            (proc_of self.new ≡ (after_join (body_of program.now (proc_of self.old).unit) (proc_of self.old) calls kids).self)
+            × (r.0.items ≡ (after_join (body_of program.now (proc_of self.old).unit) (proc_of self.old) calls kids).drops)
+            × (r.1 ≡ (after_join (body_of program.now (proc_of self.old).unit) (proc_of self.old) calls kids).cost)) }
     {
         match replace(&mut self.phase, Phase::Running) {
             Phase::Joining(_, calls) => self.join_by(alloc, program, calls.as_slice(), children),
-            Phase::Running => Ok((Vec::new(alloc), 0)),
-            Phase::Ended => {
-                self.phase = Phase::Ended;
-                Ok((Vec::new(alloc), 0))
-            }
-            Phase::Faulted(line, fault) => {
-                self.phase = Phase::Faulted(line, fault);
-                Ok((Vec::new(alloc), 0))
-            }
+            Phase::Running => unreachable!(),
+            Phase::Ended => unreachable!(),
+            Phase::Faulted(_, _) => unreachable!(),
         }
     }
 }

@@ -1,7 +1,7 @@
 //! Runs the statements of one process over the trees of its program.
 //!
 //! Contracts see a process as the meaning's (`proc_of`). Steps that touch the process alone are made by
-//! `PlainProc::advance`. The next event is told by `PlainProc::event`, and done by whoever has the
+//! `PlainProc::advance`, which tells the event at which it stopped. That is done by whoever has the
 //! channels and the other processes, who then calls what goes on with it: `fail`, `put_channel`, `sent`,
 //! `received`, `close`, `start`, `join` or `end`. `PlainProc::blocker` tells cheaply what a process waits
 //! for.
@@ -13,7 +13,6 @@
 
 mod advance;
 mod arguments;
-mod before;
 mod blocking;
 mod channels;
 mod counting;
@@ -26,7 +25,7 @@ mod frame;
 mod going_on;
 mod joining;
 mod local;
-mod next_event;
+mod operands;
 mod ports;
 mod printing;
 mod process;
@@ -39,6 +38,3 @@ pub use event::{Blocker, Event};
 pub use frame::Frame;
 pub use ports::PortMap;
 pub use process::{Kept, Pending, Phase, PlainProc};
-
-#[cfg(test)]
-mod tests;

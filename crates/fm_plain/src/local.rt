@@ -1,74 +1,86 @@
 //! One local step of a process.
 
-ghost use Rattle.std.specs.Prelude.{◌≡◌, ℕ, IfOk};
+ghost use Rattle.std.specs.Prelude.{◌≡◌, IfOk, OnErr};
 ghost use Rattle.fm_mean.specs.Actions.{action_of, action_at, action_by, entry_of};
 ghost use Rattle.fm_plain.specs.Readings.{proc_of};
-ghost use Rattle.fm_plain.specs.Local.{IsLocal, IsStill};
+ghost use Rattle.fm_plain.specs.Local.{IsLocal};
 
+use crate::event::Event;
 use crate::process::{Phase, PlainProc};
-use fm_base::{Fault, NoMemory};
-use fm_mean::{Program, Statement};
+use fm_base::NoMemory;
+use fm_mean::{Entry, Program, Statement};
 use std::alloc::Global;
 
-/// What came of a local step.
-#[derive(Clone, Copy, Debug, PartialEq, Eq)]
-pub(crate) enum Local {
-    /// It is done, at this cost in turns.
-    Done(u64),
-    /// The next step is an event, or there is none.
-    Event,
-    /// The next step faults.
-    Fault(Fault),
+/// What the next step is.
+#[derive(Drop)]
+pub(crate) enum Local<'p> {
+    /// It was local, and is made: its cost in turns, and that of all steps so far.
+    Done(u64, u64),
+    /// There is none.
+    Rest,
+    /// An event, which is to be done.
+    Event(Event<'p>),
 }
 
-fn local_at(
+fn local_at<'p>(
     alloc: Global,
-    program: &Program,
+    program: &'p Program,
     process: &mut PlainProc,
-    statement: &Statement,
-) -> Result<Local, NoMemory>
-    ensures { IfOk result (λ l. (line : ℕ) → IsLocal (action_at program.now (proc_of process.old) line statement.now) (proc_of process.old) l (proc_of process.new)) }
+    entry: &'p Entry,
+    paid: u64,
+) -> Result<Local<'p>, NoMemory>
+    ensures { IfOk result (λ l. IsLocal program.now (action_at program.now (proc_of process.old) entry.now.line.0 entry.now.statement) paid (proc_of process.old) l (proc_of process.new)) }
 {
-    match statement {
-        Statement::Assign(name, expr) => process.assign(alloc, name, expr),
-        Statement::Print(items) => process.print(alloc, items.as_slice()),
-        Statement::Channel(_, _) => Ok(Local::Event),
-        Statement::Send(outport, expr) => Ok(process.before_send(outport, expr)),
-        Statement::Receive(inport, _) => Ok(process.before_receive(inport)),
-        Statement::EndChannel(outport) => Ok(process.before_close(outport)),
-        Statement::Processes => process.begin_block(),
-        Statement::ProcessCall(unit, arguments) => {
-            process.call(alloc, program, *unit, arguments.as_slice())
+    let line = entry.line;
+    match &entry.statement {
+        Statement::Assign(name, expr) => process.assign(alloc, line, name, expr, paid),
+        Statement::Print(items) => process.print(alloc, line, items.as_slice(), paid),
+        Statement::Channel(inport, outport) => Ok(Local::Event(Event::Make(inport, outport))),
+        Statement::Send(outport, expr) => {
+            let event = process.send_at(alloc, line, outport, expr)?;
+            Ok(Local::Event(event))
         }
-        Statement::EndProcesses => Ok(Local::Event),
-        Statement::End => Ok(Local::Event),
+        Statement::Receive(inport, item) => {
+            Ok(Local::Event(process.receive_at(line, inport, item)))
+        }
+        Statement::EndChannel(outport) => Ok(Local::Event(process.close_at(line, outport))),
+        Statement::Processes => process.begin_block(paid),
+        Statement::ProcessCall(unit, arguments) => {
+            process.call(alloc, program, line, *unit, arguments.as_slice(), paid)
+        }
+        Statement::EndProcesses => Ok(Local::Event(Event::Start)),
+        Statement::End => Ok(Local::Event(Event::End)),
     }
 }
 
-fn local_running(
+fn local_running<'p>(
     alloc: Global,
-    program: &Program,
+    program: &'p Program,
     process: &mut PlainProc,
-) -> Result<Local, NoMemory>
-    ensures { IfOk result (λ l. IsLocal (action_by program.now (proc_of process.old) (entry_of program.now (proc_of process.old))) (proc_of process.old) l (proc_of process.new)) }
+    paid: u64,
+) -> Result<Local<'p>, NoMemory>
+    ensures { IfOk result (λ l. IsLocal program.now (action_by program.now (proc_of process.old) (entry_of program.now (proc_of process.old))) paid (proc_of process.old) l (proc_of process.new)) }
 {
     match process.entry(program) {
-        Some(entry) => local_at(alloc, program, process, &entry.statement),
-        None => Ok(Local::Event),
+        Some(entry) => local_at(alloc, program, process, entry, paid),
+        None => Ok(Local::Rest),
     }
 }
 
-/// Does the next step of a process where that is local, and else leaves it as it was.
-pub(crate) fn step_locally(
+/// Does the next step of a process where that is local, and else leaves it as it was. `paid` is the cost
+/// in turns so far.
+pub(crate) fn step_locally<'p>(
     alloc: Global,
-    program: &Program,
+    program: &'p Program,
     process: &mut PlainProc,
-) -> Result<Local, NoMemory>
-    ensures { IfOk result (λ l. IsLocal (action_of program.now (proc_of process.old)) (proc_of process.old) l (proc_of process.new)) }
+    paid: u64,
+) -> Result<Local<'p>, NoMemory>
+    ensures { IfOk result (λ l. IsLocal program.now (action_of program.now (proc_of process.old)) paid (proc_of process.old) l (proc_of process.new)) }
 {
-    if process.is_running() {
-        local_running(alloc, program, process)
-    } else {
-        Ok(Local::Event)
+    match &process.phase {
+        Phase::Running => local_running(alloc, program, process, paid),
+        Phase::Joining(block, calls) => Ok(Local::Event(Event::Join(*block, calls.len()))),
+        Phase::Ended => Ok(Local::Rest),
+        Phase::Faulted(_, _) => Ok(Local::Rest),
     }
 }

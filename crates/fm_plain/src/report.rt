@@ -1,12 +1,13 @@
 //! What a process shows.
 
-ghost use Rattle.std.specs.Prelude.{◌≡◌, MatchOption, None, Some};
+ghost use Rattle.std.specs.Prelude.{◌≡◌, option_copied};
 ghost use Rattle.std.specs.FinMap as map;
 ghost use Rattle.fm_mean.specs.Values.{variable};
 ghost use Rattle.fm_mean.specs.Process.{has_ended};
 ghost use Rattle.fm_plain.specs.Readings.{proc_of};
 ghost use Rattle.fm_plain.specs.Faults.{IsFaultOf};
 
+use crate::frame::variable;
 use crate::process::{Phase, PlainProc};
 use fm_base::{Fault, Line, Name, Seq};
 use fm_chan::Port;
@@ -61,12 +62,12 @@ impl PlainProc {
     pub fn number(&self, name: &Name) -> i64
         ensures { result ≡ variable (proc_of self.now).numbers name.now }
     {
-        self.numbers.get(name)
+        variable(&self.numbers, name)
     }
 
     /// The port of a variable, if it isn't NULL.
     pub fn port(&self, name: &Name) -> Option<&Port>
-        ensures { MatchOption result (map.get (proc_of self.now).ports name.now ≡ None) (λ port. map.get (proc_of self.now).ports name.now ≡ Some port.now) }
+        ensures { option_copied result ≡ map.get (proc_of self.now).ports name.now }
     {
         self.ports.get(name)
     }

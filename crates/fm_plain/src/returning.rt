@@ -7,8 +7,8 @@ ghost use Rattle.fm_plain.specs.Kept.{kept_in};
 ghost use Rattle.fm_plain.specs.Returning.{returned_of, child_back, kept_back};
 
 use crate::entries::item_at;
-use crate::frame::Frame;
-use crate::ports::PortMap;
+use crate::frame::{Frame, set_variable, variable};
+use crate::ports::{PortMap, put_last, put_port};
 use crate::process::Kept;
 use fm_base::{Name, NoMemory, Seq};
 use fm_chan::Port;
@@ -75,7 +75,7 @@ impl Returned {
         ensures { OnOk result (returned_of self.new ≡ number_back (returned_of self.old) kid.now formal.now (place_in expr.now)) }
     {
         match place_in(expr) {
-            Some(place) => self.numbers.set(alloc, place, kid.get(formal)),
+            Some(place) => set_variable(alloc, &mut self.numbers, place, variable(kid, formal)),
             None => Ok(()),
         }
     }
@@ -83,8 +83,8 @@ impl Returned {
     fn port_back(&mut self, alloc: Global, formal: &Name, place: &Name) -> Result<(), NoMemory>
         ensures { OnOk result (returned_of self.new ≡ port_back (returned_of self.old) formal.now place.now (finite.get self.old.rest formal.now)) }
     {
-        match self.rest.take(formal) {
-            Some(port) => match self.ports.put(alloc, place, port)? {
+        match self.rest.remove(formal) {
+            Some(port) => match put_port(alloc, &mut self.ports, place, port)? {
                 Some(displaced) => self.drops.push(displaced),
                 None => Ok(()),
             },
@@ -131,6 +131,6 @@ impl Returned {
         self.rest = ports;
         self.each_back(alloc, &numbers, arguments)?;
         let rest = replace(&mut self.rest, PortMap::new(alloc));
-        rest.put_last(&mut self.drops)
+        put_last(rest, &mut self.drops)
     }
 }

@@ -8,4 +8,4 @@ pub returns-in-None : goal.returns-in-None
 returns-in-None c =
     let r = c.args.self.now in
     ap (λ (m : Ports). returned_of (record r { rest = m })) c.in-None.ensures.map
-    ∙ none_back (returned_of r) c.args.formal.now c.args.place.now (sym c.in-None.ensures.port)
+    ∙ none_back (returned_of r) c.args.formal.now c.args.place.now (sym c.in-None.ensures.value)
