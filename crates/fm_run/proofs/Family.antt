@@ -1,5 +1,5 @@
 -- Children that start and children that are joined, one after the other.
-use Rattle.std.proofs.Common.{◌≡◌, ℕ, zero, suc, ◌+◌, ◌<◌, ◌≤◌, true, false, cond, Option, Some, None, List, [], ◌∷◌, ◌++◌, length, map, refl, sym, ap, ◌∙◌, arith}
+use Rattle.std.proofs.Common.{◌≡◌, ℕ, zero, suc, ◌+◌, ◌-◌, ◌<◌, ◌≤◌, true, false, cond, Option, Some, None, List, [], ◌∷◌, ◌++◌, length, map, refl, sym, ap, ◌∙◌, arith}
 use Rattle.std.proofs.lemmas.List.{map-append}
 use Rattle.std.specs.Prelude.{is_some, option_map, option_to_list}
 use Rattle.std.specs.FinMap.{get, insert}
@@ -9,7 +9,7 @@ use Rattle.fm_net.specs.Machine.{Place, Procs, child, with_child, gathered, star
 use Rattle.fm_net.proofs.Keys.{path_order}
 use Rattle.fm_net.proofs.Children.{other_child, off_children, child_there, first_gathered}
 use Rattle.fm_mean.specs.Process.{Proc, has_ended}
-use Rattle.fm_mean.specs.Report.{ended_at}
+use Rattle.fm_mean.specs.Report.{ended_at, awaited}
 use Rattle.fm_mean.specs.Steps.{emptied}
 
 -- ---- starting
@@ -134,3 +134,11 @@ module _ (m : Procs Proc) (p : Place) (b : ℕ) where
       let l = last_gathered 1 n ys (ap (λ (j : ℕ). gathered has_ended m p b 1 j) next ∙ e) in
       ap (map f) (sym l.whole) ∙ map-append f l.front (l.last ∷ []) ∙ ap (λ zs. zs ++ f l.last ∷ []) (before l.front l.before)
       ∙ ap (λ zs. map g ks ++ zs) (kept_of_one f g o l.last (this ∙ ap (option_map f) l.is)) ∙ sym (map-append g ks (option_to_list o))
+
+  -- where one child more has ended, another is waited for
+  pub awaited_more : (count place : ℕ) → place < count → ended_at (get m (child p b (place + 1))) ≡ true → awaited m p b (place + 1) (count - place) ≡ awaited m p b (place + 1 + 1) (count - (place + 1))
+  awaited_more count place low done =
+      let left : count - place ≡ suc (count - (place + 1)) = omega arith in
+      let next : suc (place + 1) ≡ place + 1 + 1 = omega arith in
+      ap (awaited m p b (place + 1)) left ∙ ap (λ c. cond c (awaited m p b (suc (place + 1)) (count - (place + 1))) (Some (child p b (place + 1)))) done
+      ∙ ap (λ (k : ℕ). awaited m p b k (count - (place + 1))) next

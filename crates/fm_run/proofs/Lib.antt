@@ -1,12 +1,11 @@
 pub mod Maps
 pub mod Steps
 pub mod Family
-pub mod Histories
 pub mod Able
-pub mod Formals
 pub mod Performing
 pub mod Doing
 pub mod Parts
-pub mod Started
 pub mod Numbers
 pub mod Playing
+pub mod Slices
+pub mod Following

@@ -1,49 +1,46 @@
 -- Numbers of processes in a list.
-use Rattle.std.proofs.Common.{◌≡◌, ◌⊎◌, inl, inr, ℕ, zero, suc, ◌+◌, ◌<◌, Bool, true, false, cond, List, [], ◌∷◌, ◌++◌, length, get_or, filter, refl, sym, ap, ◌∙◌, subst, arith}
-use Rattle.fm_run.specs.Orders.{Among, IsMarked}
-use Rattle.fm_run.proofs.Started.{among_left, among_right}
+use Rattle.std.proofs.Common.{◌≡◌, ◌⊎◌, ◌≢◌, inl, inr, ℕ, zero, suc, ◌+◌, ◌<◌, ◌≤◌, Bool, true, false, cond, not, ◌==◌, ◌&&◌, ◌||◌, Option, Some, None, List, [], ◌∷◌, ◌++◌, length, get_or, filter, refl, sym, ap, ◌∙◌, subst, arith, eqb-true, eq-eqb, append_assoc, append-nil, take}
+use Rattle.std.proofs.lemmas.List.{take_more}
+use Rattle.std.specs.Prelude.{slice_get}
+use Rattle.std.specs.List.{range_with_len}
+use Rattle.std.proofs.lemmas.Bool.{ne_eqb}
+use Rattle.std.proofs.lemmas.List.Elements.{filter-append}
+use Rattle.std.proofs.lemmas.List.Folds.{list_any-append}
+use Rattle.fm_run.specs.Orders.{Among, EachOnce, AreMarked, place_chosen, chosen, is_among, others_in, is_new, in_turn}
 use native.Mathlib.Decide.{ℕ_discrete}
 
-pub among_at : (xs : List ℕ) (k : ℕ) → k < length xs → Among (get_or xs k 0) xs
-among_at [] k low = absurd (omega arith)
-among_at (x ∷ xs) zero low = inl refl
-among_at (x ∷ xs) (suc k) low = inr (among_at xs k (omega arith))
+pub among_left : (n : ℕ) (xs ys : List ℕ) → Among n xs → Among n (xs ++ ys)
+among_left n [] ys h = absurd h
+among_left n (x ∷ xs) ys (inl e) = inl e
+among_left n (x ∷ xs) ys (inr h) = inr (among_left n xs ys h)
 
--- one number more is put last
-pub among_old : (numbers new : List ℕ) (x : ℕ) → new ≡ numbers ++ x ∷ [] → (n : ℕ) → Among n numbers → Among n new
-among_old numbers new x is n h = subst (Among n) (sym is) (among_left n numbers (x ∷ []) h)
+among_right : (n : ℕ) (xs ys : List ℕ) → Among n ys → Among n (xs ++ ys)
+among_right n [] ys h = h
+among_right n (x ∷ xs) ys h = inr (among_right n xs ys h)
 
-pub among_new : (numbers new : List ℕ) (x : ℕ) → new ≡ numbers ++ x ∷ [] → Among x new
-among_new numbers new x is = subst (Among x) (sym is) (among_right x numbers (x ∷ []) (inl refl))
+-- ---- who is chosen
 
-pub put_marked : (marks later : List Bool) (numbers new : List ℕ) (x : ℕ) → IsMarked marks numbers → ((n : ℕ) → get_or later n false ≡ true → (n ≡ x) ⊎ (get_or marks n false ≡ true)) → new ≡ numbers ++ x ∷ [] → IsMarked later new
-put_marked marks later numbers new x before marked is n e = go (marked n e)
-  where
-    go : (n ≡ x) ⊎ (get_or marks n false ≡ true) → Among n new
-    go (inl same) = subst (λ (k : ℕ). Among k new) (sym same) (among_new numbers new x is)
-    go (inr h) = among_old numbers new x is n (before n h)
+pub among_get : (xs : List ℕ) (k n : ℕ) → slice_get xs k ≡ Some n → Among n xs
+among_get [] k n is = absurd (cc is)
+among_get (x ∷ xs) zero n is = inl (let same : x ≡ n = cc is in sym same)
+among_get (x ∷ xs) (suc k) n is = inr (among_get xs k n is)
 
--- the numbers below, with one more
-pub below_put : (own number : ℕ) (marks : List Bool) (numbers new : List ℕ) → IsMarked marks numbers → ((n : ℕ) → Among n numbers → Among n new) → (number ≡ own) ⊎ ((get_or marks number false ≡ true) ⊎ Among number new)
-    → ((n : ℕ) → n < number → (n ≡ own) ⊎ Among n numbers) → (n : ℕ) → n < number + 1 → (n ≡ own) ⊎ Among n new
-below_put own number marks numbers new marked kept put below n low = elim (ℕ_discrete n number) [
-  | yes same ↦ subst (λ (k : ℕ). (k ≡ own) ⊎ Among k new) (sym same) (here put)
-  | no other ↦ there (below n (omega arith))
-]
-  where
-    here : (number ≡ own) ⊎ ((get_or marks number false ≡ true) ⊎ Among number new) → (number ≡ own) ⊎ Among number new
-    here (inl e) = inl e
-    here (inr (inl m)) = inr (kept number (marked number m))
-    here (inr (inr h)) = inr h
+some_get : (xs : List ℕ) (k : ℕ) → k < length xs → (n : ℕ) × (slice_get xs k ≡ Some n)
+some_get [] k low = absurd (omega arith)
+some_get (x ∷ xs) zero low = (x, refl)
+some_get (x ∷ xs) (suc k) low = some_get xs k (omega arith)
 
-    there : (n ≡ own) ⊎ Among n numbers → (n ≡ own) ⊎ Among n new
-    there (inl e) = inl e
-    there (inr h) = inr (kept n h)
+-- the place is one of those
+pub place_within : (choice : Option ℕ) (count : ℕ) → 0 < count → place_chosen choice count < count
+place_within None count some = some
+place_within (Some n) count some = omega arith
 
--- and its own last
-pub all_with_own : (own n : ℕ) (numbers new : List ℕ) → (n ≡ own) ⊎ Among n numbers → new ≡ numbers ++ own ∷ [] → Among n new
-all_with_own own n numbers new (inl e) is = subst (λ (k : ℕ). Among k new) (sym e) (among_new numbers new own is)
-all_with_own own n numbers new (inr h) is = among_old numbers new own is n h
+-- none is chosen only where there is none
+pub none_chosen : (choice : Option ℕ) (able : List ℕ) → chosen choice able ≡ None → able ≡ []
+none_chosen choice [] none = refl
+none_chosen choice (n ∷ able) none =
+    let who = some_get (n ∷ able) (place_chosen choice (length (n ∷ able))) (place_within choice (length (n ∷ able)) (omega arith)) in
+    absurd (cc (sym none ∙ who.1))
 
 -- ---- those that pass a test
 
@@ -64,3 +61,204 @@ filter_among p (x ∷ xs) n h = go (λ h'. filter_among p xs n h') (p x) refl h
     go rest true e (inl same) = ap p same ∙ e
     go rest true e (inr h') = rest h'
     go rest false e h' = rest h'
+
+-- one number more is asked
+pub filter_more : (p : ℕ → Bool) (xs : List ℕ) (n : ℕ) → filter p (xs ++ n ∷ []) ≡ filter p xs ++ cond (p n) (n ∷ []) []
+filter_more p xs n = filter-append p xs (n ∷ [])
+
+-- one of the list more, which is the own one or another
+pub others_more : (own : ℕ) (xs : List ℕ) (i : ℕ) → i < length xs → get_or xs i 0 ≢ own → others_in own (take (i + 1) xs) ≡ others_in own (take i xs) ++ get_or xs i 0 ∷ []
+others_more own xs i low differs =
+    ap (others_in own) (take_more xs i 0 low) ∙ filter_more (λ m. not (m == own)) (take i xs) (get_or xs i 0)
+    ∙ ap (λ (b : Bool). others_in own (take i xs) ++ cond (not b) (get_or xs i 0 ∷ []) []) (ne_eqb (get_or xs i 0) own differs)
+
+pub others_same : (own : ℕ) (xs : List ℕ) (i : ℕ) → i < length xs → get_or xs i 0 ≡ own → others_in own (take (i + 1) xs) ≡ others_in own (take i xs)
+others_same own xs i low same =
+    ap (others_in own) (take_more xs i 0 low) ∙ filter_more (λ m. not (m == own)) (take i xs) (get_or xs i 0)
+    ∙ ap (λ (b : Bool). others_in own (take i xs) ++ cond (not b) (get_or xs i 0 ∷ []) []) (eq-eqb (get_or xs i 0) own same) ∙ append-nil (others_in own (take i xs))
+
+-- ---- whether a number is in the list
+
+among_is : (ns : List ℕ) (n : ℕ) → is_among ns n ≡ true → Among n ns
+among_is [] n e = absurd (cc e)
+among_is (m ∷ ns) n e = go (λ e'. among_is ns n e') (m == n) refl e
+  where
+    go : (is_among ns n ≡ true → Among n ns) → (b : Bool) → (m == n) ≡ b → (b || is_among ns n) ≡ true → Among n (m ∷ ns)
+    go rest true same e' = inl (sym (eqb-true m n same))
+    go rest false same e' = inr (rest e')
+
+-- the own number tells nothing of another
+is_among_others : (own n : ℕ) → n ≢ own → (ns : List ℕ) → is_among (others_in own ns) n ≡ is_among ns n
+is_among_others own n other [] = refl
+is_among_others own n other (m ∷ ns) = go (ℕ_discrete m own) (is_among_others own n other ns)
+  where
+    go : Dec (m ≡ own) → is_among (others_in own ns) n ≡ is_among ns n → is_among (cond (not (m == own)) (m ∷ others_in own ns) (others_in own ns)) n ≡ (m == n || is_among ns n)
+    go (yes same) rest =
+        let not_n : (m == n) ≡ false = ne_eqb m n (λ e. other (sym e ∙ same)) in
+        ap (λ (b : Bool). is_among (cond (not b) (m ∷ others_in own ns) (others_in own ns)) n) (eq-eqb m own same)
+        ∙ rest ∙ sym (ap (λ (b : Bool). b || is_among ns n) not_n)
+    go (no differs) rest =
+        ap (λ (b : Bool). is_among (cond (not b) (m ∷ others_in own ns) (others_in own ns)) n) (ne_eqb m own differs)
+        ∙ ap (λ (b : Bool). m == n || b) rest
+
+or_false : (b : Bool) → (b || false) ≡ b
+or_false true = refl
+or_false false = refl
+
+is_among_more : (ns : List ℕ) (x n : ℕ) → is_among (ns ++ x ∷ []) n ≡ (is_among ns n || x == n)
+is_among_more ns x n = list_any-append (λ m. m == n) ns (x ∷ []) ∙ ap (λ (b : Bool). is_among ns n || b) (or_false (x == n))
+
+-- one number more is marked
+pub put_marked : (count : ℕ) (marks later : List Bool) (numbers new : List ℕ) (x : ℕ) → AreMarked count marks numbers → length later ≡ length marks
+    → ((n : ℕ) → n < length marks → get_or later n false ≡ (get_or marks n false || x == n)) → new ≡ numbers ++ x ∷ [] → AreMarked count later new
+put_marked count marks later numbers new x before same marked is = record {
+  whole = same ∙ before.whole;
+  marked = λ n low.
+      marked n (omega (arith, before.whole)) ∙ ap (λ (b : Bool). b || x == n) (before.marked n low)
+      ∙ sym (is_among_more numbers x n) ∙ ap (λ (ns : List ℕ). is_among ns n) (sym is);
+}
+
+-- nobody is marked
+pub none_marked : (count : ℕ) (marks : List Bool) (numbers : List ℕ) → length marks ≡ count → ((n : ℕ) → n < count → get_or marks n false ≡ false) → numbers ≡ [] → AreMarked count marks numbers
+none_marked count marks numbers whole none is = record {
+  whole = whole;
+  marked = λ n low. none n low ∙ ap (λ (ns : List ℕ). is_among ns n) (sym is);
+}
+
+-- the marks tell who is new
+pub new_by_marks : (own : ℕ) (old : List ℕ) (count : ℕ) (marks : List Bool) → AreMarked count marks (others_in own old) → (n : ℕ) → n < count
+    → (not (n == own) && not (get_or marks n false)) ≡ is_new own old n
+new_by_marks own old count marks are n low = go (ℕ_discrete n own)
+  where
+    go : Dec (n ≡ own) → (not (n == own) && not (get_or marks n false)) ≡ (not (n == own) && not (is_among old n))
+    go (yes same) =
+        let is : (n == own) ≡ true = eq-eqb n own same in
+        ap (λ (b : Bool). not b && not (get_or marks n false)) is ∙ sym (ap (λ (b : Bool). not b && not (is_among old n)) is)
+    go (no differs) = ap (λ (b : Bool). not (n == own) && not b) (are.marked n low ∙ is_among_others own n differs old)
+
+-- ---- all numbers in turn
+
+range_more : (a n : ℕ) → range_with_len a (suc n) ≡ range_with_len a n ++ (a + n) ∷ []
+range_more a zero = ap (λ (k : ℕ). k ∷ []) (omega arith)
+range_more a (suc n) = ap (λ ks. a ∷ ks) (range_more (a + 1) n ∙ ap (λ (k : ℕ). range_with_len (a + 1) n ++ k ∷ []) (omega arith))
+
+-- one process more was asked whether it's new
+pub asked_more : (p : ℕ → Bool) (front : List ℕ) (n : ℕ) → (front ++ filter p (range_with_len 0 n)) ++ cond (p n) (n ∷ []) [] ≡ front ++ filter p (range_with_len 0 (n + 1))
+asked_more p front n =
+    let next : n + 1 ≡ suc n = omega arith in
+    let last : 0 + n ≡ n = omega arith in
+    append_assoc front (filter p (range_with_len 0 n)) (cond (p n) (n ∷ []) [])
+    ∙ ap (λ ns. front ++ ns) (
+    sym (filter_more p (range_with_len 0 n) n) ∙ ap (λ (k : ℕ). filter p (range_with_len 0 n ++ k ∷ [])) (sym last)
+    ∙ ap (filter p) (sym (range_more 0 n)) ∙ ap (λ (k : ℕ). filter p (range_with_len 0 k)) (sym next)
+    )
+
+among_range : (a n k : ℕ) → a ≤ k → k < a + n → Among k (range_with_len a n)
+among_range a zero k low high = absurd (omega arith)
+among_range a (suc n) k low high = elim (ℕ_discrete k a) [
+  | yes same ↦ inl same
+  | no differs ↦ inr (among_range (a + 1) n k (omega arith) (omega arith))
+]
+
+abbrev new_in : (own : ℕ) → (old : List ℕ) → (count : ℕ) → List ℕ
+new_in own old count = filter (is_new own old) (range_with_len 0 count)
+
+-- each of so many processes has its turn
+pub all_in_turn : (own : ℕ) (old : List ℕ) (count n : ℕ) → n < count → Among n (in_turn own old count)
+all_in_turn own old count n low = elim (ℕ_discrete n own) [
+  | yes same ↦ among_right n (others_in own old) (new_in own old count ++ own ∷ []) (among_right n (new_in own old count) (own ∷ []) (inl same))
+  | no differs ↦ go differs (is_among old n) refl
+]
+  where
+    go : n ≢ own → (b : Bool) → is_among old n ≡ b → Among n (in_turn own old count)
+    go differs true e =
+        among_left n (others_in own old) (new_in own old count ++ own ∷ []) (among_filter (λ m. not (m == own)) old n (among_is old n e) (ap not (ne_eqb n own differs)))
+    go differs false e =
+        let new : is_new own old n ≡ true = ap (λ (b : Bool). not b && not (is_among old n)) (ne_eqb n own differs) ∙ ap not e in
+        among_right n (others_in own old) (new_in own old count ++ own ∷ []) (among_left n (new_in own old count) (own ∷ []) (among_filter (is_new own old) (range_with_len 0 count) n (among_range 0 count n (omega arith) (omega arith)) new))
+
+-- ---- no number twice
+
+in_filter : (p : ℕ → Bool) (xs : List ℕ) (n : ℕ) → Among n (filter p xs) → Among n xs
+in_filter p [] n h = absurd h
+in_filter p (x ∷ xs) n h = go (λ h'. in_filter p xs n h') (p x) h
+  where
+    go : (Among n (filter p xs) → Among n xs) → (b : Bool) → Among n (cond b (x ∷ filter p xs) (filter p xs)) → Among n (x ∷ xs)
+    go rest true (inl e) = inl e
+    go rest true (inr h') = inr (rest h')
+    go rest false h' = inr (rest h')
+
+pub once_filter : (p : ℕ → Bool) (xs : List ℕ) → EachOnce xs → EachOnce (filter p xs)
+once_filter p [] once = tt
+once_filter p (x ∷ xs) once = go (p x) (once_filter p xs once.1)
+  where
+    go : (b : Bool) → EachOnce (filter p xs) → EachOnce (cond b (x ∷ filter p xs) (filter p xs))
+    go true rest = (λ h. once.0 (in_filter p xs x h), rest)
+    go false rest = rest
+
+among_either : (n : ℕ) (xs ys : List ℕ) → Among n (xs ++ ys) → Among n xs ⊎ Among n ys
+among_either n [] ys h = inr h
+among_either n (x ∷ xs) ys (inl e) = inl (inl e)
+among_either n (x ∷ xs) ys (inr h) = go (among_either n xs ys h)
+  where
+    go : Among n xs ⊎ Among n ys → Among n (x ∷ xs) ⊎ Among n ys
+    go (inl h') = inl (inr h')
+    go (inr h') = inr h'
+
+once_append : (xs ys : List ℕ) → EachOnce xs → EachOnce ys → ((n : ℕ) → Among n xs → Among n ys → ⊥) → EachOnce (xs ++ ys)
+once_append [] ys first second apart = second
+once_append (x ∷ xs) ys first second apart =
+    (λ h. go (among_either x xs ys h), once_append xs ys first.1 second (λ n h h'. apart n (inr h) h'))
+  where
+    go : Among x xs ⊎ Among x ys → ⊥
+    go (inl h) = first.0 h
+    go (inr h) = apart x (inl refl) h
+
+from_start : (a n k : ℕ) → Among k (range_with_len a n) → a ≤ k
+from_start a zero k h = absurd h
+from_start a (suc n) k (inl e) = omega arith
+from_start a (suc n) k (inr h) = let low = from_start (a + 1) n k h in omega arith
+
+once_range : (a n : ℕ) → EachOnce (range_with_len a n)
+once_range a zero = tt
+once_range a (suc n) = (λ h. let low = from_start (a + 1) n a h in omega (arith, low), once_range (a + 1) n)
+
+is_among_from : (ns : List ℕ) (n : ℕ) → Among n ns → is_among ns n ≡ true
+is_among_from [] n h = absurd h
+is_among_from (m ∷ ns) n (inl e) = ap (λ (b : Bool). b || is_among ns n) (eq-eqb m n (sym e))
+is_among_from (m ∷ ns) n (inr h) = ap (λ (b : Bool). m == n || b) (is_among_from ns n h) ∙ or_true (m == n)
+  where
+    or_true : (b : Bool) → (b || true) ≡ true
+    or_true true = refl
+    or_true false = refl
+
+not_own : (own : ℕ) → not (own == own) ≡ false
+not_own own = ap not (eq-eqb own own refl)
+
+-- where no number was twice in the list, none is in turn twice
+pub once_in_turn : (own : ℕ) (old : List ℕ) (count : ℕ) → EachOnce old → EachOnce (in_turn own old count)
+once_in_turn own old count once =
+    once_append (others_in own old) (new_in own old count ++ own ∷ []) (once_filter (λ m. not (m == own)) old once)
+    (once_append (new_in own old count) (own ∷ []) (once_filter (is_new own old) (range_with_len 0 count) (once_range 0 count)) (λ h. h, tt) new_apart)
+    others_apart
+  where
+    new_passes : (n : ℕ) → Among n (new_in own old count) → is_new own old n ≡ true
+    new_passes n h = filter_among (is_new own old) (range_with_len 0 count) n h
+
+    new_apart : (n : ℕ) → Among n (new_in own old count) → Among n (own ∷ []) → ⊥
+    new_apart n h (inl e) = cc (sym (new_passes n h) ∙ ap (λ (m : ℕ). not (m == own) && not (is_among old n)) e ∙ ap (λ (b : Bool). b && not (is_among old n)) (not_own own))
+    new_apart n h (inr h') = h'
+
+    others_apart : (n : ℕ) → Among n (others_in own old) → Among n (new_in own old count ++ own ∷ []) → ⊥
+    others_apart n h h' = go (among_either n (new_in own old count) (own ∷ []) h')
+      where
+        both : (b : Bool) → (b && not true) ≡ false
+        both true = refl
+        both false = refl
+
+        go : Among n (new_in own old count) ⊎ Among n (own ∷ []) → ⊥
+        go (inl new) =
+            let there = is_among_from old n (in_filter (λ m. not (m == own)) old n h) in
+            cc (sym (new_passes n new) ∙ ap (λ (b : Bool). not (n == own) && not b) there ∙ both (not (n == own)))
+        go (inr (inl e)) = cc (sym (filter_among (λ m. not (m == own)) old n h) ∙ ap (λ (m : ℕ). not (m == own)) e ∙ not_own own)
+        go (inr (inr none)) = none

@@ -1,6 +1,6 @@
 -- Runs between two pieces, and their ends.
-use Rattle.std.proofs.Common.{◌≡◌, ℕ, zero, suc, ◌+◌, ◌<◌, ◌≤◌, true, Option, Some, None, List, [], ◌∷◌, ◌++◌, length, get_or, filter, replicate, refl, sym, ap, ◌∙◌, subst, arith}
-use Rattle.std.specs.Prelude.{is_some, slice_get, option_map, MatchOption}
+use Rattle.std.proofs.Common.{◌≡◌, ℕ, ◌+◌, ◌<◌, ◌≤◌, true, Option, Some, None, List, [], ◌∷◌, ◌++◌, length, get_or, filter, replicate, refl, sym, ap, ap₂, ◌∙◌, subst, arith}
+use Rattle.std.specs.Prelude.{is_some, slice_get, option_map}
 use Rattle.std.specs.FinMap.{get}
 use Rattle.std.proofs.lemmas.List.{length-replicate}
 use Rattle.std.proofs.lemmas.Option.{slice_get_within, slice_get-map, slice_get-get_or}
@@ -10,51 +10,63 @@ use Rattle.fm_base.specs.declared.path.Path.{Path}
 use Rattle.fm_base.specs.declared.schedule.Turn.{Turn}
 use Rattle.fm_sched.specs.Schedule.{Can, cost, play, used, IsLegal, IsFinal, IsReached}
 use Rattle.fm_sched.proofs.Runs.{IsLegal-append, play-append, used-append, length-le-used, cost-Some}
-use Rattle.fm_net.specs.Machine.{Place, State, child}
+use Rattle.fm_net.specs.Machine.{Place, State}
 use Rattle.fm_net.specs.Owned.{IsOwned}
 use Rattle.fm_mean.specs.declared.outcome.Outcome.{Outcome}
 use Rattle.fm_mean.specs.declared.program.Program.{Program}
 use Rattle.fm_mean.specs.Process.{Proc}
 use Rattle.fm_mean.specs.Report.{outcome_of}
-use Rattle.fm_mean.specs.Steps.{language, step, first}
-use Rattle.fm_mean.specs.Starts.{starts_along, starts_of, choices_of}
-use Rattle.fm_mean.proofs.Costs.{step_costs}
+use Rattle.fm_mean.specs.Steps.{language, step, first, first_proc}
+use Rattle.fm_net.specs.Starts.{child_places, starts_along, starts_of, choices_of}
+use Rattle.fm_net.proofs.Histories.{choices_more, choices_stay}
+use Rattle.fm_net.proofs.Orders.{everybody, starts_more}
+use Rattle.fm_mean.proofs.Programs.{step_costs}
 use Rattle.fm_run.specs.declared.pieces.Piece.{Piece}
 use Rattle.fm_run.specs.declared.player.Player.{Player}
 use Rattle.fm_run.specs.declared.run.Ending.{Ending}
 use Rattle.fm_run.specs.declared.run.Ending.TheVariants.{Ended, Spent}
 use Rattle.fm_run.specs.declared.run.Run.{Run}
-use Rattle.fm_run.specs.Goes.{family}
-use Rattle.fm_run.specs.Orders.{Among, place_in, places_of, can_in, can_at}
+use Rattle.fm_run.specs.Orders.{Among, EachOnce, place_in, places_of, can_in, can_at, chosen}
 use Rattle.fm_run.specs.Pieces.{IsPiece}
 use Rattle.fm_run.specs.Readings.{state_of}
-use Rattle.fm_run.specs.Runs.{IsKept, AreAble, IsPlayed, EndsSo, IsRun}
+use Rattle.fm_run.specs.Runs.{HaveSteps, IsFrontWithin, IsPlayedBy, AreAble, IsPlayed, EndsSo, IsRun}
 use Rattle.fm_run.proofs.Able.{steps_there}
-use Rattle.fm_run.proofs.Histories.{choices_more, starts_more}
-use Rattle.fm_run.proofs.Numbers.{among_filter, filter_among}
-use Rattle.fm_run.proofs.Started.{among_place, all_started}
+use Rattle.fm_run.proofs.Numbers.{among_filter, filter_among, none_chosen, once_filter}
 use Rattle.fm_run.proofs.Steps.{owned_reached}
 
-family_snoc : (p : Place) (b i n : ℕ) → family p b i (suc n) ≡ family p b i n ++ child p b (n + i) ∷ []
-family_snoc p b i zero = ap (λ (j : ℕ). child p b j ∷ []) (omega arith)
-family_snoc p b i (suc n) = ap (λ ps. child p b i ∷ ps) (family_snoc p b (suc i) n ∙ ap (λ (j : ℕ). family p b (suc i) n ++ child p b j ∷ []) (omega arith))
+-- ---- lists of entries
 
--- one child more
-pub family_more : (p : Place) (b n : ℕ) → family p b 1 n ++ child p b (n + 1) ∷ [] ≡ family p b 1 (n + 1)
-family_more p b n =
-    let next : suc n ≡ n + 1 = omega arith in
-    sym (family_snoc p b 1 n) ∙ ap (λ (k : ℕ). family p b 1 k) next
+steps_more : (ts : List Turn) (t : Turn) → HaveSteps ts → 1 ≤ t.steps → HaveSteps (ts ++ t ∷ [])
+steps_more [] t have some = (some, tt)
+steps_more (u ∷ ts) t have some = (have.0, steps_more ts t have.1 some)
+
+-- what stands before the last one
+same_front : (ts us : List Turn) (t u : Turn) → ts ++ t ∷ [] ≡ us ++ u ∷ [] → ts ≡ us
+same_front [] [] t u e = refl
+same_front [] (b ∷ []) t u e = absurd (cc e)
+same_front [] (b ∷ c ∷ us) t u e = absurd (cc e)
+same_front (a ∷ []) [] t u e = absurd (cc e)
+same_front (a ∷ c ∷ ts) [] t u e = absurd (cc e)
+same_front (a ∷ ts) (b ∷ us) t u e =
+    let head : a ≡ b = cc e in
+    let rest : ts ++ t ∷ [] ≡ us ++ u ∷ [] = cc e in
+    ap₂ (λ (x : Turn) (xs : List Turn). x ∷ xs) head (same_front ts us t u rest)
+
+-- nothing came before an entry yet
+pub front_none : (program : Program) (turns : ℕ) (hs : List Turn) (ps : List Place) → hs ≡ [] → IsFrontWithin program turns hs ps
+front_none program turns hs ps none [] last choices whole told = absurd (cc (sym none ∙ whole))
+front_none program turns hs ps none (t ∷ front) last choices whole told = absurd (cc (sym none ∙ whole))
 
 module _ (program : Program) where
   -- ---- histories
 
-  pub kept_first : IsKept program [] ([] ∷ []) (first program) 0
-  kept_first = record { choices = []; kept = refl; places_are = refl; legal = tt; there = refl; used_is = refl }
+  pub kept_first : IsPlayedBy program [] ([] ∷ []) (first program) 0
+  kept_first = record { choices = []; kept = refl; places_are = refl; legal = tt; there = refl; used_is = refl; some_steps = tt }
 
-  pub kept_reached : (hs : List Turn) (ps : List Place) (s : State Proc) (paid : ℕ) → IsKept program hs ps s paid → IsReached (step program) (first program) s
+  pub kept_reached : (hs : List Turn) (ps : List Place) (s : State Proc) (paid : ℕ) → IsPlayedBy program hs ps s paid → IsReached (step program) (first program) s
   kept_reached hs ps s paid kept = (kept.choices, kept.legal, kept.there)
 
-  pub kept_owned : (hs : List Turn) (ps : List Place) (s : State Proc) (paid : ℕ) → IsKept program hs ps s paid → IsOwned (language program) s
+  pub kept_owned : (hs : List Turn) (ps : List Place) (s : State Proc) (paid : ℕ) → IsPlayedBy program hs ps s paid → IsOwned (language program) s
   kept_owned hs ps s paid kept = owned_reached program s (kept_reached hs ps s paid kept)
 
   pub first_owned : IsOwned (language program) (first program)
@@ -64,14 +76,14 @@ module _ (program : Program) where
   each_costs s p can = omega (arith, step_costs program s p can.0 can.1, cost-Some (step program) s p can.0 can.1)
 
   -- a piece costs one turn at least
-  pub piece_costs : (s t : State Proc) (p : Place) (r : Piece) → IsPiece program s p r t → 1 ≤ r.cost
-  piece_costs s t p r piece =
+  pub piece_costs : (slice : ℕ) (s t : State Proc) (p : Place) (r : Piece) → IsPiece program slice s p r t → 1 ≤ r.cost
+  piece_costs slice s t p r piece =
       omega (arith, length-le-used (step program) each_costs s (replicate r.steps p) piece.makes.leads.legal, length-replicate r.steps p, piece.makes.leads.price_is, piece.some_steps)
 
-  module _ (hs : List Turn) (ps : List Place) (s : State Proc) (paid : ℕ) (kept : IsKept program hs ps s paid) where
-    pub kept_more : (number : ℕ) (p : Place) → slice_get ps number ≡ Some p → (r : Piece) (t : State Proc) → IsPiece program s p r t
-        → (js : List Turn) → js ≡ hs ++ record { number = number; steps = r.steps } ∷ [] → (qs : List Place) → qs ≡ ps ++ family p r.block 1 r.started → (sum : ℕ) → sum ≡ paid + r.cost → IsKept program js qs t sum
-    kept_more number p who r t piece js js_is qs qs_is sum sum_is =
+  module _ (hs : List Turn) (ps : List Place) (s : State Proc) (paid : ℕ) (kept : IsPlayedBy program hs ps s paid) where
+    pub kept_more : (number : ℕ) (p : Place) → slice_get ps number ≡ Some p → (slice : ℕ) (r : Piece) (t : State Proc) → IsPiece program slice s p r t
+        → (js : List Turn) → js ≡ hs ++ record { number = number; steps = r.steps } ∷ [] → (qs : List Place) → qs ≡ ps ++ child_places p r.block 1 r.started → (sum : ℕ) → sum ≡ paid + r.cost → IsPlayedBy program js qs t sum
+    kept_more number p who slice r t piece js js_is qs qs_is sum sum_is =
         let cs = kept.choices in
         let ds = replicate r.steps p in
         let turn : Turn = record { number = number; steps = r.steps } in
@@ -80,14 +92,23 @@ module _ (program : Program) where
           choices = cs ++ ds;
           kept =
               ap (λ (ts : List Turn). choices_of ts qs) js_is ∙ ap (choices_of (hs ++ turn ∷ [])) qs_is
-              ∙ choices_more hs ps (family p r.block 1 r.started) cs turn p kept.kept who;
+              ∙ choices_more hs ps (child_places p r.block 1 r.started) cs turn p kept.kept who;
           places_are =
-              qs_is ∙ ap (λ zs. zs ++ family p r.block 1 r.started) kept.places_are
-              ∙ ap (λ zs. starts_of program cs ++ zs) (sym (ap (λ (u : State Proc). starts_along program u ds) there ∙ piece.makes.starts_are)) ∙ sym (starts_more program cs ds);
+              qs_is ∙ ap (λ zs. zs ++ child_places p r.block 1 r.started) kept.places_are
+              ∙ ap (λ zs. starts_of (language program) (first program) cs ++ zs) (sym (ap (λ (u : State Proc). starts_along (language program) u ds) there ∙ piece.makes.starts_are)) ∙ sym (starts_more (language program) (first program) cs ds);
           legal = IsLegal-append (step program) (first program) cs ds kept.legal (subst (λ (u : State Proc). IsLegal (step program) u ds) (sym there) piece.makes.leads.legal);
           there = play-append (step program) (first program) cs ds ∙ ap (λ u. play (step program) u ds) there ∙ piece.makes.leads.there;
           used_is = omega (arith, used-append (step program) (first program) cs ds, ap (λ (u : State Proc). used (step program) u ds) there, piece.makes.leads.price_is, kept.used_is, sum_is);
+          some_steps = subst HaveSteps (sym js_is) (steps_more hs turn kept.some_steps piece.some_steps);
         }
+
+    -- what came before an entry is the front
+    pub front_more : (t : Turn) (more : List Place) (js : List Turn) → js ≡ hs ++ t ∷ [] → (qs : List Place) → qs ≡ ps ++ more → (turns : ℕ) → paid ≤ turns → IsFrontWithin program turns js qs
+    front_more t more js js_is qs qs_is turns within front last choices whole told =
+        let same : hs ≡ front = same_front hs front t last (sym js_is ∙ whole) in
+        let there : choices_of hs qs ≡ Some kept.choices = ap (choices_of hs) qs_is ∙ choices_stay hs ps more kept.choices kept.kept in
+        let one : kept.choices ≡ choices = cc (sym there ∙ ap (λ (ts : List Turn). choices_of ts qs) same ∙ told) in
+        omega (arith, ap (used (step program) (first program)) one, kept.used_is)
 
   -- ---- who can step
 
@@ -99,34 +120,37 @@ module _ (program : Program) where
         go None e can' = absurd (cc can')
         go (Some p) e can' = slice_get_within ps n p e
 
-    pub are_able : (order able : List ℕ) → able ≡ filter (can_at program s ps) order → ((n : ℕ) → n < length ps → Among n order) → AreAble program s ps able
-    are_able order able is all = record {
+    pub are_able : (order able : List ℕ) → able ≡ filter (can_at program s ps) order → ((n : ℕ) → n < length ps → Among n order) → EachOnce order → AreAble program s ps able
+    are_able order able is all once = record {
       within = λ n h. filter_among (can_at program s ps) order n (subst (Among n) is h);
       whole = λ n can. subst (Among n) (sym is) (among_filter (can_at program s ps) order n (all n (known n can)) can);
+      once = subst EachOnce (sym is) (once_filter (can_at program s ps) order once);
     }
 
     pub who_is : (n : ℕ) → can_at program s ps n ≡ true → (p : Place) → slice_get ps n ≡ Some p → is_some (step program s p) ≡ true
     who_is n can p is = sym (ap (can_in program s) is) ∙ can
 
     -- where nobody among the processes can step, nobody can
-    pub nobody_can : AreAble program s ps [] → ((p : Place) (x : Proc) → get s.procs p ≡ Some x → Among p ps) → IsFinal (step program) s
+    pub nobody_can : AreAble program s ps [] → ((p : Place) (x : Proc) → get s.procs p ≡ Some x → (n : ℕ) × (slice_get ps n ≡ Some p)) → IsFinal (step program) s
     nobody_can able all p = go (step program s p) refl
       where
         go : (o : Option (State Proc × ℕ)) → step program s p ≡ o → o ≡ None
         go None e = refl
         go (Some r) e =
             let who = steps_there program s p (get s.procs p) refl (ap is_some e) in
-            let at = among_place p ps (all p who.0 who.1) in
+            let at = all p who.0 who.1 in
             absurd (able.whole at.0 (ap (can_in program s) at.1 ∙ ap is_some e))
 
   -- ---- the end
 
-  started_all : (hs : List Turn) (ps : List Place) (s : State Proc) (paid : ℕ) → IsKept program hs ps s paid → (p : Place) (x : Proc) → get s.procs p ≡ Some x → Among p ps
-  started_all hs ps s paid kept p x is = subst (Among p) (sym kept.places_are) (all_started program kept.choices kept.legal p x (ap (λ (u : State Proc). get u.procs p) kept.there ∙ is))
+  started_all : (hs : List Turn) (ps : List Place) (s : State Proc) (paid : ℕ) → IsPlayedBy program hs ps s paid → (p : Place) (x : Proc) → get s.procs p ≡ Some x → (n : ℕ) × (slice_get ps n ≡ Some p)
+  started_all hs ps s paid kept p x is =
+      let at = everybody (language program) (first_proc program) kept.choices kept.legal p x (ap (λ (u : State Proc). get u.procs p) kept.there ∙ is) in
+      (at.0, ap (λ qs. slice_get qs at.0) kept.places_are ∙ at.1)
 
-  pub run_ended : (turns : ℕ) (player : Player) → IsPlayed program player → player.able.items ≡ [] → player.used ≤ turns → (o : Outcome) → o ≡ outcome_of program player.used (state_of player.net)
+  pub run_ended : (turns : ℕ) (player : Player) → IsPlayed program player → player.able.items ≡ [] → player.used ≤ turns → IsFrontWithin program turns player.history.items (places_of player.paths.items) → (o : Outcome) → o ≡ outcome_of program player.used (state_of player.net)
       → (r : Run) → r.history ≡ player.history → r.paths ≡ player.paths → r.ending ≡ Ended o → IsRun program turns r
-  run_ended turns player played none within o o_is r h p e =
+  run_ended turns player played none within front o o_is r h p e =
       let k = played.history in
       let s = state_of player.net in
       let ps = places_of player.paths.items in
@@ -136,6 +160,10 @@ module _ (program : Program) where
         kept = ap (λ v. choices_of v.items (places_of r.paths.items)) h ∙ ap (λ v. choices_of player.history.items (places_of v.items)) p ∙ k.kept;
         places = ap (λ v. places_of v.items) p ∙ k.places_are;
         legal = k.legal;
+        some_steps = subst HaveSteps (ap (λ v. v.items) (sym h)) k.some_steps;
+        front_within =
+            subst (λ (ts : List Turn). IsFrontWithin program turns ts (places_of r.paths.items)) (ap (λ v. v.items) (sym h))
+            (subst (λ (qs : List Place). IsFrontWithin program turns player.history.items qs) (ap (λ v. places_of v.items) (sym p)) front);
         ends = subst (λ (z : Ending). EndsSo program turns k.choices z) (sym e) (
           subst (IsFinal (step program)) (sym k.there) final,
           omega (arith, k.used_is),
@@ -143,20 +171,25 @@ module _ (program : Program) where
         );
       }
 
-  pub run_spent : (turns : ℕ) (player : Player) → IsPlayed program player → turns < player.used → (r : Run) → r.history ≡ player.history → r.paths ≡ player.paths → r.ending ≡ Spent → IsRun program turns r
-  run_spent turns player played over r h p e =
+  pub run_spent : (turns : ℕ) (player : Player) → IsPlayed program player → turns < player.used → IsFrontWithin program turns player.history.items (places_of player.paths.items) → (r : Run) → r.history ≡ player.history → r.paths ≡ player.paths → r.ending ≡ Spent → IsRun program turns r
+  run_spent turns player played over front r h p e =
       let k = played.history in
       record {
         choices = k.choices;
         kept = ap (λ v. choices_of v.items (places_of r.paths.items)) h ∙ ap (λ v. choices_of player.history.items (places_of v.items)) p ∙ k.kept;
         places = ap (λ v. places_of v.items) p ∙ k.places_are;
         legal = k.legal;
+        some_steps = subst HaveSteps (ap (λ v. v.items) (sym h)) k.some_steps;
+        front_within =
+            subst (λ (ts : List Turn). IsFrontWithin program turns ts (places_of r.paths.items)) (ap (λ v. v.items) (sym h))
+            (subst (λ (qs : List Place). IsFrontWithin program turns player.history.items qs) (ap (λ v. places_of v.items) (sym p)) front);
         ends = subst (λ (z : Ending). EndsSo program turns k.choices z) (sym e) (omega (arith, k.used_is));
       }
 
-pub none_left : (P : Type 0) (Q : ℕ → Type 0) (o : Option ℕ) → MatchOption o P Q → ((n : ℕ) → o ≡ Some n → ⊥) → P
-none_left P Q None told none = told
-none_left P Q (Some n) told none = absurd (none n refl)
+-- where none is chosen, none is left
+pub none_left : (choice : Option ℕ) (able : List ℕ) (o : Option ℕ) → o ≡ chosen choice able → ((n : ℕ) → o ≡ Some n → ⊥) → able ≡ []
+none_left choice able None told none = none_chosen choice able (sym told)
+none_left choice able (Some n) told none = absurd (none n refl)
 
 -- a path that was read is the place of its number
 pub stands : (paths : List (Arc Path Global)) (n : ℕ) (a : Arc Path Global) → n < length paths → a ≡ get_or paths n a → slice_get (places_of paths) n ≡ Some (place_in a)

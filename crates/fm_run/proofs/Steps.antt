@@ -1,25 +1,28 @@
 -- The steps of a program, by what each process does next.
-use Rattle.std.proofs.Common.{◌≡◌, ℕ, zero, suc, ◌+◌, Option, Some, None, List, [], ◌∷◌, ◌++◌, replicate, refl, sym, ap, ◌∙◌, subst, arith, append_assoc, append-nil}
+use Rattle.std.proofs.Common.{◌≡◌, ℕ, zero, suc, ◌+◌, Option, Some, None, List, [], ◌∷◌, ◌++◌, replicate, refl, sym, ap, ◌∙◌, subst, arith, append-nil}
 use Rattle.std.specs.Prelude.{option_and_then}
 use Rattle.std.specs.FinMap.{get, insert}
 use Rattle.std.proofs.lemmas.Grind.{replicate_next}
 use Rattle.fm_base.specs.Channels.{Chans}
 use Rattle.fm_maps.proofs.Inserts.{insert_here, insert_again, insert_same}
-use Rattle.fm_sched.specs.Schedule.{next, play, Leads, IsLegal, IsReached}
+use Rattle.fm_sched.specs.Schedule.{play, Leads, IsLegal, IsReached}
 use Rattle.fm_sched.proofs.Runs.{leads_nowhere, leads_further, IsLegal-append, play-append}
-use Rattle.fm_net.specs.Machine.{Place, State}
+use Rattle.fm_net.specs.Machine.{Place, State, Nothing, reply_with}
 use Rattle.fm_net.specs.Owned.{IsOwned}
 use Rattle.fm_mean.proofs.Programs.{owned_along}
 use Rattle.fm_net.proofs.Keys.{path_order}
-use Rattle.fm_net.proofs.Cases.{all_shed-nil, local_step}
+use Rattle.fm_discards.proofs.Shedding.{all_shed-nil}
+use Rattle.fm_net.proofs.Cases.{local_step}
 use Rattle.fm_mean.specs.declared.program.Program.{Program}
 use Rattle.fm_mean.specs.Process.{Proc}
 use Rattle.fm_mean.specs.Actions as action
 use Rattle.fm_mean.specs.Actions.{Action, action_of, local_in}
 use Rattle.fm_mean.specs.Steps.{ask_for, language, step, first}
-use Rattle.fm_mean.specs.Starts.{starts_with, starts_from, starts_at, starts_along}
+use Rattle.fm_net.specs.Starts.{starts_at, starts_along}
+use Rattle.fm_net.proofs.Orders.{starts-append, starts_served}
+use Rattle.fm_net.proofs.Taken.{Starts}
 use Rattle.fm_run.specs.Pieces.{Makes}
-use Rattle.fm_plain.specs.Advance.{local_steps, paid}
+use Rattle.fm_plain.specs.Advance.{local_steps, with_cost}
 
 -- ---- local steps
 
@@ -45,29 +48,23 @@ module _ (program : Program) where
       local_step (language program) s p x is _ _ (ap (ask_for program x) (local_action (action_of program x) r goes)) refl refl
       ∙ ap (λ (m : Chans). Some (record { procs = insert s.procs p r.0; chans = m }, r.1)) (all_shed-nil s.chans)
 
-  local_starts : (s : State Proc) (p : Place) (x : Proc) (r : Proc × ℕ) → get s.procs p ≡ Some x → action.local_step program x ≡ Some r → starts_at program s p ≡ []
-  local_starts s p x r is goes = ap (starts_from program p) is ∙ ap (starts_with p x) (local_action (action_of program x) r goes)
-
-  -- ---- starts along choices
-
-  pub starts-append : (s : State Proc) (cs ds : List Place) → starts_along program s (cs ++ ds) ≡ starts_along program s cs ++ starts_along program (play (step program) s cs) ds
-  starts-append s [] ds = refl
-  starts-append s (c ∷ cs) ds =
-      ap (λ ps. starts_at program s c ++ ps) (starts-append (next (step program) s c) cs ds)
-      ∙ sym (append_assoc (starts_at program s c) (starts_along program (next (step program) s c) cs) (starts_along program (play (step program) (next (step program) s c) cs) ds))
+  local_starts : (s : State Proc) (p : Place) (x : Proc) (r : Proc × ℕ) → get s.procs p ≡ Some x → action.local_step program x ≡ Some r → starts_at (language program) s p ≡ []
+  local_starts s p x r is goes =
+      let t : Starts (language program) s p = record { self = x; is = is; need = Nothing; goes = _; asks = ap (ask_for program x) (local_action (action_of program x) r goes); reply = reply_with []; serves = refl } in
+      starts_served (language program) s p t
 
   pub makes_none : (s : State Proc) (p : Place) → Makes program s p 0 s 0 []
   makes_none s p = record { leads = leads_nowhere (step program) s; starts_are = refl }
 
   -- one step more, where those before started nobody
   pub makes_more : (s t : State Proc) (p : Place) (n cost : ℕ) (r : State Proc × ℕ) → Makes program s p n t cost [] → step program t p ≡ Some r
-      → Makes program s p (n + 1) r.0 (cost + r.1) (starts_at program t p)
+      → Makes program s p (n + 1) r.0 (cost + r.1) (starts_at (language program) t p)
   makes_more s t p n cost r before goes = record {
     leads = subst (λ (cs : List Place). Leads (step program) s cs r.0 (cost + r.1)) (sym (replicate_next n p)) (leads_further (step program) s t (replicate n p) cost p r before.leads goes);
     starts_are =
-        ap (starts_along program s) (replicate_next n p) ∙ starts-append s (replicate n p) (p ∷ [])
-        ∙ ap (λ ps. ps ++ (starts_at program (play (step program) s (replicate n p)) p ++ [])) before.starts_are
-        ∙ append-nil (starts_at program (play (step program) s (replicate n p)) p) ∙ ap (λ u. starts_at program u p) before.leads.there;
+        ap (starts_along (language program) s) (replicate_next n p) ∙ starts-append (language program) s (replicate n p) (p ∷ [])
+        ∙ ap (λ ps. ps ++ (starts_at (language program) (play (step program) s (replicate n p)) p ++ [])) before.starts_are
+        ∙ append-nil (starts_at (language program) (play (step program) s (replicate n p)) p) ∙ ap (λ u. starts_at (language program) u p) before.leads.there;
   }
 
   -- ---- several local steps
@@ -83,11 +80,11 @@ module _ (program : Program) where
   parts : (n : ℕ) (x : Proc) (r : Proc × ℕ) → local_steps program (suc n) x ≡ Some r → Parts n x r
   parts n x r e = go (local_steps program n x) refl e
     where
-      inner : (q : Proc × ℕ) (o : Option (Proc × ℕ)) → local_steps program n x ≡ Some q → action.local_step program q.0 ≡ o → paid q.1 o ≡ Some r → Parts n x r
+      inner : (q : Proc × ℕ) (o : Option (Proc × ℕ)) → local_steps program n x ≡ Some q → action.local_step program q.0 ≡ o → with_cost q.1 o ≡ Some r → Parts n x r
       inner q None first_is last_is e' = absurd (cc e')
       inner q (Some l) first_is last_is e' = record { first = q; last = l; first_is = first_is; last_is = last_is; whole = cc e' }
 
-      go : (o : Option (Proc × ℕ)) → local_steps program n x ≡ o → option_and_then (λ q. paid q.1 (action.local_step program q.0)) o ≡ Some r → Parts n x r
+      go : (o : Option (Proc × ℕ)) → local_steps program n x ≡ o → option_and_then (λ q. with_cost q.1 (action.local_step program q.0)) o ≡ Some r → Parts n x r
       go None is e' = absurd (cc e')
       go (Some q) is e' = inner q (action.local_step program q.0) is refl e'
 

@@ -1,63 +1,60 @@
 -- How a process goes on with its event: itself, its children, the channels and the cost.
 -- Source: this profile.
-use Rattle.std.specs.Prelude.{◌≡◌, ℕ, zero, suc, Bool, true, is_some, Option, Some, None, List, [], ◌∷◌, ◌++◌, length}
+use Rattle.std.specs.Prelude.{◌≡◌, ℕ, Bool, true, false, is_some, Option, Some, None, List, [], ◌++◌}
 use Rattle.std.specs.FinMap.{get, insert}
 use Rattle.fm_base.specs.declared.path.ChanName.{ChanName}
+use Rattle.fm_base.specs.declared.port.PortValue.{PortValue}
 use Rattle.fm_base.specs.Channels.{Message, Chans, all_shed}
 use Rattle.fm_maps.specs.Changes.{Change}
-use Rattle.fm_chan.specs.declared.channels.Got.{Got}
-use Rattle.fm_chan.specs.declared.channels.Got.TheVariants as got
-use Rattle.fm_chan.specs.Received.{pops_at}
-use Rattle.fm_net.specs.Machine.{Place, Need, Nothing, Event, New, Children, Reply, Onward, Go, Procs, child, made, chans_after, spilt, served_at, gathered, child_changes}
+use Rattle.fm_chan.specs.Events.{is_outport}
+use Rattle.fm_chan.specs.declared.message.Got.{Got}
+use Rattle.fm_chan.specs.declared.message.Got.TheVariants as got
+use Rattle.fm_net.specs.Machine.{Place, Need, Nothing, Event, New, Children, Reply, Onward, Go, Procs, reply_with, made, chans_after, spilt, served_at, gathered, child_changes}
 use Rattle.fm_mean.specs.declared.program.Program.{Program}
-use Rattle.fm_mean.specs.Process.{Proc, has_ended}
-use Rattle.fm_mean.specs.Actions.{Action, Rest, Local, Fail, Make, Send, Receive, Close, Start, Join, End, action_of}
+use Rattle.fm_mean.specs.Process.{Ports, Proc, has_ended}
 use Rattle.fm_mean.specs.Steps.{ask, emptied}
-use Rattle.fm_mean.specs.Starts.{starts_with}
+use Rattle.fm_plain.specs.declared.event.Event as plain
+use Rattle.fm_plain.specs.declared.event.Event.TheVariants as event
 
--- a send finds its channel, and a receive has its step
-abbrev pub is_served : Chans → Action → Bool
-is_served m Rest = true
-is_served m (Local y cost) = true
-is_served m (Fail line fault) = true
-is_served m (Make p q) = true
-is_served m (Send c w message) = is_some (get m c)
-is_served m (Receive c line item) = pops_at (get m c)
-is_served m (Close q) = true
-is_served m Start = true
-is_served m (Join b calls) = true
-is_served m (End formals) = true
+-- a variable has a port of this direction
+pub record HasPort (ports : Ports) (name : List ℕ) (is_out : Bool) : Type 0 where
+  pub port : PortValue
+  pub there : get ports name ≡ Some port
+  pub direction : is_outport port ≡ is_out
+
+-- the channels serve the need
+abbrev pub is_served : Chans → Option Need → Bool
+is_served m None = false
+is_served m (Some Nothing) = true
+is_served m (Some (Event c a)) = is_some (served_at {Proc = Proc} a (get m c))
+is_served m (Some (New n writers)) = true
+is_served m (Some (Children b n)) = true
 
 -- the message that came, if one did
 abbrev pub message_in : Got → Option Message
 message_in (got.Message m) = Some m
+message_in got.Exceeds = None
 message_in got.Wait = None
 message_in got.End = None
 
--- the block that a process joins, and the number of its children
-abbrev pub joins_by : Action → Option (ℕ × ℕ)
-joins_by Rest = None
-joins_by (Local y cost) = None
-joins_by (Fail line fault) = None
-joins_by (Make p q) = None
-joins_by (Send c w message) = None
-joins_by (Receive c line item) = None
-joins_by (Close q) = None
-joins_by Start = None
-joins_by (Join b calls) = Some (b, length calls)
-joins_by (End formals) = None
+-- the block that a process joins by its need, and the number of its children
+abbrev pub joined_in : Option Need → Option (ℕ × ℕ)
+joined_in None = None
+joined_in (Some Nothing) = None
+joined_in (Some (Event c a)) = None
+joined_in (Some (New n writers)) = None
+joined_in (Some (Children b n)) = Some (b, n)
 
--- the same of a need
-abbrev pub joined_in : Need → Option (ℕ × ℕ)
-joined_in Nothing = None
-joined_in (Event c a) = None
-joined_in (New n) = None
-joined_in (Children b n) = Some (b, n)
-
--- and of a process, if it is there
-abbrev pub joins_at : Program → Option Proc → Option (ℕ × ℕ)
-joins_at program None = None
-joins_at program (Some x) = joins_by (action_of program x)
+-- and by its event
+abbrev pub joined_by : plain.Event → Option (ℕ × ℕ)
+joined_by (event.Fault line fault) = None
+joined_by (event.Make p q) = None
+joined_by (event.Send q m) = None
+joined_by (event.Receive p line item) = None
+joined_by (event.Close q) = None
+joined_by event.Start = None
+joined_by (event.Join block count) = Some (block, count)
+joined_by event.End = None
 
 -- the children that are joined, where all have ended
 abbrev pub kids_by : Procs Proc → Place → Option (ℕ × ℕ) → Option (List Proc)
@@ -69,17 +66,12 @@ abbrev pub collected : Place → Option (ℕ × ℕ) → List (Change Place Proc
 collected p None = []
 collected p (Some bn) = child_changes emptied p bn.0 1 bn.1
 
--- the places of so many children of a block, from this index on
-abbrev pub family : Place → (block index count : ℕ) → List Place
-family p b i zero = []
-family p b i (suc n) = child p b i ∷ family p b (suc i) n
-
 -- the reply to a need, where these are the children that are joined
 abbrev pub Replies : Chans → (kids : List Proc) → Need → Reply Proc → Type 0
-Replies m kids Nothing r = r ≡ record { message = None; children = [] }
+Replies m kids Nothing r = r ≡ reply_with []
 Replies m kids (Event c a) r = served_at a (get m c) ≡ Some r
-Replies m kids (New n) r = r ≡ record { message = None; children = [] }
-Replies m kids (Children b n) r = r ≡ record { message = None; children = kids }
+Replies m kids (New n writers) r = r ≡ reply_with []
+Replies m kids (Children b n) r = r ≡ reply_with kids
 
 -- the process, its children, the channels after the event, and the cost
 pub record GoesOn (place : Place) (before : Chans) (need : Need) (o : Onward Proc) (after : Proc) (starts : List Proc) (chans : Chans) (cost : ℕ) : Type 0 where
@@ -96,8 +88,6 @@ pub record Performs (program : Program) (place : Place) (x : Proc) (before : Cha
   pub asks : ask program x ≡ Go need going
   pub replies : Replies before kids need reply
   pub block_is : (going (made place need) reply).block ≡ x.next_block
-  pub joins_are : joined_in need ≡ joins_by (action_of program x)
-  pub family_is : starts_with place x (action_of program x) ≡ family place x.next_block 1 (length starts)
   pub goes : GoesOn place before need (going (made place need) reply) after starts chans cost
 
 -- and it alone changed, beside the channels

@@ -3,4 +3,3 @@ pub mod Goes
 pub mod Pieces
 pub mod Orders
 pub mod Runs
-pub mod Shown

@@ -1,24 +1,17 @@
 -- Pieces: several steps of one process.
 -- Source: this profile.
-use Rattle.std.specs.Prelude.{◌≡◌, ℕ, ◌≤◌, Bool, true, false, List, replicate}
-use Rattle.std.specs.FinMap.{insert}
-use Rattle.fm_sched.specs.Schedule.{Leads}
+use Rattle.std.specs.Prelude.{◌≡◌, ◌⊎◌, ℕ, ◌+◌, ◌<◌, ◌≤◌, Bool, true, false, is_some, Option, Some, None, List, replicate}
+use Rattle.std.specs.FinMap.{get, insert}
+use Rattle.fm_sched.specs.Schedule.{play, IsLegal, Leads}
 use Rattle.fm_net.specs.Machine.{Place, Procs, State}
 use Rattle.fm_mean.specs.declared.program.Program.{Program}
 use Rattle.fm_mean.specs.Process.{Proc}
-use Rattle.fm_mean.specs.Steps.{step}
-use Rattle.fm_mean.specs.Starts.{starts_along}
+use Rattle.fm_net.specs.Starts.{child_places, starts_along}
+use Rattle.fm_mean.specs.Actions.{local_step}
+use Rattle.fm_mean.specs.Steps.{language, step}
 use Rattle.fm_plain.specs.Advance.{IsAdvanced}
 use Rattle.fm_plain.specs.declared.advance.Advanced.{Advanced}
-use Rattle.fm_plain.specs.declared.advance.Stop.{Stop}
-use Rattle.fm_plain.specs.declared.advance.Stop.TheVariants.{More, Event, Fault}
 use Rattle.fm_run.specs.declared.pieces.Piece.{Piece}
-use Rattle.fm_run.specs.Goes.{family}
-
-abbrev pub is_more : Stop → Bool
-is_more More = true
-is_more Event = false
-is_more (Fault why) = false
 
 -- the process at a place made local steps, and it alone changed
 pub record AdvancesAt (program : Program) (slice : ℕ) (place : Place) (x : Proc) (a : Advanced) (old new : Procs Proc) : Type 0 where
@@ -29,9 +22,31 @@ pub record AdvancesAt (program : Program) (slice : ℕ) (place : Place) (x : Pro
 -- so many steps of one process: where they lead at what cost, and whom they start
 pub record Makes (program : Program) (s : State Proc) (p : Place) (steps : ℕ) (t : State Proc) (cost : ℕ) (starts : List Place) : Type 0 where
   pub leads : Leads (step program) s (replicate steps p) t cost
-  pub starts_are : starts_along program s (replicate steps p) ≡ starts
+  pub starts_are : starts_along (language program) s (replicate steps p) ≡ starts
 
--- a piece of one step or more
-pub record IsPiece (program : Program) (s : State Proc) (p : Place) (r : Piece) (t : State Proc) : Type 0 where
-  pub makes : Makes program s p r.steps t r.cost (family p r.block 1 r.started)
+-- whether a process, if it's there, has a local step
+abbrev pub is_local_in : Program → Option Proc → Bool
+is_local_in program None = false
+is_local_in program (Some x) = is_some (local_step program x)
+
+abbrev pub is_local_at : Program → State Proc → Place → Bool
+is_local_at program s p = is_local_in program (get s.procs p)
+
+-- the state after so many steps of one process
+abbrev pub after_steps : Program → State Proc → Place → (steps : ℕ) → State Proc
+after_steps program s p n = play (step program) s (replicate n p)
+
+-- so many steps of one process are all that a slice lets it do: it can make them, there are no more than
+-- the slice, and all before the last one are local; and they are the whole slice, or the last one isn't
+-- local (an event, an end or a fault), or the process can't step behind them
+pub record IsFull (program : Program) (slice : ℕ) (s : State Proc) (p : Place) (steps : ℕ) : Type 0 where
+  pub can : IsLegal (step program) s (replicate steps p)
+  pub within : steps ≤ slice
+  pub before : (k : ℕ) → k + 1 < steps → is_local_at program (after_steps program s p k) p ≡ true
+  pub stops : (steps ≡ slice) ⊎ (((k : ℕ) × (steps ≡ k + 1) × (is_local_at program (after_steps program s p k) p ≡ false)) ⊎ (step program (after_steps program s p steps) p ≡ None))
+
+-- a full piece of one step or more
+pub record IsPiece (program : Program) (slice : ℕ) (s : State Proc) (p : Place) (r : Piece) (t : State Proc) : Type 0 where
+  pub makes : Makes program s p r.steps t r.cost (child_places p r.block 1 r.started)
   pub some_steps : 1 ≤ r.steps
+  pub full : IsFull program slice s p r.steps

@@ -1,40 +1,113 @@
 -- What a run of a program is.
 -- Source: this profile.
-use Rattle.std.specs.Prelude.{◌≡◌, ℕ, ◌<◌, ◌≤◌, true, List, Some}
+use Rattle.std.specs.Prelude.{◌≡◌, ℕ, suc, ◌<◌, ◌≤◌, true, Option, Some, List, [], ◌∷◌, ◌++◌, replicate, slice_get, slice_index_or}
 use Rattle.fm_base.specs.declared.schedule.Turn.{Turn}
 use Rattle.fm_sched.specs.Schedule.{play, used, IsLegal, IsFinal}
 use Rattle.fm_net.specs.Machine.{Place, State}
 use Rattle.fm_mean.specs.declared.program.Program.{Program}
 use Rattle.fm_mean.specs.Process.{Proc}
-use Rattle.fm_mean.specs.Steps.{step, first}
-use Rattle.fm_mean.specs.Starts.{starts_of, choices_of}
+use Rattle.fm_net.specs.Starts.{starts_along, starts_of, choices_of}
+use Rattle.fm_mean.specs.Steps.{language, step, first}
 use Rattle.fm_mean.specs.Report.{outcome_of}
 use Rattle.fm_run.specs.declared.run.Ending.{Ending}
 use Rattle.fm_run.specs.declared.run.Ending.TheVariants.{Ended, Spent}
 use Rattle.fm_run.specs.declared.run.Run.{Run}
 use Rattle.fm_run.specs.declared.player.Player.{Player}
-use Rattle.fm_run.specs.Orders.{Among, places_of, can_at}
+use Rattle.fm_run.specs.Orders.{Among, EachOnce, places_of, can_at, chosen, ready_first, ready_after}
+use Rattle.fm_run.specs.Pieces.{IsFull}
 use Rattle.fm_run.specs.Readings.{state_of}
+
+-- each entry has at least one step
+abbrev pub HaveSteps : List Turn → Type 0
+HaveSteps [] = Unit {0}
+HaveSteps (t ∷ ts) = (1 ≤ t.steps) × HaveSteps ts
+
+-- the entries before the last one cost at most the turns together
+abbrev pub IsFrontWithin : Program → (turns : ℕ) → List Turn → List Place → Type 0
+IsFrontWithin program turns history places = (front : List Turn) (last : Turn) (choices : List Place) →
+    history ≡ front ++ last ∷ [] → choices_of front places ≡ Some choices → used (step program) (first program) choices ≤ turns
 
 -- the history is one of the program, leads to this state at this cost, and these are its processes in
 -- the order of starting
-pub record IsKept (program : Program) (history : List Turn) (places : List Place) (s : State Proc) (paid : ℕ) : Type 0 where
+pub record IsPlayedBy (program : Program) (history : List Turn) (places : List Place) (s : State Proc) (paid : ℕ) : Type 0 where
   pub choices : List Place
   pub kept : choices_of history places ≡ Some choices
-  pub places_are : places ≡ starts_of program choices
+  pub places_are : places ≡ starts_of (language program) (first program) choices
   pub legal : IsLegal (step program) (first program) choices
   pub there : play (step program) (first program) choices ≡ s
   pub used_is : used (step program) (first program) choices ≡ paid
+  pub some_steps : HaveSteps history
 
--- the numbers are those of the processes that can step
+-- the numbers are those of the processes that can step, each once
 pub record AreAble (program : Program) (s : State Proc) (places : List Place) (able : List ℕ) : Type 0 where
   pub within : (n : ℕ) → Among n able → can_at program s places n ≡ true
   pub whole : (n : ℕ) → can_at program s places n ≡ true → Among n able
+  pub once : EachOnce able
 
 -- a run between two pieces
 pub record IsPlayed (program : Program) (player : Player) : Type 0 where
-  pub history : IsKept program player.history.items (places_of player.paths.items) (state_of player.net) player.used
+  pub history : IsPlayedBy program player.history.items (places_of player.paths.items) (state_of player.net) player.used
   pub able : AreAble program (state_of player.net) (places_of player.paths.items) player.able.items
+
+-- ---- a run that follows its choices
+
+-- a run between two pieces: its state, its processes in the order of starting, and the numbers of those
+-- that can step, in the order in which they are served
+pub record Stand : Type 0 where
+  pub state : State Proc
+  pub places : List Place
+  pub able : List ℕ
+
+abbrev pub stand_of : Player → Stand
+stand_of player = record { state = state_of player.net; places = places_of player.paths.items; able = player.able.items }
+
+-- main has started, and can step or can't
+abbrev pub first_stand : Program → Stand
+first_stand program = record { state = first program; places = [] ∷ []; able = ready_first program (first program) ([] ∷ []) }
+
+-- the place of the process that an entry names, and its steps
+abbrev pub place_of : List Place → Turn → Place
+place_of places t = slice_index_or places t.number []
+
+abbrev pub steps_of : List Place → Turn → List Place
+steps_of places t = replicate t.steps (place_of places t)
+
+-- the run after the steps of a process have led to this state, with these processes
+abbrev pub moved : Program → Stand → (own : ℕ) → State Proc → List Place → Stand
+moved program a own s places = record { state = s; places = places; able = ready_after program s places a.able own }
+
+-- the run after an entry
+abbrev pub after_entry : Program → Stand → Turn → Stand
+after_entry program a t = moved program a t.number (play (step program) a.state (steps_of a.places t)) (a.places ++ starts_along (language program) a.state (steps_of a.places t))
+
+abbrev pub after_entries : Program → Stand → List Turn → Stand
+after_entries program a [] = a
+after_entries program a (t ∷ ts) = after_entries program (after_entry program a t) ts
+
+-- the entry is of the process that the choice tells among those that can step, or without a choice of
+-- the first one, and its piece is full
+pub record IsNext (program : Program) (slice : ℕ) (choice : Option ℕ) (a : Stand) (t : Turn) : Type 0 where
+  pub who : chosen choice a.able ≡ Some t.number
+  pub full : IsFull program slice a.state (place_of a.places t) t.steps
+
+-- each entry from the n-th on, from 0, is the one that the n-th choice tells
+abbrev pub FollowsFrom : Program → (slice : ℕ) → (choices : List ℕ) → (n : ℕ) → Stand → List Turn → Type 0
+FollowsFrom program slice choices n a [] = Unit {0}
+FollowsFrom program slice choices n a (t ∷ ts) = IsNext program slice (slice_get choices n) a t × FollowsFrom program slice choices (suc n) (after_entry program a t) ts
+
+-- the history is that of the choices, in pieces of at most a slice; it goes on behind the choices, each
+-- time with the first of those that can step
+abbrev pub Follows : Program → (slice : ℕ) → (choices : List ℕ) → List Turn → Type 0
+Follows program slice choices history = FollowsFrom program slice choices 0 (first_stand program) history
+
+-- an entry more, of this process
+pub record IsEntry (program : Program) (slice number : ℕ) (s : State Proc) (places : List Place) (history : List Turn) (later : State Proc) (later_places : List Place) (later_history : List Turn) : Type 0 where
+  pub entry : Turn
+  pub history_is : later_history ≡ history ++ entry ∷ []
+  pub number_is : entry.number ≡ number
+  pub full : IsFull program slice s (place_of places entry) entry.steps
+  pub state_is : later ≡ play (step program) s (steps_of places entry)
+  pub places_are : later_places ≡ places ++ starts_along (language program) s (steps_of places entry)
 
 -- the choices end the program within its turns and with this outcome, or cost more than these
 abbrev pub EndsSo : Program → (turns : ℕ) → (choices : List Place) → Ending → Type 0
@@ -47,6 +120,8 @@ EndsSo program turns cs Spent = turns < used (step program) (first program) cs
 pub record IsRun (program : Program) (turns : ℕ) (run : Run) : Type 0 where
   pub choices : List Place
   pub kept : choices_of run.history.items (places_of run.paths.items) ≡ Some choices
-  pub places : places_of run.paths.items ≡ starts_of program choices
+  pub places : places_of run.paths.items ≡ starts_of (language program) (first program) choices
   pub legal : IsLegal (step program) (first program) choices
+  pub some_steps : HaveSteps run.history.items
+  pub front_within : IsFrontWithin program turns run.history.items (places_of run.paths.items)
   pub ends : EndsSo program turns choices run.ending

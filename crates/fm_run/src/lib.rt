@@ -2,7 +2,8 @@
 //!
 //! Contracts see the processes and channels of a run (`Net`) as a state of the meaning (`state_of`). A
 //! piece of a run is so many local steps of one process, and then one event, if it comes to one that it
-//! can do (`make_piece`); the run is a list of pieces, each of a process that can step (`run_program`).
+//! can do (`make_piece`); the run is a list of pieces, each of the process that its choice tells among
+//! those that can step, in the order in which they are served (`run_program`).
 //! That a process can step at all, that its channels are there, and that the name of a new channel is
 //! new, follow from the laws of the meaning: no premise is on the program.
 #![tactic(auto)]
@@ -21,6 +22,3 @@ pub use pieces::{Piece, SLICE, make_piece};
 pub use processes::{Net, Processes};
 pub use ready::can_step;
 pub use run::{Ending, Run, run_program};
-
-#[cfg(test)]
-mod tests;

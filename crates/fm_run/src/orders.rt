@@ -1,10 +1,10 @@
 //! Who can step, and in which order they are served.
 
-ghost use Rattle.std.specs.Prelude.{◌≡◌, ◌⊎◌, ◌<◌, ◌++◌, ◌∷◌, ℕ, true, false, cond, [], filter, slice_index_or, IfOk, OnOk, MatchOption};
+ghost use Rattle.std.specs.Prelude.{◌≡◌, ◌<◌, ◌++◌, ◌∷◌, ◌==◌, ◌&&◌, ◌||◌, ℕ, true, false, cond, not, [], length, filter, slice_index_or, IfOk, OnOk};
 ghost use Rattle.fm_net.specs.Owned.{IsOwned};
 ghost use Rattle.fm_mean.specs.Steps.{language};
 ghost use Rattle.fm_run.specs.Readings.{state_of};
-ghost use Rattle.fm_run.specs.Orders.{Among, IsMarked, places_of, can_at};
+ghost use Rattle.fm_run.specs.Orders.{AreMarked, places_of, can_at, chosen, others_in, in_turn};
 
 use crate::processes::Net;
 use crate::ready::can_step;
@@ -22,7 +22,7 @@ struct Order {
 
 /// The one at the place of a choice, modulo their number, or without a choice the first one.
 pub(crate) fn chosen(able: &[u32], choice: Option<u64>) -> Option<u32>
-    ensures { MatchOption result (able.now ≡ []) (λ n. Among n able.now) }
+    ensures { result ≡ chosen choice able.now }
 {
     if able.is_empty() {
         return None;
@@ -80,7 +80,8 @@ pub(crate) fn keep_able(
 }
 
 fn mark(marks: &mut Vec<bool>, number: u32)
-    ensures { (n : ℕ) → slice_index_or marks.new.items n false ≡ true → (n ≡ number) ⊎ (slice_index_or marks.old.items n false ≡ true) }
+    ensures length { length marks.new.items ≡ length marks.old.items }
+    ensures marked { (n : ℕ) → n < length marks.old.items → slice_index_or marks.new.items n false ≡ (slice_index_or marks.old.items n false || number == n) }
 {
     let place = number as usize;
     if place < marks.len() {
@@ -99,7 +100,8 @@ fn is_marked(marks: &[bool], number: usize) -> bool
 
 impl Order {
     fn put(&mut self, number: u32) -> Result<(), NoMemory>
-        ensures { OnOk result (IsMarked self.old.marks.items self.old.numbers.items → IsMarked self.new.marks.items self.new.numbers.items) }
+        ensures numbers { OnOk result (self.new.numbers.items ≡ self.old.numbers.items ++ number ∷ []) }
+        ensures marks { OnOk result ((count : ℕ) → AreMarked count self.old.marks.items self.old.numbers.items → AreMarked count self.new.marks.items self.new.numbers.items) }
     {
         self.numbers.push(number)?;
         mark(&mut self.marks, number);
@@ -109,7 +111,8 @@ impl Order {
 
 // Those that could step before, but the one that made its piece.
 fn others(alloc: Global, able: &[u32], own: u32, count: usize) -> Result<Order, NoMemory>
-    ensures { IfOk result (λ o. IsMarked o.marks.items o.numbers.items) }
+    ensures numbers { IfOk result (λ o. o.numbers.items ≡ others_in own able.now) }
+    ensures marks { IfOk result (λ o. AreMarked count o.marks.items o.numbers.items) }
 {
     let mut order = Order {
         numbers: Vec::new(alloc),
@@ -129,8 +132,7 @@ fn put_other(
     own: u32,
     number: usize,
 ) -> Result<(), NoMemory>
-    ensures kept { OnOk result ((n : ℕ) → Among n numbers.old.items → Among n numbers.new.items) }
-    ensures put { OnOk result ((number ≡ own) ⊎ ((slice_index_or marks.now number false ≡ true) ⊎ Among number numbers.new.items)) }
+    ensures { OnOk result (numbers.new.items ≡ numbers.old.items ++ cond (not (number == own) && not (slice_index_or marks.now number false)) (number ∷ []) []) }
 {
     if number == own as usize {
         return Ok(());
@@ -155,7 +157,7 @@ pub(crate) fn candidates(
     own: u32,
     count: usize,
 ) -> Result<Vec<u32>, NoMemory>
-    ensures { IfOk result (λ v. (n : ℕ) → n < count → Among n v.items) }
+    ensures { IfOk result (λ v. v.items ≡ in_turn own able.now count) }
 {
     let Order { mut numbers, marks } = others(alloc, able, own, count)?;
     'others: for number in 0..count {

@@ -4,13 +4,13 @@ ghost use Rattle.std.specs.Prelude.{◌≡◌, ◌++◌, ◌∷◌, [], map, opt
 ghost use Rattle.std.specs.List.{flat_map};
 ghost use Rattle.std.specs.FinMap.{get, entries};
 ghost use Rattle.fm_base.specs.Channels.{channel_of};
-ghost use Rattle.fm_mean.specs.Actions.{action_of};
-ghost use Rattle.fm_mean.specs.Report.{lines_at, fault_at, wait_at, shown_of, shown_all, outcome_of};
+ghost use Rattle.fm_mean.specs.Report.{lines_at, fault_at, awaited, waits_by, wait_at, shown_of, shown_all, outcome_of};
+ghost use Rattle.fm_mean.specs.Steps.{need_of};
 ghost use Rattle.fm_plain.specs.Readings.{proc_of};
 ghost use Rattle.fm_run.specs.Readings.{procs_of, state_of};
-ghost use Rattle.fm_run.specs.Shown.{at_by};
 
 use crate::processes::{Net, Processes};
+use crate::ready::child_path;
 use fm_base::{ChanName, Name, NoMemory, Path, Seq};
 use fm_mean::{
     At, FaultAt, Kind, Outcome, OutputLine, Program, Shown, ShownVariable, Variable, Wait,
@@ -72,35 +72,66 @@ fn push_fault(
     }
 }
 
-// What a process waits for, where it waits.
-fn waits_at(alloc: Global, program: &Program, process: &PlainProc) -> Result<Option<At>, NoMemory>
-    ensures { IfOk result (λ o. o ≡ at_by (action_of program.now (proc_of process.now))) }
-{
-    match process.blocker(program) {
-        Blocker::Message(port) => Ok(Some(At::Receive(port.channel().copy(alloc)?))),
-        Blocker::Children(_, _) => Ok(Some(At::Join)),
-        Blocker::Rest => Ok(None),
-        Blocker::Free => Ok(None),
-    }
-}
-
-fn push_wait(
-    alloc: Global,
-    program: &Program,
-    all: &mut Vec<Wait>,
-    path: &Path,
-    process: &PlainProc,
-) -> Result<(), NoMemory>
-    ensures { OnOk result (all.new.items ≡ all.old.items ++ wait_at program.now (path.now, proc_of process.now)) }
-{
-    match waits_at(alloc, program, process)? {
-        Some(at) => {
-            let path = path.copy(alloc)?;
-            let line = process.line(program);
-            all.push(Wait { path, line, at })?;
-            Ok(())
+impl Processes {
+    // The first of so many children of a block that hasn't ended.
+    fn awaited(
+        &self,
+        alloc: Global,
+        path: &Path,
+        block: u32,
+        count: usize,
+    ) -> Result<Option<Path>, NoMemory>
+        ensures { IfOk result (λ o. o ≡ awaited (procs_of self.now) path.now block 1 count) }
+    {
+        'children: for place in 0..count {
+            let child = child_path(alloc, path, block, place)?;
+            if !self.has_ended(&child) {
+                return Ok(Some(child));
+            }
         }
-        None => Ok(()),
+        Ok(None)
+    }
+
+    // What a process waits for, where it waits.
+    fn waits(
+        &self,
+        alloc: Global,
+        program: &Program,
+        path: &Path,
+        process: &PlainProc,
+    ) -> Result<Option<At>, NoMemory>
+        ensures { IfOk result (λ o. o ≡ waits_by (procs_of self.now) path.now (need_of program.now (proc_of process.now))) }
+    {
+        match process.blocker(program) {
+            Blocker::Message(port) => Ok(Some(At::Receive(port.channel().copy(alloc)?))),
+            Blocker::Children(block, count) => match self.awaited(alloc, path, block, count)? {
+                Some(child) => Ok(Some(At::Join(child))),
+                None => Ok(None),
+            },
+            Blocker::Rest => Ok(None),
+            Blocker::Free => Ok(None),
+        }
+    }
+
+    fn push_wait(
+        &self,
+        alloc: Global,
+        program: &Program,
+        all: &mut Vec<Wait>,
+        path: &Path,
+        process: &PlainProc,
+    ) -> Result<(), NoMemory>
+        ensures { OnOk result (all.new.items ≡ all.old.items ++ wait_at program.now (procs_of self.now) (path.now, proc_of process.now)) }
+    {
+        match self.waits(alloc, program, path, process)? {
+            Some(at) => {
+                let path = path.copy(alloc)?;
+                let line = process.line(program);
+                all.push(Wait { path, line, at })?;
+                Ok(())
+            }
+            None => Ok(()),
+        }
     }
 }
 
@@ -109,16 +140,17 @@ impl Gathered {
         &mut self,
         alloc: Global,
         program: &Program,
+        processes: &Processes,
         path: &Path,
         process: &PlainProc,
     ) -> Result<(), NoMemory>
         ensures lines { OnOk result (self.new.lines.items ≡ self.old.lines.items ++ lines_at (path.now, proc_of process.now)) }
         ensures faults { OnOk result (self.new.faults.items ≡ self.old.faults.items ++ fault_at (path.now, proc_of process.now)) }
-        ensures waits { OnOk result (self.new.waits.items ≡ self.old.waits.items ++ wait_at program.now (path.now, proc_of process.now)) }
+        ensures waits { OnOk result (self.new.waits.items ≡ self.old.waits.items ++ wait_at program.now (procs_of processes.now) (path.now, proc_of process.now)) }
     {
         push_lines(alloc, &mut self.lines, path, process.lines())?;
         push_fault(alloc, &mut self.faults, path, process)?;
-        push_wait(alloc, program, &mut self.waits, path, process)
+        processes.push_wait(alloc, program, &mut self.waits, path, process)
     }
 }
 
@@ -126,7 +158,7 @@ impl Processes {
     fn gathered(&self, alloc: Global, program: &Program) -> Result<Gathered, NoMemory>
         ensures lines { IfOk result (λ all. all.lines.items ≡ flat_map lines_at (entries (procs_of self.now))) }
         ensures faults { IfOk result (λ all. all.faults.items ≡ flat_map fault_at (entries (procs_of self.now))) }
-        ensures waits { IfOk result (λ all. all.waits.items ≡ flat_map (wait_at program.now) (entries (procs_of self.now))) }
+        ensures waits { IfOk result (λ all. all.waits.items ≡ flat_map (wait_at program.now (procs_of self.now)) (entries (procs_of self.now))) }
     {
         let mut all = Gathered {
             lines: Vec::new(alloc),
@@ -134,7 +166,7 @@ impl Processes {
             waits: Vec::new(alloc),
         };
         'processes: for (path, process) in self.by_path.iter() {
-            all.add(alloc, program, path, process)?;
+            all.add(alloc, program, self, path, process)?;
         }
         Ok(all)
     }
@@ -149,13 +181,21 @@ fn shown_port(alloc: Global, process: &PlainProc, name: &Name) -> Result<Option<
     }
 }
 
+fn one<T: Drop>(alloc: Global, element: T) -> Result<Seq<T>, NoMemory>
+    ensures { IfOk result (λ s. s ≡ element ∷ []) }
+{
+    let mut all = Seq::new(alloc);
+    all.push(element)?;
+    Ok(all)
+}
+
 fn shown(alloc: Global, process: &PlainProc, variable: &Variable) -> Result<ShownVariable, NoMemory>
     ensures { IfOk result (λ v. v ≡ shown_of (proc_of process.now) variable.now) }
 {
     let name = variable.name.copy(alloc)?;
     let shown = match variable.kind {
-        Kind::Integer => Shown::Number(process.number(&variable.name)),
-        Kind::Port => Shown::Port(shown_port(alloc, process, &variable.name)?),
+        Kind::Integer => Shown::Numbers(one(alloc, process.number(&variable.name))?),
+        Kind::Port => Shown::Ports(one(alloc, shown_port(alloc, process, &variable.name)?)?),
     };
     Ok(ShownVariable { name, shown })
 }

@@ -2,16 +2,19 @@
 
 ghost use Rattle.std.specs.Prelude.{◌≡◌, ℕ, true, false, List, [], ◌+◌, length, map, IfOk, OnOk, OnErr, Option, Some, None, option_to_list};
 ghost use Rattle.std.specs.FinMap.{get, insert};
-ghost use Rattle.fm_base.specs.Channels.{fresh, all_shed};
-ghost use Rattle.fm_chan.specs.Events.{is_outport, sent as sent_by};
+ghost use Rattle.fm_base.specs.declared.port.PortValue.{PortValue};
+ghost use Rattle.fm_base.specs.Channels.{Pop, fresh, all_shed};
+ghost use Rattle.fm_chan.specs.Bodies.{chans_of};
+ghost use Rattle.fm_chan.specs.Events.{chan_at, after_op, after_send as sent_by};
+ghost use Rattle.fm_chan.specs.Received.{got_at};
 ghost use Rattle.fm_net.specs.Owned.{name_of};
 ghost use Rattle.fm_mean.specs.Process.{Proc};
 ghost use Rattle.fm_mean.specs.Actions.{action_of};
-ghost use Rattle.fm_mean.specs.Steps.{made, received, closed, started, ended};
+ghost use Rattle.fm_mean.specs.Steps.{need_of, after_make, after_receive, after_close, after_start, after_end};
 ghost use Rattle.fm_plain.specs.Readings.{proc_of};
-ghost use Rattle.fm_plain.specs.Events.{is_event};
+ghost use Rattle.fm_plain.specs.Events.{IsEvent};
 ghost use Rattle.fm_plain.specs.Kept.{kept_of, kept_in};
-ghost use Rattle.fm_run.specs.Goes.{is_served, message_in, Performs};
+ghost use Rattle.fm_run.specs.Goes.{HasPort, is_served, message_in, Performs};
 
 use fm_base::{ChanName, Line, Name, NoMemory, Path};
 use fm_chan::{Channels, Got, Message, Port};
@@ -29,7 +32,7 @@ pub(crate) struct Done {
 }
 
 fn discard_each(channels: &mut Channels, ports: Vec<Port>)
-    ensures { channels.new ≡ all_shed ports.items channels.old }
+    ensures { chans_of channels.new ≡ all_shed ports.items (chans_of channels.old) }
 {
     'ports: for port in ports {
         channels.discard(port);
@@ -45,9 +48,9 @@ fn make(
     inport: &Name,
     outport: &Name,
 ) -> Result<(), NoMemory>
-    requires { get channels.old (name_of path.now (proc_of process.old).next_channel) ≡ None }
-    ensures process { OnOk result (proc_of process.new ≡ (made (proc_of process.old) inport.now outport.now (name_of path.now (proc_of process.old).next_channel)).self) }
-    ensures channels { OnOk result (channels.new ≡ all_shed (made (proc_of process.old) inport.now outport.now (name_of path.now (proc_of process.old).next_channel)).drops (insert channels.old (name_of path.now (proc_of process.old).next_channel) fresh)) }
+    requires { get (chans_of channels.old) (name_of path.now (proc_of process.old).next_channel) ≡ None }
+    ensures process { OnOk result (proc_of process.new ≡ (after_make (proc_of process.old) inport.now outport.now (name_of path.now (proc_of process.old).next_channel)).self) }
+    ensures channels { OnOk result (chans_of channels.new ≡ all_shed (after_make (proc_of process.old) inport.now outport.now (name_of path.now (proc_of process.old).next_channel)).drops (insert (chans_of channels.old) (name_of path.now (proc_of process.old).next_channel) (fresh 1))) }
 {
     let name = ChanName {
         maker: path.copy(alloc)?,
@@ -59,13 +62,32 @@ fn make(
     Ok(())
 }
 
-fn send(channels: &mut Channels, port: &Port, message: Message) -> Result<(), NoMemory>
-    requires { is_outport port.now ≡ true }
-    ensures { OnOk result (channels.new ≡ sent_by port.now message channels.old) }
+fn send(
+    process: &PlainProc,
+    channels: &mut Channels,
+    outport: &Name,
+    message: Message,
+) -> Result<(), NoMemory>
+    requires { HasPort (proc_of process.now).ports outport.now true }
+    ensures { OnOk result ((port : PortValue) → get (proc_of process.now).ports outport.now ≡ Some port → (chans_of channels.new) ≡ sent_by port message (chans_of channels.old)) }
 {
-    match channels.send(port, message) {
-        Ok(()) => Ok(()),
-        Err(_) => Err(NoMemory),
+    match process.port(outport) {
+        Some(port) => match channels.send(port, message) {
+            Ok(()) => Ok(()),
+            Err(_) => Err(NoMemory),
+        },
+        None => unreachable!(),
+    }
+}
+
+fn take_message(process: &PlainProc, channels: &mut Channels, inport: &Name) -> Got
+    requires { HasPort (proc_of process.now).ports inport.now false }
+    ensures got { (port : PortValue) → get (proc_of process.now).ports inport.now ≡ Some port → result ≡ got_at [] (chan_at port (chans_of channels.old)) }
+    ensures channels { (port : PortValue) → get (proc_of process.now).ports inport.now ≡ Some port → (chans_of channels.new) ≡ after_op port (Pop []) (chans_of channels.old) }
+{
+    match process.port(inport) {
+        Some(port) => channels.receive(port, &[]),
+        None => unreachable!(),
     }
 }
 
@@ -74,6 +96,7 @@ fn message_in(got: Got) -> Option<Message>
 {
     match got {
         Got::Message(message) => Some(message),
+        Got::Exceeds => None,
         Got::Wait => None,
         Got::End => None,
     }
@@ -88,9 +111,9 @@ fn receive(
     line: Line,
     item: &Name,
 ) -> Result<u64, NoMemory>
-    ensures process { OnOk result (proc_of process.new ≡ (received (proc_of process.old) line.0 item.now message).self) }
-    ensures channels { OnOk result (channels.new ≡ all_shed (received (proc_of process.old) line.0 item.now message).drops channels.old) }
-    ensures cost { IfOk result (λ cost. cost ≡ (received (proc_of process.old) line.0 item.now message).cost) }
+    ensures process { OnOk result (proc_of process.new ≡ (after_receive (proc_of process.old) line.0 item.now message).self) }
+    ensures channels { OnOk result (chans_of channels.new ≡ all_shed (after_receive (proc_of process.old) line.0 item.now message).drops (chans_of channels.old)) }
+    ensures cost { IfOk result (λ cost. cost ≡ (after_receive (proc_of process.old) line.0 item.now message).cost) }
 {
     let cost = process.received(alloc, line, item, message.as_ref())?;
     match message {
@@ -101,8 +124,8 @@ fn receive(
 }
 
 fn close(process: &mut PlainProc, channels: &mut Channels, outport: &Name) -> Result<(), NoMemory>
-    ensures process { OnOk result (proc_of process.new ≡ (closed (proc_of process.old) outport.now).self) }
-    ensures channels { OnOk result (channels.new ≡ all_shed (closed (proc_of process.old) outport.now).drops channels.old) }
+    ensures process { OnOk result (proc_of process.new ≡ (after_close (proc_of process.old) outport.now).self) }
+    ensures channels { OnOk result (chans_of channels.new ≡ all_shed (after_close (proc_of process.old) outport.now).drops (chans_of channels.old)) }
 {
     match process.close(outport)? {
         Some(port) => channels.discard(port),
@@ -122,72 +145,68 @@ fn alone(alloc: Global, cost: u64) -> Done
 }
 
 fn start(alloc: Global, process: &mut PlainProc) -> Result<Done, NoMemory>
-    ensures process { OnOk result (proc_of process.new ≡ (started (proc_of process.old)).self) }
-    ensures children { IfOk result (λ done. map proc_of done.children.items ≡ (started (proc_of process.old)).starts) }
-    ensures cost { IfOk result (λ done. done.cost ≡ (started (proc_of process.old)).cost) }
+    ensures process { OnOk result (proc_of process.new ≡ (after_start (proc_of process.old)).self) }
+    ensures children { IfOk result (λ done. map proc_of done.children.items ≡ (after_start (proc_of process.old)).starts) }
+    ensures cost { IfOk result (λ done. done.cost ≡ (after_start (proc_of process.old)).cost) }
 {
     let children = process.start(alloc)?;
     let cost = 1 + children.len() as u64;
     Ok(Done { children, cost })
 }
 
-/// Does the next event of a process, as far as it touches the process and the channels. `kept` is what
-/// its children kept, where it joins them.
+/// Does the event at which a process stands, as far as it touches the process and the channels. `kept`
+/// is what its children kept, where it joins them.
 pub(crate) fn perform(
     alloc: Global,
     program: &Program,
     path: &Path,
     process: &mut PlainProc,
     channels: &mut Channels,
+    event: Event<'_>,
     kept: Vec<Kept>,
 ) -> Result<Done, NoMemory>
-    requires event { is_event (action_of program.now (proc_of process.old)) ≡ true }
-    requires ready { is_served channels.old (action_of program.now (proc_of process.old)) ≡ true }
-    requires new { get channels.old (name_of path.now (proc_of process.old).next_channel) ≡ None }
+    requires event { IsEvent program.now (proc_of process.old) (action_of program.now (proc_of process.old)) event }
+    requires ready { is_served (chans_of channels.old) (need_of program.now (proc_of process.old)) ≡ true }
+    requires new { get (chans_of channels.old) (name_of path.now (proc_of process.old).next_channel) ≡ None }
     ensures { IfOk result (λ done. (kids : List Proc) → map kept_of kids ≡ map kept_in kept.items →
-        Performs program.now path.now (proc_of process.old) channels.old kids (proc_of process.new) (map proc_of done.children.items) channels.new done.cost) }
+        Performs program.now path.now (proc_of process.old) (chans_of channels.old) kids (proc_of process.new) (map proc_of done.children.items) (chans_of channels.new) done.cost) }
 {
-    match process.event(alloc, program)? {
-        Some(Event::Fault(line, fault)) => {
+    match event {
+        Event::Fault(line, fault) => {
             process.fail(line, fault);
             Ok(alone(alloc, 1))
         }
-        Some(Event::Make(inport, outport)) => {
-            let inport = inport.copy(alloc)?;
-            let outport = outport.copy(alloc)?;
-            make(alloc, path, process, channels, &inport, &outport)?;
+        Event::Make(inport, outport) => {
+            make(alloc, path, process, channels, inport, outport)?;
             Ok(alone(alloc, 1))
         }
-        Some(Event::Send(port, message)) => {
-            send(channels, port, message)?;
+        Event::Send(outport, message) => {
+            send(process, channels, outport, message)?;
             process.sent()?;
             Ok(alone(alloc, 2))
         }
-        Some(Event::Receive(port, line, item)) => {
-            let message = message_in(channels.receive(port));
-            let item = item.copy(alloc)?;
-            let cost = receive(alloc, process, channels, message, line, &item)?;
+        Event::Receive(inport, line, item) => {
+            let message = message_in(take_message(process, channels, inport));
+            let cost = receive(alloc, process, channels, message, line, item)?;
             Ok(alone(alloc, cost))
         }
-        Some(Event::Close(outport)) => {
-            let outport = outport.copy(alloc)?;
-            close(process, channels, &outport)?;
+        Event::Close(outport) => {
+            close(process, channels, outport)?;
             Ok(alone(alloc, 1))
         }
-        Some(Event::Start) => {
+        Event::Start => {
             let done = start(alloc, process)?;
             Ok(done)
         }
-        Some(Event::Join(_, _)) => {
+        Event::Join(_, _) => {
             let (ports, cost) = process.join(alloc, program, kept)?;
             discard_each(channels, ports);
             Ok(alone(alloc, cost))
         }
-        Some(Event::End) => {
+        Event::End => {
             let ports = process.end(alloc, program)?;
             discard_each(channels, ports);
             Ok(alone(alloc, 1))
         }
-        None => unreachable!(),
     }
 }

@@ -6,7 +6,7 @@ ghost use Rattle.fm_sched.specs.Schedule.{IsReached};
 ghost use Rattle.fm_mean.specs.Process.{Proc};
 ghost use Rattle.fm_mean.specs.Steps.{step, first};
 ghost use Rattle.fm_run.specs.Readings.{procs_of, state_of};
-ghost use Rattle.fm_run.specs.Pieces.{is_more, AdvancesAt, IsPiece};
+ghost use Rattle.fm_run.specs.Pieces.{AdvancesAt, IsPiece};
 
 use crate::processes::{Net, Processes};
 use crate::ready::can_step;
@@ -32,24 +32,14 @@ pub struct Piece {
     pub started: usize,
 }
 
-fn is_more(stop: Stop) -> bool
-    ensures { result ≡ is_more stop }
-{
-    match stop {
-        Stop::More => true,
-        Stop::Event => false,
-        Stop::Fault(_) => false,
-    }
-}
-
 impl Processes {
     // Local steps of the process at a path.
-    fn advance(
+    fn advance<'p>(
         &mut self,
         alloc: Global,
-        program: &Program,
+        program: &'p Program,
         path: &Path,
-    ) -> Result<Advanced, NoMemory>
+    ) -> Result<Advanced<'p>, NoMemory>
         requires { is_some (get (procs_of self.old) path.now) ≡ true }
         ensures { IfOk result (λ a. (x : Proc) → get (procs_of self.old) path.now ≡ Some x → AdvancesAt program.now SLICE path.now x a (procs_of self.old) (procs_of self.new)) }
     {
@@ -60,24 +50,21 @@ impl Processes {
     }
 }
 
-fn local_piece(advanced: Advanced) -> Piece
-    ensures { result ≡ record { steps = advanced.steps; cost = advanced.cost; block = 0; started = 0 } }
+fn local_piece(steps: u32, cost: u64) -> Piece
+    ensures { result ≡ record { steps = steps; cost = cost; block = 0; started = 0 } }
 {
     Piece {
-        steps: advanced.steps,
-        cost: advanced.cost,
+        steps,
+        cost,
         block: 0,
         started: 0,
     }
 }
 
-fn with_step(advanced: Advanced, stepped: Stepped) -> Result<Piece, NoMemory>
-    ensures { IfOk result (λ r. r ≡ record { steps = advanced.steps + 1; cost = advanced.cost + stepped.cost; block = stepped.block; started = stepped.started }) }
+fn with_step(steps: u32, cost: u64, stepped: Stepped) -> Result<Piece, NoMemory>
+    ensures { IfOk result (λ r. r ≡ record { steps = steps + 1; cost = cost + stepped.cost; block = stepped.block; started = stepped.started }) }
 {
-    match (
-        advanced.steps.checked_add(1),
-        advanced.cost.checked_add(stepped.cost),
-    ) {
+    match (steps.checked_add(1), cost.checked_add(stepped.cost)) {
         (Some(steps), Some(cost)) => Ok(Piece {
             steps,
             cost,
@@ -89,7 +76,7 @@ fn with_step(advanced: Advanced, stepped: Stepped) -> Result<Piece, NoMemory>
 }
 
 /// Makes a piece of the process at a path, which can step: local steps, as many as `SLICE` at most, and
-/// then, where that stopped it before, one event, if it can do it.
+/// then, where an event stopped it before, that event, if it can do it.
 ///
 /// After want of memory the net isn't to be used any more.
 pub fn make_piece(
@@ -100,15 +87,18 @@ pub fn make_piece(
 ) -> Result<Piece, NoMemory>
     requires reached { IsReached (step program.now) (first program.now) (state_of net.old) }
     requires can { is_some (step program.now (state_of net.old) path.now) ≡ true }
-    ensures { IfOk result (λ r. IsPiece program.now (state_of net.old) path.now r (state_of net.new)) }
+    ensures { IfOk result (λ r. IsPiece program.now SLICE (state_of net.old) path.now r (state_of net.new)) }
 {
-    let advanced = net.processes.advance(alloc, program, path)?;
-    if is_more(advanced.stop) {
-        return Ok(local_piece(advanced));
+    let Advanced { stop, steps, cost } = net.processes.advance(alloc, program, path)?;
+    match stop {
+        Stop::More => Ok(local_piece(steps, cost)),
+        Stop::Rest => Ok(local_piece(steps, cost)),
+        Stop::Event(event) => {
+            if !can_step(alloc, net, program, path)? {
+                return Ok(local_piece(steps, cost));
+            }
+            let stepped = step(alloc, net, program, path, event)?;
+            with_step(steps, cost, stepped)
+        }
     }
-    if !can_step(alloc, net, program, path)? {
-        return Ok(local_piece(advanced));
-    }
-    let stepped = step(alloc, net, program, path)?;
-    with_step(advanced, stepped)
 }

@@ -1,14 +1,14 @@
 //! A run as it stands between two pieces.
 
-ghost use Rattle.std.specs.Prelude.{◌≡◌, ◌<◌, ◌+◌, true, [], IfOk, OnOk, MatchOption};
+ghost use Rattle.std.specs.Prelude.{◌≡◌, ℕ, ◌<◌, ◌≤◌, ◌+◌, true, [], length, slice_get, IfOk, OnOk};
 ghost use Rattle.fm_mean.specs.Steps.{first};
-ghost use Rattle.fm_run.specs.Goes.{family};
-ghost use Rattle.fm_run.specs.Orders.{Among, places_of, can_at};
+ghost use Rattle.fm_net.specs.Starts.{child_places};
+ghost use Rattle.fm_run.specs.Orders.{Among, places_of, can_at, chosen, ready_after};
 ghost use Rattle.fm_run.specs.Readings.{state_of};
-ghost use Rattle.fm_run.specs.Runs.{IsKept, IsPlayed};
+ghost use Rattle.fm_run.specs.Runs.{IsFrontWithin, IsPlayedBy, IsPlayed, IsEntry, first_stand, stand_of};
 
 use crate::orders::{candidates, chosen, keep_able};
-use crate::pieces::make_piece;
+use crate::pieces::{SLICE, make_piece};
 use crate::processes::{Net, Processes};
 use crate::ready::child_path;
 use fm_base::{NoMemory, Path, Turn};
@@ -46,7 +46,7 @@ fn first_net(alloc: Global, program: &Program) -> Result<Net, NoMemory>
 
 // The paths of so many children of a block.
 fn family(alloc: Global, path: &Path, block: u32, count: usize) -> Result<Vec<Arc<Path>>, NoMemory>
-    ensures { IfOk result (λ v. places_of v.items ≡ family path.now block 1 count) }
+    ensures { IfOk result (λ v. places_of v.items ≡ child_places path.now block 1 count) }
 {
     let mut paths = Vec::new(alloc);
     'children: for place in 0..count {
@@ -70,6 +70,8 @@ impl Player {
     pub fn new(alloc: Global, program: &Program) -> Result<Player, NoMemory>
         ensures played { IfOk result (λ player. IsPlayed program.now player) }
         ensures used { IfOk result (λ player. player.used ≡ 0) }
+        ensures history { IfOk result (λ player. player.history.items ≡ []) }
+        ensures stand { IfOk result (λ player. stand_of player ≡ first_stand program.now) }
     {
         let net = first_net(alloc, program)?;
         let paths = vec![in alloc; Arc::new(alloc, Path::main(alloc))?]?;
@@ -86,7 +88,7 @@ impl Player {
     /// The number of the process that makes the next piece: the one that the next choice tells, or the
     /// first one when the choices are used up. None where no process can step.
     pub fn next(&self, choices: &[u64]) -> Option<u32>
-        ensures { MatchOption result (self.now.able.items ≡ []) (λ n. Among n self.now.able.items) }
+        ensures { result ≡ chosen (slice_get choices.now (length self.now.history.items)) self.now.able.items }
     {
         let choice = choices.get(self.history.len()).copied();
         chosen(&self.able, choice)
@@ -94,10 +96,12 @@ impl Player {
 
     // Makes a piece of a process, and keeps it.
     fn keep_piece(&mut self, alloc: Global, program: &Program, number: u32) -> Result<(), NoMemory>
-        requires kept { IsKept program.now self.old.history.items (places_of self.old.paths.items) (state_of self.old.net) self.old.used }
+        requires kept { IsPlayedBy program.now self.old.history.items (places_of self.old.paths.items) (state_of self.old.net) self.old.used }
         requires able { can_at program.now (state_of self.old.net) (places_of self.old.paths.items) number ≡ true }
-        ensures kept { OnOk result (IsKept program.now self.new.history.items (places_of self.new.paths.items) (state_of self.new.net) self.new.used) }
+        ensures kept { OnOk result (IsPlayedBy program.now self.new.history.items (places_of self.new.paths.items) (state_of self.new.net) self.new.used) }
         ensures used { OnOk result (self.old.used < self.new.used) }
+        ensures front { OnOk result ((turns : ℕ) → self.old.used ≤ turns → IsFrontWithin program.now turns self.new.history.items (places_of self.new.paths.items)) }
+        ensures entry { OnOk result (IsEntry program.now SLICE number (state_of self.old.net) (places_of self.old.paths.items) self.old.history.items (state_of self.new.net) (places_of self.new.paths.items) self.new.history.items) }
         ensures able { OnOk result (self.new.able.items ≡ self.old.able.items) }
     {
         let path = match self.paths.get(number as usize) {
@@ -123,6 +127,9 @@ impl Player {
         requires able { Among number self.old.able.items }
         ensures played { OnOk result (IsPlayed program.now self.new) }
         ensures used { OnOk result (self.old.used < self.new.used) }
+        ensures front { OnOk result ((turns : ℕ) → self.old.used ≤ turns → IsFrontWithin program.now turns self.new.history.items (places_of self.new.paths.items)) }
+        ensures entry { OnOk result (IsEntry program.now SLICE number (state_of self.old.net) (places_of self.old.paths.items) self.old.history.items (state_of self.new.net) (places_of self.new.paths.items) self.new.history.items) }
+        ensures able { OnOk result (self.new.able.items ≡ ready_after program.now (state_of self.new.net) (places_of self.new.paths.items) self.old.able.items number) }
     {
         self.keep_piece(alloc, program, number)?;
         let order = candidates(alloc, &self.able, number, self.paths.len())?;

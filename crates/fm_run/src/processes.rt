@@ -7,14 +7,14 @@ ghost use Rattle.fm_run.specs.Readings.{procs_of};
 
 use fm_base::{NoMemory, Path};
 use fm_chan::Channels;
+use fm_maps::Map;
 use fm_plain::PlainProc;
 use std::alloc::Global;
-use std::collections::BTreeMap;
 
 /// The processes by their paths, also those that have ended. Contracts see a finite map (`procs_of`).
 #[derive(Drop)]
 pub struct Processes {
-    pub(crate) by_path: BTreeMap<Path, PlainProc>,
+    pub(crate) by_path: Map<Path, PlainProc>,
 }
 
 /// The processes and channels of a run.
@@ -32,7 +32,7 @@ impl Processes {
         ensures { procs_of result ≡ empty }
     {
         Processes {
-            by_path: BTreeMap::new(alloc),
+            by_path: Map::new(alloc),
         }
     }
 

@@ -3,9 +3,10 @@
 ghost use Rattle.std.specs.Prelude.{◌≡◌, ◌≤◌, ◌<◌, [], IfOk};
 ghost use Rattle.fm_mean.specs.Report.{outcome_of};
 ghost use Rattle.fm_run.specs.Readings.{state_of};
-ghost use Rattle.fm_run.specs.Runs.{IsPlayed, IsRun};
+ghost use Rattle.fm_run.specs.Runs.{Follows, IsPlayed, IsRun};
 
 use crate::outcome::outcome;
+use crate::pieces::SLICE;
 use crate::player::Player;
 use fm_base::{NoMemory, Path, Turn};
 use fm_mean::{Outcome, Program};
@@ -64,14 +65,16 @@ impl Player {
 ///
 /// Those that can step stand in a queue. The one that makes its piece leaves its place; others that have
 /// become able come behind, in the order of starting, and behind them the one itself, where it can step
-/// still. Each look at the queue takes time in proportion to the number of processes.
+/// still. A piece ends where it has `SLICE` steps, with an event, with the process's end or a fault, or
+/// where the process can't step. Each look at the queue takes time in proportion to the number of processes.
 pub fn run_program(
     alloc: Global,
     program: &Program,
     choices: &[u64],
     turns: u64,
 ) -> Result<Run, NoMemory>
-    ensures { IfOk result (λ r. IsRun program.now turns r) }
+    ensures run { IfOk result (λ r. IsRun program.now turns r) }
+    ensures follows { IfOk result (λ r. Follows program.now SLICE choices.now r.history.items) }
 {
     let mut player = Player::new(alloc, program)?;
     'pieces: while let Some(number) = player.next(choices) {

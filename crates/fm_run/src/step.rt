@@ -2,30 +2,31 @@
 
 ghost use Rattle.std.specs.Prelude.{◌≡◌, ◌++◌, ℕ, true, is_some, List, map, length, Option, Some, None, option_map, option_to_list, IfOk, OnOk, MatchOption};
 ghost use Rattle.std.specs.FinMap.{get, insert};
+ghost use Rattle.fm_chan.specs.Bodies.{chans_of};
 ghost use Rattle.fm_maps.specs.Changes.{alter, alters};
 ghost use Rattle.fm_net.specs.Machine.{start_changes, child_changes, gathered};
 ghost use Rattle.fm_net.specs.Owned.{IsOwned, name_of};
 ghost use Rattle.fm_mean.specs.Process.{Proc, has_ended as is_done};
-ghost use Rattle.fm_mean.specs.Actions.{action_of, local_step};
-ghost use Rattle.fm_mean.specs.Steps.{step, emptied, language};
-ghost use Rattle.fm_mean.specs.Starts.{starts_at};
+ghost use Rattle.fm_net.specs.Starts.{child_places, starts_at};
+ghost use Rattle.fm_mean.specs.Actions.{action_of};
+ghost use Rattle.fm_mean.specs.Steps.{step, emptied, language, need_of};
 ghost use Rattle.fm_plain.specs.Readings.{proc_of};
-ghost use Rattle.fm_plain.specs.Events.{is_event};
+ghost use Rattle.fm_plain.specs.Events.{IsEvent};
 ghost use Rattle.fm_plain.specs.Kept.{kept_of, kept_in};
 ghost use Rattle.fm_run.specs.Readings.{procs_of, state_of};
-ghost use Rattle.fm_run.specs.Goes.{joins_at, kids_by, collected, family, is_served, PerformsAt};
+ghost use Rattle.fm_run.specs.Goes.{joined_by, kids_by, collected, is_served, PerformsAt};
 
 use crate::perform::{Done, perform};
 use crate::processes::{Net, Processes};
 use crate::ready::child_path;
 use fm_base::{NoMemory, Path};
 use fm_mean::Program;
-use fm_plain::{Blocker, Kept, PlainProc};
+use fm_plain::{Event, Kept, PlainProc};
 use std::alloc::Global;
 
 /// What a step did, beside what it changed.
 #[derive(Drop)]
-pub struct Stepped {
+pub(crate) struct Stepped {
     /// The number of the block that started, if one did.
     pub block: u32,
     /// How many children started.
@@ -46,22 +47,23 @@ fn push_some(all: &mut Vec<Kept>, kept: Option<Kept>) -> Result<(), NoMemory>
     }
 }
 
-impl Processes {
-    // The block that a process joins, and the number of its children.
-    fn joined_block(&self, program: &Program, path: &Path) -> Option<(u32, usize)>
-        ensures { result ≡ joins_at program.now (get (procs_of self.now) path.now) }
-    {
-        match self.get(path) {
-            Some(process) => match process.blocker(program) {
-                Blocker::Children(block, count) => Some((block, count)),
-                Blocker::Rest => None,
-                Blocker::Free => None,
-                Blocker::Message(_) => None,
-            },
-            None => None,
-        }
+// The block that is joined by an event, and the number of its children.
+fn joined_block(event: &Event<'_>) -> Option<(u32, usize)>
+    ensures { result ≡ joined_by event.now }
+{
+    match event {
+        Event::Join(block, count) => Some((*block, *count)),
+        Event::Fault(_, _) => None,
+        Event::Make(_, _) => None,
+        Event::Send(_, _) => None,
+        Event::Receive(_, _, _) => None,
+        Event::Close(_) => None,
+        Event::Start => None,
+        Event::End => None,
     }
+}
 
+impl Processes {
     // The number of the block that a process starts next.
     fn next_block(&self, path: &Path) -> u32
         ensures { (x : Proc) → get (procs_of self.now) path.now ≡ Some x → result ≡ x.next_block }
@@ -103,17 +105,17 @@ impl Processes {
         Ok(all)
     }
 
-    // Takes out what the children keep that a process joins.
+    // Takes out what the children keep that are joined by an event.
     fn collect(
         &mut self,
         alloc: Global,
-        program: &Program,
         path: &Path,
+        event: &Event<'_>,
     ) -> Result<Vec<Kept>, NoMemory>
-        ensures processes { OnOk result (procs_of self.new ≡ alters (collected path.now (joins_at program.now (get (procs_of self.old) path.now))) (procs_of self.old)) }
-        ensures kept { IfOk result (λ v. (kids : List Proc) → kids_by (procs_of self.old) path.now (joins_at program.now (get (procs_of self.old) path.now)) ≡ Some kids → map kept_of kids ≡ map kept_in v.items) }
+        ensures processes { OnOk result (procs_of self.new ≡ alters (collected path.now (joined_by event.now)) (procs_of self.old)) }
+        ensures kept { IfOk result (λ v. (kids : List Proc) → kids_by (procs_of self.old) path.now (joined_by event.now) ≡ Some kids → map kept_of kids ≡ map kept_in v.items) }
     {
-        match self.joined_block(program, path) {
+        match joined_block(event) {
             Some((block, count)) => self.release_all(alloc, path, block, count),
             None => Ok(Vec::new(alloc)),
         }
@@ -146,40 +148,52 @@ impl Net {
         alloc: Global,
         program: &Program,
         path: &Path,
+        event: Event<'_>,
         kept: Vec<Kept>,
     ) -> Result<Done, NoMemory>
         requires there { is_some (get (procs_of self.old.processes) path.now) ≡ true }
-        requires event { (x : Proc) → get (procs_of self.old.processes) path.now ≡ Some x → is_event (action_of program.now x) ≡ true }
-        requires ready { (x : Proc) → get (procs_of self.old.processes) path.now ≡ Some x → is_served self.old.channels (action_of program.now x) ≡ true }
-        requires new { (x : Proc) → get (procs_of self.old.processes) path.now ≡ Some x → get self.old.channels (name_of path.now x.next_channel) ≡ None }
+        requires event { (x : Proc) → get (procs_of self.old.processes) path.now ≡ Some x → IsEvent program.now x (action_of program.now x) event }
+        requires ready { (x : Proc) → get (procs_of self.old.processes) path.now ≡ Some x → is_served (chans_of self.old.channels) (need_of program.now x) ≡ true }
+        requires new { (x : Proc) → get (procs_of self.old.processes) path.now ≡ Some x → get (chans_of self.old.channels) (name_of path.now x.next_channel) ≡ None }
         ensures { IfOk result (λ done. (x : Proc) (kids : List Proc) → get (procs_of self.old.processes) path.now ≡ Some x → map kept_of kids ≡ map kept_in kept.items →
-            PerformsAt program.now path.now x self.old.channels kids (procs_of self.old.processes) (procs_of self.new.processes) (map proc_of done.children.items) self.new.channels done.cost) }
+            PerformsAt program.now path.now x (chans_of self.old.channels) kids (procs_of self.old.processes) (procs_of self.new.processes) (map proc_of done.children.items) (chans_of self.new.channels) done.cost) }
     {
         match self.processes.by_path.get_mut(path) {
-            Some(process) => perform(alloc, program, path, process, &mut self.channels, kept),
+            Some(process) => {
+                perform(
+                    alloc,
+                    program,
+                    path,
+                    process,
+                    &mut self.channels,
+                    event,
+                    kept,
+                )
+            },
             None => unreachable!(),
         }
     }
 }
 
-/// Makes one step of the process at a path, which can step, and whose next step is an event.
+/// Makes one step of the process at a path, which can step, and stands at this event.
 ///
 /// After want of memory the net isn't to be used any more.
-pub fn step(
+pub(crate) fn step(
     alloc: Global,
     net: &mut Net,
     program: &Program,
     path: &Path,
+    event: Event<'_>,
 ) -> Result<Stepped, NoMemory>
     requires owned { IsOwned (language program.now) (state_of net.old) }
     requires can { is_some (step program.now (state_of net.old) path.now) ≡ true }
-    requires event { (x : Proc) → get (procs_of net.old.processes) path.now ≡ Some x → local_step program.now x ≡ None }
+    requires event { (x : Proc) → get (procs_of net.old.processes) path.now ≡ Some x → IsEvent program.now x (action_of program.now x) event }
     ensures step { IfOk result (λ r. step program.now (state_of net.old) path.now ≡ Some (state_of net.new, r.cost)) }
-    ensures starts { IfOk result (λ r. starts_at program.now (state_of net.old) path.now ≡ family path.now r.block 1 r.started) }
+    ensures starts { IfOk result (λ r. starts_at (language program.now) (state_of net.old) path.now ≡ child_places path.now r.block 1 r.started) }
 {
     let block = net.processes.next_block(path);
-    let kept = net.processes.collect(alloc, program, path)?;
-    let Done { children, cost } = net.perform(alloc, program, path, kept)?;
+    let kept = net.processes.collect(alloc, path, &event)?;
+    let Done { children, cost } = net.perform(alloc, program, path, event, kept)?;
     let started = children.len();
     net.processes.start_all(alloc, path, block, children)?;
     Ok(Stepped {

@@ -1,14 +1,19 @@
-use Rattle.std.proofs.Common.{◌≡◌, ◌⊎◌, Bool, true, false, List, get_or, subst, arith}
-use Rattle.fm_run.specs.Orders.{Among}
-use Rattle.fm_run.proofs.Numbers.{below_put, all_with_own}
+use Rattle.std.proofs.Common.{Bool, List, ℕ, cond, not, ◌==◌, ◌&&◌, ◌++◌, ◌∷◌, [], get_or, false, ap, ap₂, ◌∙◌, arith}
+use Rattle.fm_run.specs.Orders.{others_in, is_new}
+use Rattle.fm_run.proofs.Numbers.{new_by_marks, asked_more}
 use Rattle.fm_run.proofs.orders.candidates.Goals as goal
 
 pub others-preserved : goal.others-preserved
 others-preserved c =
-    let put = subst (λ (ms : List Bool). (c.others.number ≡ c.args.own) ⊎ ((get_or ms c.others.number false ≡ true) ⊎ Among c.others.number c.put_other.new.numbers.items)) c.deref.ensures.value c.in_ok-put_other.ensures.put in record {
-      marked = λ n e. c.in_ok-put_other.ensures.kept n (c.others.invariant.marked n e);
-      below = below_put c.args.own c.others.number c.in_ok-numbers.field-0.marks.items c.others.numbers.items c.put_other.new.numbers.items c.others.invariant.marked c.in_ok-put_other.ensures.kept put c.others.invariant.below;
+    let own = c.args.own in
+    let able = c.args.able.now in
+    let n = c.others.number in
+    let marks = c.in_ok-numbers.field-0.marks.items in
+    let told = ap (λ (ms : List Bool). not (n == own) && not (get_or ms n false)) c.deref.ensures.value
+    ∙ new_by_marks own able c.args.count marks c.others.invariant.marks n (omega arith) in
+    record {
+      marks = c.others.invariant.marks;
+      numbers =
+          c.in_ok-put_other.ensures ∙ ap₂ (λ (ns : List ℕ) (b : Bool). ns ++ cond b (n ∷ []) []) c.others.invariant.numbers told
+          ∙ asked_more (is_new own able) (others_in own able) n;
     }
-
-pub returns : goal.returns
-returns c = λ n low. all_with_own c.args.own n c.others.numbers.items c.push.new.self.items (c.others.invariant.below n (omega arith)) c.in_ok-push.ensures.items

@@ -1,11 +1,16 @@
 use Rattle.std.proofs.Common.{◌≤◌, ◌-◌}
-use Rattle.fm_run.specs.Runs.{IsPlayed}
+use Rattle.fm_run.specs.declared.pieces.TheConstants.{SLICE}
+use Rattle.fm_run.specs.Orders.{places_of}
+use Rattle.fm_run.specs.Runs.{IsFrontWithin, IsPlayed, stand_of}
+use Rattle.fm_run.proofs.Following.{IsFollowed}
 use Rattle.fm_run.proofs.run.run_program.Given as goal
 
 abbrev pub invariant-pieces : goal.invariant-pieces
 invariant-pieces l = record {
   played : IsPlayed l.program l.player;
   within : l.player.used ≤ l.turns;
+  front : IsFrontWithin l.program l.turns l.player.history.items (places_of l.player.paths.items);
+  followed : IsFollowed l.program SLICE l.choices l.player.history.items (stand_of l.player);
 }
 
 abbrev pub decreases-pieces : goal.decreases-pieces

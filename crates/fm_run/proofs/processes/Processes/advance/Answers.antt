@@ -17,4 +17,4 @@ returns c =
     let is = there c.args.self.now c.args.path.now (Some c.in-Some.process.now) c.in-Some.ensures.value in
     IfOk-weaker c.advance.result _ _ (λ a told x at.
     advances_at c.args.program.now _ c.args.path.now x (proc_of c.in-Some.process.now) (sym is ∙ at) a c.args.self.now (record { by_path = c.get_mut.follows.lender y }) y
-    ((c.get_mut.follows.holds y).3 (some_is _ c.in-Some.process.now c.in-Some.ensures.value)).0 told) c.advance.ensures
+    (c.get_mut.follows.holds y (some_is _ c.in-Some.process.now c.in-Some.ensures.value)) told) c.advance.ensures

@@ -15,7 +15,7 @@ pub returns-clause-processes : goal.returns-clause-processes
 returns-clause-processes c =
     let y = c.release.new.self in
     emptied_there c.args.self.now (record { by_path = c.get_mut.follows.lender y }) c.args.path.now c.in-Some.process.now y c.in-Some.ensures.value
-    ((c.get_mut.follows.holds y).3 (some_is _ c.in-Some.process.now c.in-Some.ensures.value)).0 c.release.ensures.child
+    (c.get_mut.follows.holds y (some_is _ c.in-Some.process.now c.in-Some.ensures.value)) c.release.ensures.child
 
 pub returns-clause-kept : goal.returns-clause-kept
 returns-clause-kept c = ap Some c.release.ensures.kept ∙ sym (ap (option_map kept_of) (there c.args.self.now c.args.path.now (Some c.in-Some.process.now) c.in-Some.ensures.value))
