@@ -16,7 +16,7 @@ use Rattle.fm_mean.specs.Steps.{step, first}
 use Rattle.fm_mean.proofs.Programs.{settles}
 use Rattle.fm_mean.specs.Report.{outcome_of, report_text}
 use Rattle.fm_front.specs.Verdict.{IsBrokenForm, AreStatementsOf}
-use Rattle.fm_front.specs.Program.{IsProgramOf}
+use Rattle.fm_front.specs.Program.{IsProgramOf, IsBuilt}
 use Rattle.fm_front.specs.Laws.{ProgramOrRefusal}
 use Rattle.fm_run.specs.Orders.{places_of}
 use Rattle.fm_run.specs.Runs.{IsRun, EndsSo}
@@ -30,7 +30,7 @@ use Rattle.fmc.specs.declared.answer.Exit.TheVariants.{Done, Faulted, Deadlocked
 use Rattle.fmc.specs.declared.answer.Reply.{Reply}
 use Rattle.fmc.specs.Exits.{is_end, is_decided}
 use Rattle.fmc.specs.Listing.{listed_text}
-use Rattle.fmc.specs.Answer.{Says, SaysOf, IsKept, IsEnded, IsUnplayed, HasHistory, IsAccepted, IsRefusedFor, IsCompleted, IsRefusedExit, IsTooLongExit, IsPlayedExit, source_limit, exit_by, exit_of, played, paid}
+use Rattle.fmc.specs.Answer.{Says, SaysOf, IsHistoryOf, IsEnded, IsUnplayed, IsNoHistory, HasHistory, IsAccepted, IsRefusedFor, IsCompleted, IsRefusedExit, IsTooLongExit, IsPlayedExit, source_limit, exit_by, exit_of, state_after, cost_of}
 use Rattle.fmc.specs.Reply.{bytes_of, places_in, IsReply, exit_in, text_in}
 
 -- Replies from what the parts give.
@@ -63,14 +63,14 @@ ended_says b turns vars Illegal h ps t e k = absurd (false≢true e)
 ended_says b turns vars Unfinished h ps t e k = absurd (false≢true e)
 
 -- a schedule that costs more than the turns: each one that ends costs as much or more
-spent_too : (program : Program) (turns : ℕ) (cs others : List Place) → IsLegal (step program) (first program) cs → turns < paid program cs → Settles (step program) (first program) others → turns < paid program others
+spent_too : (program : Program) (turns : ℕ) (cs others : List Place) → IsLegal (step program) (first program) cs → turns < cost_of program cs → Settles (step program) (first program) others → turns < cost_of program others
 spent_too program turns cs others legal over all = omega (arith, over, all.dearest cs legal)
 
 -- what a run says, by how it ended
-run_by : (b : List ℕ) (program : Program) (turns : ℕ) (vars : Bool) (history : List Turn) (places cs : List Place) (e : Ending) → length b ≤ source_limit → IsKept b program history places cs → EndsSo program turns cs e
+run_by : (b : List ℕ) (program : Program) (turns : ℕ) (vars : Bool) (history : List Turn) (places cs : List Place) (e : Ending) → length b ≤ source_limit → IsHistoryOf b program turns history places cs → EndsSo program turns cs e
     → Says (command.Run turns vars) b (exit_in e) history places (text_in turns vars e)
 run_by b program turns vars history places cs (ending.Ended o) le kept h =
-    let out = outcome_of program (paid program cs) (played program cs) in
+    let out = outcome_of program (cost_of program cs) (state_after program cs) in
     ended_says b turns vars (exit_of o) history places (report_text vars o) (end_by o.faults o.main_ended)
     (record {
       within = le;
@@ -94,12 +94,12 @@ run_by b program turns vars history places cs ending.Spent le kept h =
       spent_for_all = λ others ends. spent_too program turns cs others kept.legal h (settles program others ends);
     }
 
-kept_of : (b : List ℕ) (program : Program) (turns : ℕ) (r : run.Run) → IsProgramOf b program → (k : IsRun program turns r) → IsKept b program r.history.items (places_of r.paths.items) k.choices
-kept_of b program turns r lawful k = record { lawful = lawful; kept = k.kept; starts = k.places; legal = k.legal }
+history_of : (b : List ℕ) (program : Program) (turns : ℕ) (r : run.Run) → IsProgramOf b program → IsBuilt b → (k : IsRun program turns r) → IsHistoryOf b program turns r.history.items (places_of r.paths.items) k.choices
+history_of b program turns r lawful built k = record { lawful = lawful; built = built; kept = k.kept; starts = k.places; legal = k.legal; some_steps = k.some_steps; front_within = k.front_within }
 
-pub run_says : (b : List ℕ) (program : Program) (turns : ℕ) (vars : Bool) (r : run.Run) → length b ≤ source_limit → IsProgramOf b program → IsRun program turns r
+pub run_says : (b : List ℕ) (program : Program) (turns : ℕ) (vars : Bool) (r : run.Run) → length b ≤ source_limit → IsProgramOf b program → IsBuilt b → IsRun program turns r
     → Says (command.Run turns vars) b (exit_in r.ending) r.history.items (places_of r.paths.items) (text_in turns vars r.ending)
-run_says b program turns vars r le lawful k = run_by b program turns vars r.history.items (places_of r.paths.items) k.choices r.ending le (kept_of b program turns r lawful k) k.ends
+run_says b program turns vars r le lawful built k = run_by b program turns vars r.history.items (places_of r.paths.items) k.choices r.ending le (history_of b program turns r lawful built k) k.ends
 
 played_by : (fs : List FaultAt) (b : Bool) → IsPlayedExit (exit_by fs b)
 played_by [] true = inl (inl refl)
@@ -118,41 +118,41 @@ played_decided e (inr h) = ap is_decided h
 
 -- What follows from what is said.
 
-unplayed_history : (b : List ℕ) (h : List Turn) (ps : List Place) (t u : List ℕ) → IsUnplayed h ps t u → HasHistory b h ps
-unplayed_history b h ps t u k = inl (k.no_turns, k.no_places)
+no_history : (h : List Turn) (ps : List Place) (t u : List ℕ) → IsUnplayed h ps t u → IsNoHistory h ps
+no_history h ps t u k = (k.no_turns, k.no_places)
 
-run_history : (turns : ℕ) (vars : Bool) (b : List ℕ) (exit : Exit) (h : List Turn) (ps : List Place) (t : List ℕ) → Says (command.Run turns vars) b exit h ps t → HasHistory b h ps
+run_history : (turns : ℕ) (vars : Bool) (b : List ℕ) (exit : Exit) (h : List Turn) (ps : List Place) (t : List ℕ) → Says (command.Run turns vars) b exit h ps t → HasHistory (Some (command.Run turns vars)) b h ps
 run_history turns vars b Done h ps t k = inr (k.program, k.choices, k.kept)
 run_history turns vars b Faulted h ps t k = inr (k.program, k.choices, k.kept)
 run_history turns vars b Deadlocked h ps t k = inr (k.program, k.choices, k.kept)
-run_history turns vars b Refused h ps t k = unplayed_history b h ps t _ k.unplayed
+run_history turns vars b Refused h ps t k = inl (no_history h ps t _ k.unplayed)
 run_history turns vars b Spent h ps t k = inr (k.program, k.choices, k.kept)
 run_history turns vars b Usage h ps t k = absurd k
-run_history turns vars b ReadFault h ps t k = unplayed_history b h ps t _ k
+run_history turns vars b ReadFault h ps t k = inl (no_history h ps t _ k)
 run_history turns vars b WriteFault h ps t k = absurd k
-run_history turns vars b NoMemory h ps t k = unplayed_history b h ps t _ k
-run_history turns vars b TooLong h ps t k = unplayed_history b h ps t _ k.1
+run_history turns vars b NoMemory h ps t k = inl (no_history h ps t _ k)
+run_history turns vars b TooLong h ps t k = inl (no_history h ps t _ k.1)
 run_history turns vars b Malformed h ps t k = absurd k
 run_history turns vars b Illegal h ps t k = absurd k
 run_history turns vars b Unfinished h ps t k = absurd k
 
-list_history : (b : List ℕ) (exit : Exit) (h : List Turn) (ps : List Place) (t : List ℕ) → Says command.List b exit h ps t → HasHistory b h ps
-list_history b Done h ps t k = unplayed_history b h ps t _ k.unplayed
+list_history : (b : List ℕ) (exit : Exit) (h : List Turn) (ps : List Place) (t : List ℕ) → Says command.List b exit h ps t → IsNoHistory h ps
+list_history b Done h ps t k = no_history h ps t _ k.unplayed
 list_history b Faulted h ps t k = absurd k
 list_history b Deadlocked h ps t k = absurd k
-list_history b Refused h ps t k = unplayed_history b h ps t _ k.unplayed
+list_history b Refused h ps t k = no_history h ps t _ k.unplayed
 list_history b Spent h ps t k = absurd k
 list_history b Usage h ps t k = absurd k
-list_history b ReadFault h ps t k = unplayed_history b h ps t _ k
+list_history b ReadFault h ps t k = no_history h ps t _ k
 list_history b WriteFault h ps t k = absurd k
-list_history b NoMemory h ps t k = unplayed_history b h ps t _ k
-list_history b TooLong h ps t k = unplayed_history b h ps t _ k.1
+list_history b NoMemory h ps t k = no_history h ps t _ k
+list_history b TooLong h ps t k = no_history h ps t _ k.1
 list_history b Malformed h ps t k = absurd k
 list_history b Illegal h ps t k = absurd k
 list_history b Unfinished h ps t k = absurd k
 
-pub says_history : (o : Option Command) (b : List ℕ) (exit : Exit) (h : List Turn) (ps : List Place) (t : List ℕ) → SaysOf o b exit h ps t → HasHistory b h ps
-says_history None b exit h ps t k = unplayed_history b h ps t _ k.1
+pub says_history : (o : Option Command) (b : List ℕ) (exit : Exit) (h : List Turn) (ps : List Place) (t : List ℕ) → SaysOf o b exit h ps t → HasHistory o b h ps
+says_history None b exit h ps t k = no_history h ps t _ k.1
 says_history (Some (command.Run turns vars)) b exit h ps t k = run_history turns vars b exit h ps t k
 says_history (Some command.List) b exit h ps t k = list_history b exit h ps t k
 
@@ -160,7 +160,7 @@ run_completed : ProgramOrRefusal → (turns : ℕ) (vars : Bool) (b : List ℕ) 
 run_completed one turns vars b Done h ps t k r le v = inl (inl refl)
 run_completed one turns vars b Faulted h ps t k r le v = inl (inr (inl refl))
 run_completed one turns vars b Deadlocked h ps t k r le v = inl (inr (inr refl))
-run_completed one turns vars b Refused h ps t k r le v = absurd (one b v.0 k.refusal v.1 k.refused)
+run_completed one turns vars b Refused h ps t k r le v = absurd (one b v.0 k.refusal v.1 v.2 k.refused)
 run_completed one turns vars b Spent h ps t k r le v = inr (inl refl)
 run_completed one turns vars b Usage h ps t k r le v = absurd k
 run_completed one turns vars b ReadFault h ps t k r le v = absurd (r refl)
@@ -191,11 +191,11 @@ completed one (command.Run turns vars) b exit h ps t k r le v = run_completed on
 completed one command.List b exit h ps t k r le v = list_completed b exit h ps t k r le v
 
 run_refused : ProgramOrRefusal → (turns : ℕ) (vars : Bool) (b : List ℕ) (exit : Exit) (h : List Turn) (ps : List Place) (t : List ℕ) → Says (command.Run turns vars) b exit h ps t → (exit ≡ ReadFault → ⊥) → length b ≤ source_limit → (v : Refusal) → IsRefusedFor (command.Run turns vars) b v → IsRefusedExit exit
-run_refused one turns vars b Done h ps t k r le v w = absurd (one b k.program v k.kept.lawful w)
-run_refused one turns vars b Faulted h ps t k r le v w = absurd (one b k.program v k.kept.lawful w)
-run_refused one turns vars b Deadlocked h ps t k r le v w = absurd (one b k.program v k.kept.lawful w)
+run_refused one turns vars b Done h ps t k r le v w = absurd (one b k.program v k.kept.lawful k.kept.built w)
+run_refused one turns vars b Faulted h ps t k r le v w = absurd (one b k.program v k.kept.lawful k.kept.built w)
+run_refused one turns vars b Deadlocked h ps t k r le v w = absurd (one b k.program v k.kept.lawful k.kept.built w)
 run_refused one turns vars b Refused h ps t k r le v w = inl refl
-run_refused one turns vars b Spent h ps t k r le v w = absurd (one b k.program v k.kept.lawful w)
+run_refused one turns vars b Spent h ps t k r le v w = absurd (one b k.program v k.kept.lawful k.kept.built w)
 run_refused one turns vars b Usage h ps t k r le v w = absurd k
 run_refused one turns vars b ReadFault h ps t k r le v w = absurd (r refl)
 run_refused one turns vars b WriteFault h ps t k r le v w = absurd k

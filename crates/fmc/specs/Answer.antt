@@ -2,31 +2,34 @@
 -- Source: this profile.
 use Rattle.std.specs.Prelude.{◌≡◌, ◌≢◌, ◌⊎◌, ℕ, ◌<◌, ◌≤◌, Bool, true, false, List, [], ◌∷◌, ◌++◌, length, Option, Some, None, is_none, codes}
 use Rattle.std.specs.Fmt.{decimal}
-use Rattle.std.specs.Io.KnownBytes.{Appends}
+use Rattle.std.specs.Io.KnownBytes.{Appends, IsAtEnd}
 use Rattle.fm_base.specs.declared.schedule.Turn.{Turn}
 use Rattle.fm_base.specs.declared.rule.CheckFail.TheVariants as fail
 use Rattle.fm_base.specs.declared.rule.Refusal.{Refusal}
 use Rattle.fm_base.specs.Rules.{refusal_text}
 use Rattle.fm_base.specs.Verdict.{IsClean, IsLeast}
 use Rattle.fm_cards.specs.Cards.{cards_of}
+use Rattle.fm_io.specs.Causes.{Rose}
 use Rattle.fm_io.specs.Streams.{WritesFront}
 use Rattle.fm_sched.specs.Schedule.{play, used, IsLegal, IsEnding, Settles}
 use Rattle.fm_tree.specs.declared.program_unit.Placed.{Placed}
 use Rattle.fm_net.specs.Machine.{Place, State}
+use Rattle.fm_net.specs.Starts.{starts_of, choices_of}
 use Rattle.fm_mean.specs.declared.program.Program.{Program}
 use Rattle.fm_mean.specs.declared.outcome.FaultAt.{FaultAt}
 use Rattle.fm_mean.specs.declared.outcome.Outcome.{Outcome}
 use Rattle.fm_mean.specs.Process.{Proc}
-use Rattle.fm_mean.specs.Steps.{step, first}
-use Rattle.fm_mean.specs.Starts.{starts_of, choices_of}
+use Rattle.fm_mean.specs.Steps.{language, step, first}
 use Rattle.fm_mean.specs.Report.{outcome_of, report_text}
 use Rattle.fm_front.specs.Verdict.{IsBrokenForm, AreStatementsOf}
-use Rattle.fm_front.specs.Program.{IsProgramOf, IsRefusalOf}
+use Rattle.fm_front.specs.Program.{IsProgramOf, IsBuilt, IsRefusalOf}
+use Rattle.fm_run.specs.Runs.{HaveSteps, IsFrontWithin}
 use Rattle.fm_words.specs.Words.{command_of}
 use Rattle.fm_words.specs.declared.command.Command.{Command}
 use Rattle.fm_words.specs.declared.command.Command.TheVariants as command
 use Rattle.fmc.specs.declared.answer.Exit.{Exit}
 use Rattle.fmc.specs.declared.answer.Exit.TheVariants.{Done, Faulted, Deadlocked, Refused, Spent, Usage, ReadFault, WriteFault, NoMemory, TooLong, Malformed, Illegal, Unfinished}
+use Rattle.fmc.specs.Exits.{is_read}
 use Rattle.fmc.specs.Listing.{listed_text}
 
 abbrev pub usage_text : List ℕ
@@ -50,29 +53,32 @@ abbrev pub exit_of : Outcome → Exit
 exit_of o = exit_by o.faults o.main_ended
 
 -- the state that a schedule of a program leads to, and what it costs
-abbrev pub played : Program → List Place → State Proc
-played program choices = play (step program) (first program) choices
+abbrev pub state_after : Program → List Place → State Proc
+state_after program choices = play (step program) (first program) choices
 
-abbrev pub paid : Program → List Place → ℕ
-paid program choices = used (step program) (first program) choices
+abbrev pub cost_of : Program → List Place → ℕ
+cost_of program choices = used (step program) (first program) choices
 
--- the kept schedule is one of the program of the source, with its processes in the order of starting
-pub record IsKept (source : List ℕ) (program : Program) (history : List Turn) (places choices : List Place) : Type 0 where
+-- the kept schedule is one of the program of the source under these turns, with its processes in the order of starting
+pub record IsHistoryOf (source : List ℕ) (program : Program) (turns : ℕ) (history : List Turn) (places choices : List Place) : Type 0 where
   pub lawful : IsProgramOf source program
+  pub built : IsBuilt source
   pub kept : choices_of history places ≡ Some choices
-  pub starts : places ≡ starts_of program choices
+  pub starts : places ≡ starts_of (language program) (first program) choices
   pub legal : IsLegal (step program) (first program) choices
+  pub some_steps : HaveSteps history
+  pub front_within : IsFrontWithin program turns history places
 
 -- the kept schedule ends the program within the turns, and exit and text are those of the state in which it and every other schedule ends
 pub record IsEnded (source : List ℕ) (turns : ℕ) (vars : Bool) (exit : Exit) (history : List Turn) (places : List Place) (text : List ℕ) : Type 0 where
   pub within : length source ≤ source_limit
   pub program : Program
   pub choices : List Place
-  pub kept : IsKept source program history places choices
+  pub kept : IsHistoryOf source program turns history places choices
   pub ends : IsEnding (step program) (first program) choices
-  pub in_turns : paid program choices ≤ turns
-  pub exit_is : exit ≡ exit_of (outcome_of program (paid program choices) (played program choices))
-  pub text_is : text ≡ report_text vars (outcome_of program (paid program choices) (played program choices))
+  pub in_turns : cost_of program choices ≤ turns
+  pub exit_is : exit ≡ exit_of (outcome_of program (cost_of program choices) (state_after program choices))
+  pub text_is : text ≡ report_text vars (outcome_of program (cost_of program choices) (state_after program choices))
   -- so it is under every other schedule: it goes on to an end, and one that ends gives the same state at the same cost
   pub one_outcome : Settles (step program) (first program) choices
 
@@ -81,11 +87,11 @@ pub record IsSpent (source : List ℕ) (turns : ℕ) (history : List Turn) (plac
   pub within : length source ≤ source_limit
   pub program : Program
   pub choices : List Place
-  pub kept : IsKept source program history places choices
-  pub over : turns < paid program choices
+  pub kept : IsHistoryOf source program turns history places choices
+  pub over : turns < cost_of program choices
   pub text_is : text ≡ spent_text turns
   -- so does every schedule that ends
-  pub spent_for_all : (others : List Place) → IsEnding (step program) (first program) others → turns < paid program others
+  pub spent_for_all : (others : List Place) → IsEnding (step program) (first program) others → turns < cost_of program others
 
 -- nothing was played, and this is the text
 pub record IsUnplayed (history : List Turn) (places : List Place) (text told : List ℕ) : Type 0 where
@@ -101,9 +107,16 @@ pub record IsListed (source : List ℕ) (history : List Turn) (places : List Pla
   pub read : AreStatementsOf (cards_of source) statements
   pub unplayed : IsUnplayed history places text (listed_text statements)
 
--- nothing was played, or the schedule that was kept is one of the source's program
-abbrev pub HasHistory : List ℕ → List Turn → List Place → Type 0
-HasHistory source history places = ((history ≡ []) × (places ≡ [])) ⊎ ((program : Program) × (choices : List Place) × IsKept source program history places choices)
+-- nothing was played
+abbrev pub IsNoHistory : List Turn → List Place → Type 0
+IsNoHistory history places = (history ≡ []) × (places ≡ [])
+
+-- nothing was played, or the schedule that was kept is one of the source's program under these turns
+abbrev pub HasHistory : Option Command → List ℕ → List Turn → List Place → Type 0
+HasHistory None source history places = IsNoHistory history places
+HasHistory (Some (command.Run turns vars)) source history places =
+    IsNoHistory history places ⊎ ((program : Program) × (choices : List Place) × IsHistoryOf source program turns history places choices)
+HasHistory (Some command.List) source history places = IsNoHistory history places
 
 -- the command refuses the source for this: a run for the verdict or a statement that isn't built, a list for the form of text and statements alone
 abbrev pub IsRefusedFor : Command → List ℕ → Refusal → Type 0
@@ -112,7 +125,7 @@ IsRefusedFor command.List source v = IsLeast (IsBrokenForm source) v
 
 -- the command does its work on the source
 abbrev pub IsAccepted : Command → List ℕ → Type 0
-IsAccepted (command.Run turns vars) source = (program : Program) × IsProgramOf source program
+IsAccepted (command.Run turns vars) source = (program : Program) × IsProgramOf source program × IsBuilt source
 IsAccepted command.List source = IsClean (IsBrokenForm source)
 
 pub record IsRefused (command : Command) (source : List ℕ) (history : List Turn) (places : List Place) (text : List ℕ) : Type 0 where
@@ -146,12 +159,19 @@ abbrev pub SaysOf : Option Command → List ℕ → Exit → List Turn → List 
 SaysOf None b exit h ps t = (exit ≡ Usage) × IsUnplayed h ps t usage_text
 SaysOf (Some command) b exit h ps t = Says command b exit h ps t
 
--- what a call answers for these words and bytes, with what it wrote
-pub record Answers (words : List (List ℕ)) (b : List ℕ) (exit : Exit) (history : List Turn) (places : List Place) (old new : Option (List ℕ)) : Type 0 where
+-- what an exit says of the source is so: that it failed, by its counts of faults before and after, or that it was read to its end
+pub record HasGround (exit : Exit) (before after : ℕ) (left : Option (List ℕ)) : Type 0 where
+  pub read_fault : exit ≡ ReadFault → Rose before after
+  pub all_read : is_read exit ≡ true → IsAtEnd left
+
+-- what a call answers for these words and bytes, with what it wrote. Of the source: its counts of faults before and
+-- after, and what it has left
+pub record Answers (words : List (List ℕ)) (b : List ℕ) (exit : Exit) (history : List Turn) (places : List Place) (before after : ℕ) (left old new : Option (List ℕ)) : Type 0 where
   -- the whole text of the exit was written
   pub whole_text : exit ≢ WriteFault → (text : List ℕ) × SaysOf (command_of words) b exit history places text × Appends old new text
-  -- a front of the text of another exit was written
-  pub cut_short : exit ≡ WriteFault → (other : Exit) × (text : List ℕ) × SaysOf (command_of words) b other history places text × WritesFront old new text
+  -- a front of the text of another exit was written, which had its ground
+  pub cut_short : exit ≡ WriteFault → (other : Exit) × (text : List ℕ) × SaysOf (command_of words) b other history places text
+      × HasGround other before after left × WritesFront old new text
 
 -- the command did its work to the end, or as far as its turns, or found no memory
 abbrev pub IsCompleted : Command → Exit → Type 0

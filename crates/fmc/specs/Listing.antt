@@ -8,16 +8,16 @@ use Rattle.fm_base.specs.Tokens.{token_text}
 use Rattle.fm_tree.specs.Statements.{spelling_of}
 use Rattle.fm_tree.specs.declared.program_unit.Placed.{Placed}
 
--- to the right in so many places, behind blanks
-abbrev pub right_in : (places : ℕ) → List ℕ → List ℕ
-right_in places text = replicate (places - length text) 32 ++ text
+-- to the right in so many columns, behind blanks
+abbrev pub right_in : (width : ℕ) → List ℕ → List ℕ
+right_in width text = replicate (width - length text) 32 ++ text
 
--- the label in 5 places, or 5 blanks
+-- the label in 5 columns, or 5 blanks
 abbrev pub label_text : Option Label → List ℕ
 label_text None = right_in 5 []
 label_text (Some label) = right_in 5 (decimal label.0)
 
--- the line in 6 places, the label, and the spelling without blanks, with one blank between
+-- the line in 6 columns, the label, and the spelling without blanks, with one blank between
 abbrev pub listed_line : Placed → List ℕ
 listed_line p = (right_in 6 (decimal p.line.0) ++ 32 ∷ []) ++ ((label_text p.label ++ 32 ∷ []) ++ (flat_map token_text (spelling_of p.stmt) ++ 10 ∷ []))
 

@@ -46,8 +46,8 @@ impl Exit {
     }
 }
 
-/// The exit, and the schedule that was kept: so many steps of the process at a place of `paths`, one
-/// turn after the other. Both lists are empty where nothing was played.
+/// The exit, and the schedule that was kept: so many steps of the process of a number in `paths`,
+/// one turn after the other. Both lists are empty where nothing was played.
 #[derive(Drop)]
 pub struct Ran {
     /// How the call ended.

@@ -19,7 +19,7 @@ use fm_words::Command;
 use std::alloc::Global;
 
 /// A reply where nothing was played. Takes no memory.
-pub fn unplayed(alloc: Global, exit: Exit, text: Text) -> Reply
+pub fn unplayed_reply(alloc: Global, exit: Exit, text: Text) -> Reply
     ensures exit { result.ran.exit ≡ exit }
     ensures text { IsUnplayed result.ran.history.items (places_in result.ran) (bytes_of result.text) (bytes_of text) }
 {
@@ -33,12 +33,12 @@ pub fn unplayed(alloc: Global, exit: Exit, text: Text) -> Reply
     }
 }
 
-fn refused(alloc: Global, refusal: Refusal) -> Result<Reply, NoMemory>
+fn refusal_reply(alloc: Global, refusal: Refusal) -> Result<Reply, NoMemory>
     ensures exit { IfOk result (λ r. r.ran.exit ≡ Exit.Refused) }
     ensures text { IfOk result (λ r. IsUnplayed r.ran.history.items (places_in r.ran) (bytes_of r.text) (refusal_text refusal)) }
 {
     let text = Text::Made(refusal.text(alloc)?);
-    Ok(unplayed(alloc, Exit::Refused, text))
+    Ok(unplayed_reply(alloc, Exit::Refused, text))
 }
 
 fn exit_of(outcome: &Outcome) -> Exit
@@ -122,7 +122,7 @@ fn try_run(alloc: Global, bytes: &[u8], turns: u64, vars: bool) -> Result<Reply,
             ran,
             text: Text::Made(text),
         }),
-        Err(CheckFail::Refused(refusal)) => refused(alloc, refusal),
+        Err(CheckFail::Refused(refusal)) => refusal_reply(alloc, refusal),
         Err(CheckFail::NoMemory) => Err(NoMemory),
     }
 }
@@ -135,9 +135,9 @@ fn try_list(alloc: Global, bytes: &[u8]) -> Result<Reply, NoMemory>
     match statements(alloc, bytes) {
         Ok(statements) => {
             let text = Text::Made(list_text(alloc, &statements)?);
-            Ok(unplayed(alloc, Exit::Done, text))
+            Ok(unplayed_reply(alloc, Exit::Done, text))
         }
-        Err(CheckFail::Refused(refusal)) => refused(alloc, refusal),
+        Err(CheckFail::Refused(refusal)) => refusal_reply(alloc, refusal),
         Err(CheckFail::NoMemory) => Err(NoMemory),
     }
 }
@@ -154,6 +154,6 @@ pub fn reply(alloc: Global, command: Command, bytes: &[u8]) -> Reply
     };
     match tried {
         Ok(reply) => reply,
-        Err(NoMemory) => unplayed(alloc, Exit::NoMemory, Text::Fixed(b"no memory\n")),
+        Err(NoMemory) => unplayed_reply(alloc, Exit::NoMemory, Text::Fixed(b"no memory\n")),
     }
 }

@@ -15,11 +15,11 @@ ghost use Rattle.fmc.specs.Answer.{Answers, Says, SaysOf, HasHistory, IsAccepted
 ghost use Rattle.fmc.specs.Reply.{bytes_of, places_in};
 
 use crate::answer::{Exit, Ran, Reply, Text};
-use crate::response::{reply, run_source, unplayed};
+use crate::response::{reply, run_source, unplayed_reply};
 use fm_base::CheckFail;
 use fm_front::one_program;
 use fm_io::{ReadFail, Sink, Source, WriteFail, read_all, write_all};
-use fm_words::{Command, words as command_in};
+use fm_words::{Command, command_of};
 use std::alloc::Global;
 
 const LIMIT: usize = 1_000_000;
@@ -36,11 +36,15 @@ fn respond_to<S: Source>(alloc: Global, command: Command, source: &mut S) -> Rep
 {
     match read_all(alloc, source, LIMIT) {
         Ok(bytes) => reply(alloc, command, &bytes),
-        Err(ReadFail::Fault) => { unplayed(alloc, Exit::ReadFault, Text::Fixed(b"read fault\n")) }
-        Err(ReadFail::TooLong) => {
-            unplayed(alloc, Exit::TooLong, Text::Fixed(b"source too long\n"))
+        Err(ReadFail::Fault) => {
+            unplayed_reply(alloc, Exit::ReadFault, Text::Fixed(b"read fault\n"))
         }
-        Err(ReadFail::NoMemory) => { unplayed(alloc, Exit::NoMemory, Text::Fixed(b"no memory\n")) }
+        Err(ReadFail::TooLong) => {
+            unplayed_reply(alloc, Exit::TooLong, Text::Fixed(b"source too long\n"))
+        }
+        Err(ReadFail::NoMemory) => {
+            unplayed_reply(alloc, Exit::NoMemory, Text::Fixed(b"no memory\n"))
+        }
     }
 }
 
@@ -52,15 +56,16 @@ fn respond<S: Source>(alloc: Global, words: &[&str], source: &mut S) -> Reply
     ensures read { is_read result.ran.exit ≡ true → IsAtEnd (S.left source.new) }
     ensures later { S.faults source.old ≤ S.faults source.new }
 {
-    match command_in(words) {
+    match command_of(words) {
         Some(command) => respond_to(alloc, command, source),
-        None => unplayed(alloc, Exit::Usage, Text::Fixed(USAGE)),
+        None => unplayed_reply(alloc, Exit::Usage, Text::Fixed(USAGE)),
     }
 }
 
 fn finish<K: Sink>(sink: &mut K, reply: Reply) -> Ran
     requires { reply.ran.exit ≢ Exit.WriteFault }
     ensures whole { result.exit ≢ Exit.WriteFault → (result.exit ≡ reply.ran.exit) × Appends (K.written sink.old) (K.written sink.new) (bytes_of reply.text) }
+    ensures flushed { result.exit ≢ Exit.WriteFault → K.flushed sink.new }
     ensures cut { result.exit ≡ Exit.WriteFault → Rose (K.faults sink.old) (K.faults sink.new) × WritesFront (K.written sink.old) (K.written sink.new) (bytes_of reply.text) }
     ensures history { result.history ≡ reply.ran.history }
     ensures paths { result.paths ≡ reply.ran.paths }
@@ -92,11 +97,14 @@ fn finish<K: Sink>(sink: &mut K, reply: Reply) -> Ran
 /// after the program's name; the answer's exit, schedule and text are those of the bytes that the
 /// source had left.
 pub fn fmc<S: Source, K: Sink>(alloc: Global, words: &[&str], source: &mut S, sink: &mut K) -> Ran
-    // Exit, schedule and text are those of the bytes: the whole text was written, or a front of one.
+    // Exit, schedule and text are those of the bytes: the whole text was written and handed on, or a
+    // front of the text that would have been.
     ensures answers { IfSome (S.left source.old) (λ b.
-        Answers (map (λ w. w.now) words.now) b result.exit result.history.items (places_in result) (K.written sink.old) (K.written sink.new)) }
+        Answers (map (λ w. w.now) words.now) b result.exit result.history.items (places_in result)
+        (S.faults source.old) (S.faults source.new) (S.left source.new) (K.written sink.old) (K.written sink.new)) }
+    ensures flushed { result.exit ≢ Exit.WriteFault → K.flushed sink.new }
     // The kept schedule is one of the source's program, whatever the exit.
-    ensures history { IfSome (S.left source.old) (λ b. HasHistory b result.history.items (places_in result)) }
+    ensures history { IfSome (S.left source.old) (λ b. HasHistory (command_of (map (λ w. w.now) words.now)) b result.history.items (places_in result)) }
     ensures usage { result.exit ≢ Exit.WriteFault → is_usage result.exit ≡ is_none (command_of (map (λ w. w.now) words.now)) }
 
     // A fault is told only where the source or the sink failed in this call.
@@ -118,9 +126,9 @@ pub fn fmc<S: Source, K: Sink>(alloc: Global, words: &[&str], source: &mut S, si
 }
 
 /// Does with a source of these bytes what `run` does, under a schedule of the caller's: piece i, of at
-/// most 1,000 steps and an event, goes to the process at place `choices[i]`, modulo their number, in
-/// the list of those that can step, and to the first one when the choices are used up. Gives the exit
-/// with the kept schedule, and the text.
+/// most 1,000 steps and an event, goes to number `choices[i]`, from 0 and modulo their count, of those
+/// that can step, in their order, and to the first one when the choices are used up. Gives the exit with
+/// the kept schedule, and the text.
 pub fn play_choices(
     alloc: Global,
     source: &[u8],

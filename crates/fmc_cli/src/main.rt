@@ -5,11 +5,12 @@
 use fm_io::{StdSink, StdSource};
 use fmc::{Exit, fmc};
 use std::alloc::{AllocError, Global};
+use std::io::ErrorKind;
 use std::process::ExitCode;
 use std::rt::Env;
 use std::{env, io};
 
-/// The words after the program's name.
+/// The words after the program's name. `InvalidData` where one isn't UTF-8.
 fn words<R: Env + AllocGlobal>(rt: &R) -> io::Result<Vec<String>> {
     let mut words = Vec::new(rt.alloc());
     for (i, word) in env::args(rt)?.enumerate() {
@@ -28,15 +29,31 @@ fn views<'a>(alloc: Global, words: &'a [String]) -> Result<Vec<&'a str>, AllocEr
     Ok(views)
 }
 
-fn main(rt: HostRuntime) -> ExitCode {
-    let Ok(words) = words(&rt) else {
-        return ExitCode::from(Exit::NoMemory.status());
-    };
-    let Ok(views) = views(rt.alloc(), &words) else {
-        return ExitCode::from(Exit::NoMemory.status());
-    };
+fn exit(rt: &HostRuntime, words: &[&str]) -> Exit {
     let mut source = StdSource::new(rt.stdin());
     let mut sink = StdSink::new(rt.stdout());
-    let ran = fmc(rt.alloc(), &views, &mut source, &mut sink);
-    ExitCode::from(ran.exit.status())
+    fmc(rt.alloc(), words, &mut source, &mut sink).exit
+}
+
+/// The exit of a call whose words are all UTF-8.
+fn exit_of(rt: &HostRuntime, words: &[String]) -> Exit {
+    match views(rt.alloc(), words) {
+        Ok(views) => exit(rt, &views),
+        Err(AllocError) => Exit::NoMemory,
+    }
+}
+
+fn main(rt: HostRuntime) -> ExitCode {
+    let exit = match words(&rt) {
+        Ok(words) => exit_of(&rt, &words),
+        Err(error) => {
+            if error.kind() == ErrorKind::InvalidData {
+                // No command has a word that isn't UTF-8, and none has no words.
+                exit(&rt, &[])
+            } else {
+                Exit::NoMemory
+            }
+        }
+    };
+    ExitCode::from(exit.status())
 }
