@@ -4,8 +4,16 @@
 #[cfg(test)]
 mod base;
 #[cfg(test)]
+mod channels;
+#[cfg(test)]
 mod faults;
 #[cfg(test)]
-mod grammar;
+mod front;
+#[cfg(test)]
+mod io;
 #[cfg(test)]
 mod programs;
+#[cfg(test)]
+mod report;
+#[cfg(test)]
+mod words;

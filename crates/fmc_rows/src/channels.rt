@@ -1,0 +1,169 @@
+//! Channels with ample memory: that calls succeed, and worked examples of discarding, merging and room.
+
+use fm_base::{ChanName, NoMemory, Path, Seq};
+use fm_chan::{Channels, Got, Item, Message, Port};
+use std::alloc::Global;
+use std::process::Abort;
+use std::test::Fail;
+
+fn name(alloc: Global, number: u32) -> ChanName {
+    let maker = Path::main(alloc);
+    ChanName { maker, number }
+}
+
+fn made(
+    rt: &impl Abort,
+    alloc: Global,
+    channels: &mut Channels,
+    number: u32,
+) -> Result<(Port, Port), NoMemory> {
+    let name = name(alloc, number);
+    assert!(rt; !channels.contains(&name));
+    channels.make(alloc, name)
+}
+
+fn send(
+    rt: &impl Abort,
+    channels: &mut Channels,
+    port: &Port,
+    message: Message,
+) -> Result<(), NoMemory> {
+    assert!(rt; port.is_outport());
+    match channels.send(port, message) {
+        Ok(()) => Ok(()),
+        Err((_, fail)) => Err(fail),
+    }
+}
+
+fn receive(rt: &impl Abort, channels: &mut Channels, port: &Port) -> Got {
+    assert!(rt; !port.is_outport());
+    channels.receive(port, &[])
+}
+
+fn message(alloc: Global, item: Item) -> Result<Message, NoMemory> {
+    let mut items = Seq::new(alloc);
+    items.push(item)?;
+    Ok(Message { items })
+}
+
+fn word(alloc: Global, word: i64) -> Result<Message, NoMemory> {
+    let mut words = Seq::new(alloc);
+    words.push(word)?;
+    message(alloc, Item::Words(words))
+}
+
+// NULL, and a port.
+fn with_port(alloc: Global, port: Port) -> Result<Message, NoMemory> {
+    let mut ports = Seq::new(alloc);
+    ports.push(None)?;
+    ports.push(Some(port))?;
+    message(alloc, Item::Ports(ports))
+}
+
+fn first_word(got: Got) -> Option<i64> {
+    match got {
+        Got::Message(message) => match message.items.as_slice().first() {
+            Some(Item::Words(words)) => words.as_slice().first().copied(),
+            Some(Item::Ports(_)) | None => None,
+        },
+        Got::Exceeds | Got::Wait | Got::End => None,
+    }
+}
+
+fn is_wait(got: Got) -> bool {
+    match got {
+        Got::Wait => true,
+        Got::Message(_) | Got::Exceeds | Got::End => false,
+    }
+}
+
+fn is_end(got: Got) -> bool {
+    match got {
+        Got::End => true,
+        Got::Message(_) | Got::Exceeds | Got::Wait => false,
+    }
+}
+
+#[test]
+fn messages_come_in_order_and_then_the_end(rt: HostRuntime) -> Result<(), Fail> {
+    let alloc = rt.alloc();
+    let mut channels = Channels::new(alloc);
+    let (inport, outport) = made(&rt, alloc, &mut channels, 1)?;
+    assert!(rt; is_wait(receive(&rt, &mut channels, &inport)));
+    send(&rt, &mut channels, &outport, word(alloc, 7)?)?;
+    send(&rt, &mut channels, &outport, word(alloc, 8)?)?;
+    assert_eq!(rt; first_word(receive(&rt, &mut channels, &inport)), Some(7));
+    assert!(rt; channels.name(&outport) == inport.channel());
+    assert!(rt; outport.value(alloc)? != inport.value(alloc)?);
+    assert!(rt; outport.is_outport());
+    channels.close(outport);
+    assert_eq!(rt; first_word(receive(&rt, &mut channels, &inport)), Some(8));
+    assert!(rt; is_end(receive(&rt, &mut channels, &inport)));
+    Ok(())
+}
+
+// The inport of channel 1 goes, with it that of channel 2, and with that the outport of channel 3.
+#[test]
+fn ports_in_messages_go_with_an_inport(rt: HostRuntime) -> Result<(), Fail> {
+    let alloc = rt.alloc();
+    let mut channels = Channels::new(alloc);
+    let (first_in, first_out) = made(&rt, alloc, &mut channels, 1)?;
+    let (second_in, second_out) = made(&rt, alloc, &mut channels, 2)?;
+    let (third_in, third_out) = made(&rt, alloc, &mut channels, 3)?;
+    send(
+        &rt,
+        &mut channels,
+        &second_out,
+        with_port(alloc, third_out)?,
+    )?;
+    send(&rt, &mut channels, &first_out, with_port(alloc, second_in)?)?;
+    assert!(rt; is_wait(receive(&rt, &mut channels, &third_in)));
+    channels.discard(first_in);
+    assert!(rt; is_end(receive(&rt, &mut channels, &third_in)));
+    Ok(())
+}
+
+#[test]
+fn ports_in_a_message_go_where_the_inport_is_gone(rt: HostRuntime) -> Result<(), Fail> {
+    let alloc = rt.alloc();
+    let mut channels = Channels::new(alloc);
+    let (first_in, first_out) = made(&rt, alloc, &mut channels, 1)?;
+    let (second_in, second_out) = made(&rt, alloc, &mut channels, 2)?;
+    channels.discard(first_in);
+    send(
+        &rt,
+        &mut channels,
+        &first_out,
+        with_port(alloc, second_out)?,
+    )?;
+    assert!(rt; is_end(receive(&rt, &mut channels, &second_in)));
+    Ok(())
+}
+
+// A merger ends where its last writer is closed, in whatever order they are.
+#[test]
+fn a_merger_ends_with_its_last_writer(rt: HostRuntime) -> Result<(), Fail> {
+    let alloc = rt.alloc();
+    let mut channels = Channels::new(alloc);
+    let name = name(alloc, 1);
+    assert!(rt; !channels.contains(&name));
+    let (inport, mut outports) = channels.merge(alloc, name, 2)?;
+    let Some(last) = outports.pop() else {
+        return Ok(());
+    };
+    assert_eq!(rt; channels.writer(&last), Some(1));
+    assert_eq!(rt; channels.writer(&inport), None);
+    channels.discard(last);
+    assert!(rt; channels.probe(&inport));
+    let Some(first) = outports.pop() else {
+        return Ok(());
+    };
+    assert!(rt; first.is_outport());
+    channels.reserve(&first)?;
+    send(&rt, &mut channels, &first, word(alloc, 7)?)?;
+    assert!(rt; !channels.probe(&inport));
+    channels.discard(first);
+    assert_eq!(rt; first_word(receive(&rt, &mut channels, &inport)), Some(7));
+    assert!(rt; is_end(receive(&rt, &mut channels, &inport)));
+    Ok(())
+}
