@@ -1,0 +1,3 @@
+pub mod ByName
+pub mod Headings
+pub mod Context
