@@ -1,0 +1,6 @@
+pub mod Titles
+pub mod Broken
+pub mod Found
+pub mod Pieces
+pub mod Entries
+pub mod Units
