@@ -1,0 +1,8 @@
+use Rattle.std.proofs.Common.{◌≡◌, drop}
+use Rattle.std.specs.List.{flat_map}
+use Rattle.fm_symbols.specs.ByName.{with_all}
+use Rattle.fm_names.specs.Sheets.{decl_shapes}
+use Rattle.fm_names.proofs.sheet.add_shapes.Given as goal
+
+abbrev pub invariant-decls : goal.invariant-decls
+invariant-decls l = with_all l.arrays (flat_map (decl_shapes l.known l.at) (drop l.decl-index l.decls)) ≡ with_all l.fn.arrays (flat_map (decl_shapes l.known l.at) l.decls)

@@ -1,0 +1,5 @@
+pub mod Sheets
+pub mod Variables
+pub mod Layouts
+pub mod Broken
+pub mod Names
