@@ -1,0 +1,4 @@
+pub mod Flags
+pub mod Typing
+pub mod Expressions
+pub mod Variables
