@@ -1,0 +1,13 @@
+use Rattle.std.proofs.Common.{ap, ◌∙◌}
+use Rattle.fm_typing.specs.Flags.{both}
+use Rattle.fm_types.specs.Statements.{any_from, declaration_flags}
+use Rattle.fm_types.proofs.Places.{flags_more}
+use Rattle.fm_types.proofs.parts.any_declaration_flags.Goals as goal
+
+pub loop-declaration-init : goal.loop-declaration-init
+loop-declaration-init c = ap (λ f. any_from (declaration_flags c.args.context.now c.args.scope.now c.args.scalar) f c.args.declarations.now) c.no_flags-flags.ensures
+
+pub loop-declaration-preserved : goal.loop-declaration-preserved
+loop-declaration-preserved c =
+    flags_more (declaration_flags c.args.context.now c.args.scope.now c.args.scalar) c.args.declarations.now c.loop-declaration.declaration-index c.declaration-item.result c.loop-declaration.flags c.both-flags.result _
+    c.loop-declaration-test.true c.declaration-item.is (c.both-flags.ensures ∙ ap (both c.loop-declaration.flags) c.declaration_flags-more.ensures) c.loop-declaration.invariant

@@ -1,0 +1,13 @@
+use Rattle.std.proofs.Common.{ap, ◌∙◌}
+use Rattle.fm_typing.specs.Flags.{both}
+use Rattle.fm_types.specs.Statements.{any_from, expr_flags}
+use Rattle.fm_types.proofs.Places.{flags_more}
+use Rattle.fm_types.proofs.parts.any_expr_flags.Goals as goal
+
+pub loop-item-init : goal.loop-item-init
+loop-item-init c = ap (λ f. any_from (expr_flags c.args.context.now c.args.scope.now) f c.args.items.now) c.no_flags-flags.ensures
+
+pub loop-item-preserved : goal.loop-item-preserved
+loop-item-preserved c =
+    flags_more (expr_flags c.args.context.now c.args.scope.now) c.args.items.now c.loop-item.item-index c.item-item.result c.loop-item.flags c.both-flags.result _
+    c.loop-item-test.true c.item-item.is (c.both-flags.ensures ∙ ap (both c.loop-item.flags) c.expr_flags.ensures) c.loop-item.invariant

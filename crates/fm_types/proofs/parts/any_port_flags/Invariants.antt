@@ -1,0 +1,6 @@
+use Rattle.std.proofs.Common.{◌≡◌, drop}
+use Rattle.fm_types.specs.Statements.{any_from, in_any, port_flags}
+use Rattle.fm_types.proofs.parts.any_port_flags.Given as goal
+
+abbrev pub invariant-loop-variable : goal.invariant-loop-variable
+invariant-loop-variable l = any_from (port_flags l.context l.scope) l.flags (drop l.variable-index l.variables) ≡ in_any (port_flags l.context l.scope) l.variables
