@@ -1,0 +1,4 @@
+pub mod Items
+pub mod Formals
+pub mod Walks
+pub mod Any
