@@ -1,0 +1,6 @@
+use Rattle.std.proofs.Common.{◌≡◌, drop}
+use Rattle.fm_det.specs.Search.{racy_in}
+use Rattle.fm_det.proofs.racing.racy_in.Given as goal
+
+abbrev pub invariant-entries : goal.invariant-entries
+invariant-entries l = racy_in l.best (drop l.entry-index l.entries) ≡ racy_in l.fn.best l.entries

@@ -1,0 +1,4 @@
+pub mod Calls
+pub mod Race
+pub mod Recursion
+pub mod Search

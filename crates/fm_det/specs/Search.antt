@@ -1,0 +1,49 @@
+-- What is looked through for the least place.
+use Rattle.std.specs.Prelude.{ℕ, ◌+◌, Bool, false, if◌then◌else◌, nat_eq, nat_lt, Option, Some, None, List, [], ◌∷◌, ◌++◌, slice_get, slice_index_or}
+use Rattle.fm_base.specs.declared.name.Line.{Line}
+use Rattle.fm_base.specs.declared.rule.Refusal.{Refusal}
+use Rattle.fm_base.specs.declared.rule.Rule.TheVariants.{E45}
+use Rattle.fm_base.specs.Verdict.{place, when}
+use Rattle.fm_tree.specs.declared.program_unit.Entry.{Entry}
+use Rattle.fm_tree.specs.declared.program_unit.Unit.{Unit}
+use Rattle.fm_det.specs.declared.calls.Call.{Call}
+use Rattle.fm_det.specs.Race.{is_racy}
+
+-- both in one component
+abbrev pub same_name : Option ℕ → Option ℕ → Bool
+same_name None b = false
+same_name (Some a) None = false
+same_name (Some a) (Some b) = nat_eq a b
+
+abbrev pub is_back : List ℕ → ℕ → Call → Bool
+is_back names unit call = same_name (slice_get names unit) (slice_get names call.target)
+
+-- the calls of a unit that lead back to it, by the names of components
+abbrev pub back_calls : List ℕ → ℕ → List Call → List Refusal
+back_calls names unit [] = []
+back_calls names unit (call ∷ calls) = when (is_back names unit call) (place call.line.0 E45) ++ back_calls names unit calls
+
+-- the same for this unit and those behind it
+abbrev pub all_back_calls : List ℕ → ℕ → List (List Call) → List Refusal
+all_back_calls names unit [] = []
+all_back_calls names unit (calls ∷ rest) = back_calls names unit calls ++ all_back_calls names (unit + 1) rest
+
+-- the least line so far and another one
+abbrev pub lower : Option Line → Line → Option Line
+lower None line = Some line
+lower (Some best) line = Some (if nat_lt line.0 best.0 then line else best)
+
+abbrev pub lower_if : Bool → Option Line → Line → Option Line
+lower_if test best line = if test then lower best line else best
+
+abbrev pub racy_in : Option Line → List Entry → Option Line
+racy_in best [] = best
+racy_in best (e ∷ es) = racy_in (lower_if (is_racy e.stmt) best e.line) es
+
+abbrev pub racy_in_unit : Bool → Option Line → Unit → Option Line
+racy_in_unit flag best u = if flag then racy_in best u.body else best
+
+-- in this unit and those behind it that have a flag
+abbrev pub racy_from : List Bool → ℕ → Option Line → List Unit → Option Line
+racy_from flags unit best [] = best
+racy_from flags unit best (u ∷ us) = racy_from flags (unit + 1) (racy_in_unit (slice_index_or flags unit false) best u) us

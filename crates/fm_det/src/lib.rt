@@ -1,0 +1,10 @@
+//! The calls of a program: recursion, which is forbidden, and races, where a run may depend on the order of steps.
+#![tactic(auto)]
+
+mod calls;
+mod racing;
+mod recursive;
+
+pub use calls::Call;
+pub use racing::race;
+pub use recursive::recursion;
