@@ -1,0 +1,2 @@
+pub mod Phases
+mod Races

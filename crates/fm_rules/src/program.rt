@@ -1,0 +1,134 @@
+//! A program that breaks no rule.
+
+ghost use Rattle.std.specs.Prelude.{◌≡◌, ◌↔◌, true, IfOk};
+ghost use Rattle.fm_det.specs.Race.{IsDeterministic, IsRaceVerdict};
+ghost use Rattle.fm_symbols.specs.Context.{context_of};
+ghost use Rattle.fm_rules.specs.Program.{IsLawful, all_links, is_main, main_of};
+
+use fm_base::{Line, NoMemory, Seq};
+use fm_links::{EntryLinks, links};
+use fm_symbols::{Context, Names, heading_kind};
+use fm_tree::{Unit, UnitKind, Units};
+use std::alloc::Global;
+
+/// A program that breaks no rule: its units, its names, and what is looked up in them.
+#[derive(Drop)]
+pub struct Program {
+    units: Units,
+    names: Names,
+    context: Context,
+    links: Seq<Seq<EntryLinks>>,
+    main: u32,
+    race: Option<Line>,
+    ghost lawful: { ∥ IsLawful units names ∥₁ },
+    ghost context_is: { context ≡ context_of units.units names.units },
+    ghost links_are: { links ≡ all_links units.units },
+    ghost main_is: { main ≡ main_of units.units },
+    ghost race_is: { ∥ IsRaceVerdict units.units context race ∥₁ },
+}
+
+fn is_main(unit: &Unit) -> bool
+    ensures { result ≡ is_main unit.now }
+{
+    matches!(heading_kind(&unit.heading.stmt), UnitKind::Program)
+}
+
+/// The number of the PROGRAM unit.
+fn main_number(units: &[Unit]) -> usize
+    ensures { result ≡ main_of units.now }
+{
+    for number in 0..units.len() {
+        if is_main(&units[number]) {
+            return number;
+        }
+    }
+    0
+}
+
+fn make_links(alloc: Global, units: &[Unit]) -> Result<Seq<Seq<EntryLinks>>, NoMemory>
+    ensures { IfOk result (λ v. v ≡ all_links units.now) }
+{
+    let mut all = Seq::new(alloc);
+    'units: for unit in units {
+        all.push(links(alloc, unit.body.as_slice())?)?;
+    }
+    Ok(all)
+}
+
+impl Program {
+    /// The program of units and names that break no rule. `context` is what the names mean, `race` the least line of a
+    /// MERGER or PROBE that a process may come to.
+    pub(crate) fn new(
+        alloc: Global,
+        units: Units,
+        names: Names,
+        context: Context,
+        race: Option<Line>,
+    ) -> Result<Program, NoMemory>
+        requires lawful { ∥ IsLawful units names ∥₁ }
+        requires context { context ≡ context_of units.units names.units }
+        requires race { ∥ IsRaceVerdict units.units context race ∥₁ }
+        ensures units { IfOk result (λ p. p.units ≡ units) }
+        ensures names { IfOk result (λ p. p.names ≡ names) }
+    {
+        let links = make_links(alloc, units.units.as_slice())?;
+        let main = u32::try_from(main_number(units.units.as_slice())).map_err(|_| NoMemory)?;
+        Ok(Program {
+            units,
+            names,
+            context,
+            links,
+            main,
+            race,
+        })
+    }
+
+    /// The units, in the order of the source.
+    pub fn units(&self) -> &Units
+        ensures { result.now ≡ self.now.units }
+    {
+        &self.units
+    }
+
+    /// The names of each unit.
+    pub fn names(&self) -> &Names
+        ensures { result.now ≡ self.now.names }
+    {
+        &self.names
+    }
+
+    /// What the names mean in each unit.
+    pub fn context(&self) -> &Context
+        ensures { result.now ≡ context_of self.now.units.units self.now.names.units }
+    {
+        &self.context
+    }
+
+    /// For each unit where its entries lead to.
+    pub fn links(&self) -> &Seq<Seq<EntryLinks>>
+        ensures { result.now ≡ all_links self.now.units.units }
+    {
+        &self.links
+    }
+
+    /// The number of the PROGRAM unit, from 0.
+    pub fn main(&self) -> u32
+        ensures { result ≡ main_of self.now.units.units }
+    {
+        self.main
+    }
+
+    /// Whether every schedule comes to one outcome: no process comes to a MERGER or PROBE.
+    pub fn deterministic(&self) -> bool
+        ensures { result ≡ true ↔ IsDeterministic self.now.units.units (context_of self.now.units.units self.now.names.units) }
+    {
+        self.race.is_none()
+    }
+
+    /// The least line of a MERGER or PROBE that a process may come to.
+    pub fn first_race(&self) -> Option<Line>
+        ensures { ∥ IsRaceVerdict self.now.units.units (context_of self.now.units.units self.now.names.units) result ∥₁ }
+    {
+        self.race
+    }
+}
