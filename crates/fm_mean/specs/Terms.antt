@@ -7,7 +7,7 @@ use Rattle.std.proofs.lemmas.List.{append-nil}
 use Rattle.fm_mean.specs.declared.tree.Sign.{Sign}
 use Rattle.fm_mean.specs.declared.tree.Sign.TheVariants.{Plus, Minus}
 use Rattle.fm_mean.specs.declared.tree.Operator.{Operator}
-use Rattle.fm_mean.specs.declared.tree.Operator.TheVariants.{Add, Subtract, Multiply}
+use Rattle.fm_mean.specs.declared.tree.Operator.TheVariants.{Add, Subtract, Multiply, Divide, Power}
 
 pub data Term : Type 0 where
   number : (n : ℤ) → Term
@@ -31,6 +31,8 @@ abbrev pub operator_mark : Operator → Mark
 operator_mark Add = made 3
 operator_mark Subtract = made 4
 operator_mark Multiply = made 5
+operator_mark Divide = made 6
+operator_mark Power = made 7
 
 abbrev pub postfix : Term → List Mark
 postfix (number n) = inl n ∷ []
@@ -56,7 +58,9 @@ put_made (suc zero) st = of_one (signed Plus) st
 put_made (suc (suc zero)) st = of_one (signed Minus) st
 put_made (suc (suc (suc zero))) st = of_two (binary Add) st
 put_made (suc (suc (suc (suc zero)))) st = of_two (binary Subtract) st
-put_made (suc (suc (suc (suc (suc k))))) st = of_two (binary Multiply) st
+put_made (suc (suc (suc (suc (suc zero))))) st = of_two (binary Multiply) st
+put_made (suc (suc (suc (suc (suc (suc zero)))))) st = of_two (binary Divide) st
+put_made (suc (suc (suc (suc (suc (suc (suc k))))))) st = of_two (binary Power) st
 
 abbrev pub put : Mark → List Term → List Term
 put (inl n) st = number n ∷ st
@@ -79,6 +83,8 @@ pub joins : (o : Operator) (a b : Term) (ms : List Mark) (st : List Term) → ru
 joins Add a b ms st = refl
 joins Subtract a b ms st = refl
 joins Multiply a b ms st = refl
+joins Divide a b ms st = refl
+joins Power a b ms st = refl
 
 pub runs : (t : Term) (ms : List Mark) (st : List Term) → run (postfix t ++ ms) st ≡ run ms (t ∷ st)
 runs (number n) ms st = refl

@@ -1,5 +1,5 @@
 -- Variables of a frame, and the value of an expression or its first fault.
--- Source: ANSI X3.9-1978, sections 6.1 and 6.6, over 64 bits with Overflow (this profile).
+-- Source: ANSI X3.9-1978, sections 6.1 and 6.6, over 64 bits with Overflow and ZeroDivide (this profile).
 use Rattle.std.specs.Prelude.{ℕ, ℤ, pos, List, [], ◌∷◌, Result, Ok, Err, unwrap_or}
 use Rattle.std.specs.FinMap.{FinMap, get}
 use Rattle.std.specs.Ordering.{nat_cmp}
@@ -7,12 +7,12 @@ use Rattle.std.specs.Cmp.Lexicographic.{slice_cmp}
 use Rattle.fm_base.specs.declared.fault.Fault.{Fault}
 use Rattle.fm_base.specs.declared.output.Printed.{Printed}
 use Rattle.fm_base.specs.declared.output.Printed.TheVariants as printed
-use Rattle.fm_values.specs.Values.{sum, difference, product, opposite}
+use Rattle.fm_values.specs.Values.{sum, difference, product, opposite, quotient, power}
 use Rattle.fm_mean.specs.Terms.{Term, number, named, paren, signed, binary}
 use Rattle.fm_mean.specs.declared.tree.Sign.{Sign}
 use Rattle.fm_mean.specs.declared.tree.Sign.TheVariants.{Plus, Minus}
 use Rattle.fm_mean.specs.declared.tree.Operator.{Operator}
-use Rattle.fm_mean.specs.declared.tree.Operator.TheVariants.{Add, Subtract, Multiply}
+use Rattle.fm_mean.specs.declared.tree.Operator.TheVariants.{Add, Subtract, Multiply, Divide, Power}
 use Rattle.fm_mean.specs.declared.tree.Item.{Item}
 use Rattle.fm_mean.specs.declared.tree.Item.TheVariants.{Value, Text}
 
@@ -37,6 +37,8 @@ abbrev pub applied : Operator → ℤ → ℤ → Result ℤ Fault
 applied Add x y = sum x y
 applied Subtract x y = difference x y
 applied Multiply x y = product x y
+applied Divide x y = quotient x y
+applied Power x y = power x y
 
 -- operands from left to right; the first fault counts
 abbrev pub value_of : Term → Variables → Result ℤ Fault

@@ -16,6 +16,8 @@ pub enum Operator {
     Add,
     Subtract,
     Multiply,
+    Divide,
+    Power,
 }
 
 /// A node of an expression.

@@ -7,7 +7,7 @@ ghost use Rattle.fm_mean.specs.Values.{value_of, with_sign, applied};
 use crate::frame::{Frame, variable};
 use fm_base::Fault;
 use fm_mean::{Expr, Node, Operator, Sign};
-use fm_values::{add, multiply, negate, subtract};
+use fm_values::{add, divide, multiply, negate, power, subtract};
 
 fn signed(sign: Sign, value: i64) -> Result<i64, Fault>
     ensures { result ≡ with_sign sign value }
@@ -25,6 +25,8 @@ fn apply(operator: Operator, a: i64, b: i64) -> Result<i64, Fault>
         Operator::Add => add(a, b),
         Operator::Subtract => subtract(a, b),
         Operator::Multiply => multiply(a, b),
+        Operator::Divide => divide(a, b),
+        Operator::Power => power(a, b),
     }
 }
 
