@@ -4,7 +4,6 @@ use Rattle.std.specs.Prelude.{Option, Some, None, Contains, map}
 use Rattle.fm_base.specs.declared.rule.CheckFail.{CheckFail}
 use Rattle.fm_base.specs.declared.rule.CheckFail.TheVariants.{Refused, NoMemory}
 use Rattle.fm_base.specs.declared.rule.Refusal.{Refusal}
-use Rattle.fm_base.specs.declared.rule.Rule.TheVariants.{E26}
 use Rattle.fm_base.specs.Rules.{phase_of}
 use Rattle.fm_base.specs.Verdict.{Either, IsClean, IsLeast, IsVerdict, IsRefusal, IsOfPhase, IsBeforePhase, earliest, first_of, or_next, place}
 use Rattle.fm_base.proofs.Least.{verdict_same}
@@ -18,7 +17,9 @@ use Rattle.fm_stmt.specs.Checked.{IsStatementOf}
 use Rattle.fm_stmt.proofs.CardLaws as laws
 use Rattle.fm_tree.specs.declared.program_unit.Placed.{Placed}
 use Rattle.fm_front.specs.Program.{IsRefusalOf}
-use Rattle.fm_front.specs.Verdict.{AreStatementsOf, IsBrokenCard, IsBrokenForm, IsBrokenHeading, IsVerdictOn, HasRead, program_lines, wrong_programs}
+use Rattle.fm_rules.specs.Program.{AreShaped}
+use Rattle.fm_rules.proofs.Phases.{then_first, then_next}
+use Rattle.fm_front.specs.Verdict.{AreStatementsOf, IsBroken, IsBrokenCard, IsBrokenForm, IsBrokenLater, IsVerdictOn, HasRead}
 
 split : (cs : List Card) (c : Card) (q : Refusal) → IsBrokenCard (cs ++ c ∷ []) q → Either (IsBrokenCard cs) (card.IsBroken c) q
 split [] c q (inl b) = inr b
@@ -83,35 +84,21 @@ pub form_refused : (source : List ℕ) (e : CheckFail) → IsRefusal (cards.IsBr
 form_refused source (Refused q) h = form_verdict source (Some q) None h (λ e. absurd (cc e))
 form_refused source NoMemory h = tt
 
-form_phase : (source : List ℕ) → IsBeforePhase 2 (IsBrokenForm source)
-form_phase source q (inl b) = omega (arith, all_of_phase_zero source q b)
-form_phase source q (inr b) = omega (arith, cards_phase (cards_of source) q b)
-
-in_headings : (line : ℕ) (rest : List Refusal) (q : Refusal) (k : ℕ) → k < length (place line E26 ∷ rest) → get_or (place line E26 ∷ rest) k q ≡ q → (Contains rest q → phase_of q.rule ≡ 2) → phase_of q.rule ≡ 2
-in_headings line rest q zero l e behind = ap (λ (r : Refusal). phase_of r.rule) (sym e)
-in_headings line rest q (suc k) l e behind = behind (k, omega arith, e)
-
-all_headings : (lines : List ℕ) (q : Refusal) → Contains (map (λ line. place line E26) lines) q → phase_of q.rule ≡ 2
-all_headings [] q c = absurd (omega (arith, c.1))
-all_headings (line ∷ lines) q c = in_headings line (map (λ l. place l E26) lines) q c.0 c.1 c.2 (all_headings lines q)
-
-wrong_phase : (lines : List ℕ) (q : Refusal) → Contains (wrong_programs lines) q → phase_of q.rule ≡ 2
-wrong_phase [] q c = all_headings (1 ∷ []) q c
-wrong_phase (line ∷ lines) q c = all_headings lines q c
-
-heading_phase : (source : List ℕ) → IsOfPhase 2 (IsBrokenHeading source)
-heading_phase source q b = wrong_phase (program_lines b.0) q b.2
-
 pub form_first : (source : List ℕ) (q : Refusal) → IsLeast (IsBrokenForm source) q → IsVerdictOn source (Some q)
-form_first source q h = phase_join (IsBrokenForm source) (IsBrokenHeading source) 2 (Some q) None (form_phase source) (heading_phase source) h (λ e. absurd (cc e))
+form_first source q h = then_first (IsBrokenForm source) (IsBrokenLater source) q h
 
-pub heading_next : (source : List ℕ) (b : Option Refusal) → IsClean (IsBrokenForm source) → IsVerdict (IsBrokenHeading source) b → IsVerdictOn source b
-heading_next source b clean v = phase_join (IsBrokenForm source) (IsBrokenHeading source) 2 None b (form_phase source) (heading_phase source) clean (λ e. v)
+pub later_next : (source : List ℕ) (b : Option Refusal) → IsClean (IsBrokenForm source) → IsVerdict (IsBrokenLater source) b → IsVerdictOn source b
+later_next source b clean v = then_next (IsBrokenForm source) (IsBrokenLater source) b clean v
 
--- what is broken in the form or on a card is the refusal
-pub refused_form : (source : List ℕ) (e : CheckFail) → IsRefusal (IsBrokenForm source) e → IsRefusalOf source e
-refused_form source (Refused q) h = inl (form_first source q h)
+-- what is broken in the form or on a card is broken in the source
+pub refused_form : (source : List ℕ) (e : CheckFail) → IsRefusal (IsBrokenForm source) e → IsRefusal (IsBroken source) e
+refused_form source (Refused q) h = form_first source q h
 refused_form source NoMemory h = tt
+
+-- what is broken in the source is the refusal
+pub refused_source : (source : List ℕ) (e : CheckFail) → IsRefusal (IsBroken source) e → IsRefusalOf source e
+refused_source source (Refused q) h = inl h
+refused_source source NoMemory h = tt
 
 pub cards_refused : (source : List ℕ) (cs : List Card) (ps : List Placed) (best : Option Refusal) (q : Refusal) → cs ≡ cards_of source → IsClean (cards.IsBroken source) → HasRead cs ps best → best ≡ Some q → IsLeast (IsBrokenForm source) q
 cards_refused source cs ps best q e clean h is =
@@ -120,6 +107,13 @@ cards_refused source cs ps best q e clean h is =
 pub cards_clean : (source : List ℕ) (cs : List Card) (ps : List Placed) (best : Option Refusal) → cs ≡ cards_of source → IsClean (cards.IsBroken source) → HasRead cs ps best → best ≡ None → IsClean (IsBrokenForm source)
 cards_clean source cs ps best e clean h is =
     form_verdict source None None clean (λ _. subst (λ (l : List Card). IsClean (IsBrokenCard l)) e (subst (IsVerdict (IsBrokenCard cs)) is h.verdict))
+
+-- statements of cards have a form of the grammar
+pub are_shaped : (cs : List Card) (ps : List Placed) → AreStatementsOf cs ps → AreShaped ps
+are_shaped [] [] h = tt
+are_shaped [] (p ∷ ps) h = absurd h
+are_shaped (c ∷ cs) [] h = absurd h
+are_shaped (c ∷ cs) (p ∷ ps) h = (h.0.tree.1.1.shaped, are_shaped cs ps h.1)
 
 pub cards_read : (source : List ℕ) (cs : List Card) (ps : List Placed) (best : Option Refusal) → cs ≡ cards_of source → HasRead cs ps best → best ≡ None → AreStatementsOf (cards_of source) ps
 cards_read source cs ps best e h is = subst (λ (l : List Card). AreStatementsOf l ps) e (h.read is)

@@ -14,10 +14,13 @@ use Rattle.fm_tree.specs.declared.program_unit.Placed.{Placed}
 use Rattle.fm_mean.specs.declared.program.Program.{Program}
 use Rattle.fm_front.specs.declared.tables.Tables.{Tables}
 use Rattle.fm_front.specs.Units.{tables_of}
-use Rattle.fm_front.proofs.CardVerdicts.{heading_next}
+use Rattle.fm_rules.specs.declared.program.Program as rules
+use Rattle.fm_rules.specs.Broken.{IsBrokenStatement}
+use Rattle.fm_rules.specs.Program.{IsChecked}
+use Rattle.fm_front.proofs.CardVerdicts.{later_next}
 use Rattle.fm_front.specs.Built.{unbuilt_in, unbuilt_of}
-use Rattle.fm_front.specs.Verdict.{AreStatementsOf, IsBroken, IsBrokenForm, IsBrokenHeading, IsVerdictOn, program_lines, wrong_programs}
-use Rattle.fm_front.specs.Program.{IsProgramOf, IsBuilt, IsUnbuilt, IsRefusalOf, program_in, program_of}
+use Rattle.fm_front.specs.Verdict.{AreStatementsOf, IsBroken, IsBrokenForm, IsBrokenLater, IsVerdictOn}
+use Rattle.fm_front.specs.Program.{IsCheckedOf, IsProgramOf, IsBuilt, IsUnbuilt, IsRefusalOf, program_in, program_of}
 use Rattle.fm_front.specs.Laws.{OneVerdict, OneProgram, OneRefusal, ProgramOrRefusal, ProgramIsClean, VerdictIsRefusal}
 
 pub one_verdict : OneVerdict
@@ -68,30 +71,42 @@ module _ (one : OneStatement) where
   program_or_refusal source a q h k (inl v) = clean_alone source q h.clean v
   program_or_refusal source a q h k (inr u) = k.built q (subst (λ (l : List Placed). Contains (unbuilt_of l) q) (one_list (cards_of source) u.statements k.statements u.read k.read) u.least.broken)
 
-  -- the verdict on PROGRAM statements, where the statements are known
-  pub heading_verdict : (source : List ℕ) (ps : List Placed) (v : Option Refusal) → AreStatementsOf (cards_of source) ps → IsVerdict (Contains (wrong_programs (program_lines ps))) v → IsVerdict (IsBrokenHeading source) v
-  heading_verdict source ps v h w = verdict_same (Contains (wrong_programs (program_lines ps))) (IsBrokenHeading source)
+  -- the verdict on the statements, where they are known
+  later_verdict : (source : List ℕ) (ps : List Placed) (v : Option Refusal) → AreStatementsOf (cards_of source) ps → IsVerdict (IsBrokenStatement ps) v → IsVerdict (IsBrokenLater source) v
+  later_verdict source ps v h w = verdict_same (IsBrokenStatement ps) (IsBrokenLater source)
       (λ q c. (ps, h, c))
-      (λ q b. subst (λ (l : List Placed). Contains (wrong_programs (program_lines l)) q) (one_list (cards_of source) b.0 ps b.1 h) b.2) v w
+      (λ q b. subst (λ (l : List Placed). IsBrokenStatement l q) (one_list (cards_of source) b.0 ps b.1 h) b.2) v w
 
   -- the verdict of a source whose form and cards break no rule
-  pub heading_first : (source : List ℕ) (ps qs : List Placed) (v w : Option Refusal) → AreStatementsOf (cards_of source) ps → IsClean (IsBrokenForm source) → LeastLaw
-      → qs ≡ ps → v ≡ least (wrong_programs (program_lines qs)) → v ≡ w → IsVerdictOn source w
-  heading_first source ps qs v w h clean law same is e =
-      heading_next source w clean (heading_verdict source ps w h (subst (IsVerdict (Contains (wrong_programs (program_lines ps))))
-      (sym (ap (λ l. least (wrong_programs (program_lines l))) same) ∙ sym is ∙ e) (law (wrong_programs (program_lines ps)))))
+  pub statements_decide : (source : List ℕ) (ps : List Placed) (v : Option Refusal) → AreStatementsOf (cards_of source) ps → IsClean (IsBrokenForm source) → IsVerdict (IsBrokenStatement ps) v → IsVerdictOn source v
+  statements_decide source ps v h clean w = later_next source v clean (later_verdict source ps v h w)
+
+  -- what a check of the statements answers
+  pub checked : (ps : List Placed) (r : Result rules.Program CheckFail) → IfOk r (λ p. IsChecked ps p.units p.names)
+      → IfOk r (λ p. (source : List ℕ) → AreStatementsOf (cards_of source) ps → IsClean (IsBrokenForm source) → IsCheckedOf source p)
+  checked ps (Ok p) h = λ source read clean. record { statements = ps; read = read; clean = statements_decide source ps None read clean h.clean; checked = h }
+  checked ps (Err e) h = tt
+
+  refusal_in : (source : List ℕ) (ps : List Placed) (e : CheckFail) → AreStatementsOf (cards_of source) ps → IsClean (IsBrokenForm source) → IsRefusal (IsBrokenStatement ps) e → IsRefusal (IsBroken source) e
+  refusal_in source ps (Refused q) read clean h = statements_decide source ps (Some q) read clean h
+  refusal_in source ps NoMemory read clean h = tt
+
+  pub check_refused : (ps : List Placed) (r : Result rules.Program CheckFail) → IfErr r (IsRefusal (IsBrokenStatement ps))
+      → IfErr r (λ e. (source : List ℕ) → AreStatementsOf (cards_of source) ps → IsClean (IsBrokenForm source) → IsRefusal (IsBroken source) e)
+  check_refused ps (Ok p) h = tt
+  check_refused ps (Err e) h = λ source read clean. refusal_in source ps e read clean h
 
 pub program_is : (source : List ℕ) (ps : List Placed) (t : Tables) (p : Program) → AreStatementsOf (cards_of source) ps → IsVerdictOn source None → t ≡ tables_of ps
     → p ≡ program_in t → IsProgramOf source p
 program_is source ps t p h clean e is = record { statements = ps; read = h; clean = clean; program = is ∙ ap program_in e }
 
-pub built_is : (source : List ℕ) (ps : List Placed) (t : Tables) → AreStatementsOf (cards_of source) ps → t ≡ tables_of ps → IsClean (Contains (unbuilt_in t 0 t.scopes)) → IsBuilt source
-built_is source ps t h e built = record { statements = ps; read = h; built = subst (λ (x : Tables). IsClean (Contains (unbuilt_in x 0 x.scopes))) e built }
+pub built_is : (source : List ℕ) (ps : List Placed) (t : Tables) → AreStatementsOf (cards_of source) ps → t ≡ tables_of ps → IsClean (Contains (unbuilt_in t t.scopes)) → IsBuilt source
+built_is source ps t h e built = record { statements = ps; read = h; built = subst (λ (x : Tables). IsClean (Contains (unbuilt_in x x.scopes))) e built }
 
 pub unbuilt_is : (source : List ℕ) (ps : List Placed) (t : Tables) (e : CheckFail) → AreStatementsOf (cards_of source) ps → IsVerdictOn source None → t ≡ tables_of ps
-    → IsRefusal (Contains (unbuilt_in t 0 t.scopes)) e → IsRefusalOf source e
+    → IsRefusal (Contains (unbuilt_in t t.scopes)) e → IsRefusalOf source e
 unbuilt_is source ps t (Refused q) h clean e is =
-    inr (record { statements = ps; read = h; clean = clean; least = subst (λ (x : Tables). IsLeast (Contains (unbuilt_in x 0 x.scopes)) q) e is })
+    inr (record { statements = ps; read = h; clean = clean; least = subst (λ (x : Tables). IsLeast (Contains (unbuilt_in x x.scopes)) q) e is })
 unbuilt_is source ps t NoMemory h clean e is = tt
 
 pub none_unbuilt : LeastLaw → (qs : List Refusal) (v : Option Refusal) → v ≡ least qs → v ≡ None → IsClean (Contains qs)
@@ -108,11 +123,11 @@ answered source ps t (Ok p) h clean e is = program_is source ps t p h clean e is
 answered source ps t (Err fail) h clean e is = tt
 
 pub answered_built : (source : List ℕ) (ps : List Placed) (t : Tables) (r : Result Program CheckFail) → AreStatementsOf (cards_of source) ps → t ≡ tables_of ps
-    → IfOk r (λ p. IsClean (Contains (unbuilt_in t 0 t.scopes))) → IfOk r (λ p. IsBuilt source)
+    → IfOk r (λ p. IsClean (Contains (unbuilt_in t t.scopes))) → IfOk r (λ p. IsBuilt source)
 answered_built source ps t (Ok p) h e built = built_is source ps t h e built
 answered_built source ps t (Err fail) h e built = tt
 
 pub refused : (source : List ℕ) (ps : List Placed) (t : Tables) (r : Result Program CheckFail) → AreStatementsOf (cards_of source) ps → IsVerdictOn source None → t ≡ tables_of ps
-    → IfErr r (IsRefusal (Contains (unbuilt_in t 0 t.scopes))) → IfErr r (IsRefusalOf source)
+    → IfErr r (IsRefusal (Contains (unbuilt_in t t.scopes))) → IfErr r (IsRefusalOf source)
 refused source ps t (Ok p) h clean e is = tt
 refused source ps t (Err fail) h clean e is = unbuilt_is source ps t fail h clean e is

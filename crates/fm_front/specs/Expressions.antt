@@ -1,4 +1,4 @@
--- The expressions that are built: sums and products of numbers and integer variables.
+-- The expressions that are built: arithmetic on numbers and integer variables.
 -- Source: ANSI X3.9-1978, sections 4.1.2 and 6.1.
 use Rattle.std.specs.Prelude.{ℕ, ◌&&◌, nat_le, not, Bool, false, if◌then◌else◌, Option, Some, None, option_map, option_and_then, List, [], ◌∷◌}
 use Rattle.std.specs.FinMap.{contains_key}
@@ -10,7 +10,7 @@ use Rattle.fm_mean.specs.Terms.{Term, number, named, paren, signed, binary}
 use Rattle.fm_mean.specs.declared.tree.Sign.{Sign}
 use Rattle.fm_mean.specs.declared.tree.Sign.TheVariants.{Plus, Minus}
 use Rattle.fm_mean.specs.declared.tree.Operator.{Operator}
-use Rattle.fm_mean.specs.declared.tree.Operator.TheVariants.{Add, Subtract, Multiply}
+use Rattle.fm_mean.specs.declared.tree.Operator.TheVariants.{Add, Subtract, Multiply, Divide, Power}
 use Rattle.fm_front.specs.Units.{Ports}
 
 -- the letters I to N, of the names that are integers without a declaration
@@ -31,6 +31,8 @@ abbrev pub operator_of : Op → Option Operator
 operator_of op.Add = Some Add
 operator_of op.Sub = Some Subtract
 operator_of op.Mul = Some Multiply
+operator_of op.Div = Some Divide
+operator_of op.Pow = Some Power
 operator_of o = None
 
 -- the term of a tree, where the tree is built

@@ -30,7 +30,10 @@ use Rattle.fm_front.specs.declared.tables.Tables.{Tables}
 use Rattle.fm_front.specs.Units.{Ports, ByName, with_new, tables_of}
 use Rattle.fm_front.specs.Statements.{formals_in, statement_of}
 use Rattle.fm_front.specs.Built.{unbuilt_of}
-use Rattle.fm_front.specs.Verdict.{AreStatementsOf, IsVerdictOn, is_program}
+use Rattle.fm_rules.specs.declared.program.Program as rules
+use Rattle.fm_rules.specs.Program.{IsChecked}
+use Rattle.fm_unit.specs.Broken.{is_program}
+use Rattle.fm_front.specs.Verdict.{AreStatementsOf, IsVerdictOn}
 
 -- a statement of the body, at its line; headings and declarations are none
 abbrev pub entry_of : Tables → Ports → Placed → Option Entry
@@ -131,7 +134,14 @@ program_in t = record { main = main_from 0 t.scopes; units = map (unit_of t) t.s
 abbrev pub program_of : List Placed → Program
 program_of ps = program_in (tables_of ps)
 
--- the program of the statements of a source that breaks no rule
+-- the program of the statements of a source that breaks no rule, with its units and names
+pub record IsCheckedOf (source : List ℕ) (p : rules.Program) : Type 0 where
+  pub statements : List Placed
+  pub read : AreStatementsOf (cards_of source) statements
+  pub clean : IsVerdictOn source None
+  pub checked : IsChecked statements p.units p.names
+
+-- the program that runs
 pub record IsProgramOf (source : List ℕ) (p : Program) : Type 0 where
   pub statements : List Placed
   pub read : AreStatementsOf (cards_of source) statements

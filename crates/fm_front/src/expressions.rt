@@ -45,6 +45,8 @@ fn operator(op: Op) -> Option<Operator>
         Op::Add => Some(Operator::Add),
         Op::Sub => Some(Operator::Subtract),
         Op::Mul => Some(Operator::Multiply),
+        Op::Div => Some(Operator::Divide),
+        Op::Pow => Some(Operator::Power),
         _ => None,
     }
 }

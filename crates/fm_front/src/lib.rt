@@ -7,10 +7,9 @@ mod insertion;
 mod program;
 mod reading;
 mod source;
-mod standing;
 mod tables;
 mod translation;
 mod variables;
 
 pub use reading::statements;
-pub use source::{front, one_program, one_verdict};
+pub use source::{check_statements, front, one_program, one_verdict, runnable};

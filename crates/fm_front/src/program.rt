@@ -4,18 +4,17 @@ ghost use Rattle.std.specs.Prelude.{◌≡◌, ◌++◌, ◌||◌, IfOk, IfErr, 
 ghost use Rattle.fm_base.specs.declared.rule.Rule.TheVariants.{E10};
 ghost use Rattle.fm_base.specs.Verdict.{IsClean, IsRefusal, least, least_from, place, when};
 ghost use Rattle.fm_mean.specs.declared.program.Statement.{Statement};
+ghost use Rattle.fm_unit.specs.Broken.{is_program};
 ghost use Rattle.fm_front.specs.Built.{unbuilt_in, unbuilt_in_unit};
 ghost use Rattle.fm_front.specs.Program.{body_of, is_main, main_from, program_in, unit_of};
 
 use crate::built::is_built;
-use crate::reading::is_program;
-use crate::standing::{Standing, behind_by_front, closed_front, has_end};
 use crate::tables::{Scope, Tables, unit_number};
 use crate::translation::statement;
 use crate::variables::{formals, variables};
 use fm_base::{CheckFail, Line, Name, NoMemory, Refusal, Rule, Seq, keep_earlier, least_law};
 use fm_mean::{Entry, Program, Statement, Unit};
-use fm_tree::Placed;
+use fm_tree::{Placed, Stmt};
 use std::alloc::Global;
 
 fn push_entry(
@@ -51,41 +50,23 @@ fn keep_unless(best: Option<Refusal>, built: bool, line: Line) -> Option<Refusal
     }
 }
 
-// The body of a unit of this number, and the least of the best so far and of its statements that aren't
-// built.
+// The body of a unit, and the least of the best so far and of its statements that aren't built.
 fn body(
     alloc: Global,
     tables: &Tables,
-    unit: u32,
     scope: &Scope,
     best: Option<Refusal>,
 ) -> Result<(Vec<Entry>, Option<Refusal>), NoMemory>
     ensures body { IfOk result (λ r. r.0.items ≡ body_of tables.now scope.now.ports scope.now.statements) }
-    ensures best { IfOk result (λ r. r.1 ≡ least_from best (unbuilt_in_unit tables.now unit scope.now)) }
+    ensures best { IfOk result (λ r. r.1 ≡ least_from best (unbuilt_in_unit tables.now scope.now)) }
 {
     let mut best = best;
     let mut body = Vec::new(alloc);
-    let mut standing = Standing::start();
-    let statements = scope.statements.as_slice();
-    let ends = has_end(statements);
-    let closed = closed_front(statements)?;
-    'statements: for index in 0..statements.len() {
-        let placed = &statements[index];
+    'statements: for placed in scope.statements.as_slice() {
         let statement = statement(alloc, tables, &scope.ports, &placed.stmt)?;
-        let behind = behind_by_front(ends, closed, index, statements.len());
-        let becomes = statement.is_some();
-        let built = is_built(
-            tables,
-            unit,
-            &scope.ports,
-            standing,
-            behind,
-            placed,
-            becomes,
-        );
+        let built = is_built(tables, &scope.ports, placed, statement.is_some());
         best = keep_unless(best, built, placed.line);
         push_entry(placed.line, statement, &mut body)?;
-        standing = standing.after_statement(&placed.stmt)?;
     }
     Ok((body, best))
 }
@@ -103,15 +84,14 @@ fn copies(alloc: Global, names: &[Name]) -> Result<Seq<Name>, NoMemory>
 fn unit(
     alloc: Global,
     tables: &Tables,
-    unit: u32,
     scope: &Scope,
     best: Option<Refusal>,
 ) -> Result<(Unit, Option<Refusal>), NoMemory>
     ensures unit { IfOk result (λ r. r.0 ≡ unit_of tables.now scope.now) }
-    ensures best { IfOk result (λ r. r.1 ≡ least_from best (unbuilt_in_unit tables.now unit scope.now)) }
+    ensures best { IfOk result (λ r. r.1 ≡ least_from best (unbuilt_in_unit tables.now scope.now)) }
 {
     let statements = scope.statements.as_slice();
-    let (body, best) = body(alloc, tables, unit, scope, best)?;
+    let (body, best) = body(alloc, tables, scope, best)?;
     let unit = Unit {
         formals: copies(alloc, formals(statements))?,
         variables: variables(alloc, &scope.ports, statements, &body)?,
@@ -122,18 +102,23 @@ fn unit(
 
 fn units(alloc: Global, tables: &Tables) -> Result<(Vec<Unit>, Option<Refusal>), NoMemory>
     ensures units { IfOk result (λ r. r.0.items ≡ map (unit_of tables.now) tables.now.scopes) }
-    ensures best { IfOk result (λ r. r.1 ≡ least (unbuilt_in tables.now 0 tables.now.scopes)) }
+    ensures best { IfOk result (λ r. r.1 ≡ least (unbuilt_in tables.now tables.now.scopes)) }
 {
     let mut units = Vec::new(alloc);
     let mut best = None;
     let scopes = tables.scopes.as_slice();
     'scopes: for index in 0..scopes.len() {
-        let number = unit_number(index)?;
-        let (unit, least) = unit(alloc, tables, number, &scopes[index], best)?;
+        let (unit, least) = unit(alloc, tables, &scopes[index], best)?;
         units.push(unit)?;
         best = least;
     }
     Ok((units, best))
+}
+
+fn is_program(stmt: &Stmt) -> bool
+    ensures { result ≡ is_program stmt.now }
+{
+    matches!(stmt, Stmt::Program(_))
 }
 
 fn is_main(unit: &[Placed]) -> bool
@@ -159,8 +144,8 @@ fn main_number(scopes: &[Scope]) -> usize
 /// The program of units, or the least statement that isn't built.
 pub(crate) fn program(alloc: Global, tables: &Tables) -> Result<Program, CheckFail>
     ensures program { IfOk result (λ p. p ≡ program_in tables.now) }
-    ensures built { IfOk result (λ _. IsClean (Contains (unbuilt_in tables.now 0 tables.now.scopes))) }
-    ensures refused { IfErr result (IsRefusal (Contains (unbuilt_in tables.now 0 tables.now.scopes))) }
+    ensures built { IfOk result (λ _. IsClean (Contains (unbuilt_in tables.now tables.now.scopes))) }
+    ensures refused { IfErr result (IsRefusal (Contains (unbuilt_in tables.now tables.now.scopes))) }
 {
     least_law();
     let (units, best) = units(alloc, tables)?;

@@ -1,16 +1,16 @@
 //! The statements of a source.
 
-ghost use Rattle.std.specs.Prelude.{◌≡◌, ◌≤◌, ◌∷◌, ◌++◌, [], length, map, List, IfOk, IfErr};
-ghost use Rattle.fm_base.specs.declared.rule.Rule.TheVariants.{E26};
-ghost use Rattle.fm_base.specs.Verdict.{IsClean, IsRefusal, least, place};
+ghost use Rattle.std.specs.Prelude.{◌≤◌, ◌∷◌, ◌++◌, [], length, List, IfOk, IfErr};
+ghost use Rattle.fm_base.specs.Verdict.{IsClean, IsRefusal};
 ghost use Rattle.fm_cards.specs.Cards.{cards_of};
 ghost use Rattle.fm_cards.specs.declared.card.Card.{Card};
-ghost use Rattle.fm_front.specs.Verdict.{AreStatementsOf, HasRead, IsBrokenForm, is_program, program_line, program_lines, wrong_programs};
+ghost use Rattle.fm_front.specs.Verdict.{AreStatementsOf, HasRead, IsBrokenForm};
+ghost use Rattle.fm_rules.specs.Program.{AreShaped};
 
-use fm_base::{CheckFail, Line, NoMemory, Refusal, Rule, keep_earlier};
+use fm_base::{CheckFail, NoMemory, Refusal, keep_earlier};
 use fm_cards::{Card, cards};
 use fm_stmt::statement;
-use fm_tree::{Placed, Stmt};
+use fm_tree::Placed;
 use std::alloc::Global;
 
 // Reads one card more: its statement goes last, or the rule that it breaks may be the least so far.
@@ -49,6 +49,7 @@ fn read_cards(alloc: Global, cards: &[Card]) -> Result<(Vec<Placed>, Option<Refu
 pub fn statements(alloc: Global, source: &[u8]) -> Result<Vec<Placed>, CheckFail>
     requires { length source.now ≤ 1_000_000 }
     ensures statements { IfOk result (λ v. AreStatementsOf (cards_of source.now) v.items) }
+    ensures shaped { IfOk result (λ v. AreShaped v.items) }
     ensures clean { IfOk result (λ _. IsClean (IsBrokenForm source.now)) }
     ensures refused { IfErr result (IsRefusal (IsBrokenForm source.now)) }
 {
@@ -61,70 +62,4 @@ pub fn statements(alloc: Global, source: &[u8]) -> Result<Vec<Placed>, CheckFail
         Some(refusal) => Err(CheckFail::Refused(refusal)),
         None => Ok(statements),
     }
-}
-
-pub(crate) fn is_program(stmt: &Stmt) -> bool
-    ensures { result ≡ is_program stmt.now }
-{
-    matches!(stmt, Stmt::Program(_))
-}
-
-fn program_line(placed: &Placed) -> Option<u32>
-    ensures { result ≡ program_line placed.now }
-{
-    if is_program(&placed.stmt) {
-        Some(placed.line.0)
-    } else {
-        None
-    }
-}
-
-fn program_lines(alloc: Global, statements: &[Placed]) -> Result<Vec<u32>, NoMemory>
-    ensures { IfOk result (λ v. v.items ≡ program_lines statements.now) }
-{
-    let mut lines = Vec::new(alloc);
-    for placed in statements {
-        if let Some(line) = program_line(placed) {
-            lines.push(line)?;
-        }
-    }
-    Ok(lines)
-}
-
-// The least of E26 at these lines.
-fn least_program(lines: &[u32]) -> Option<Refusal>
-    ensures { result ≡ least (map (λ line. place line E26) lines.now) }
-{
-    let mut best = None;
-    for line in lines {
-        let refusal = Refusal {
-            line: Line(*line),
-            rule: Rule::E26,
-        };
-        best = keep_earlier(best, refusal);
-    }
-    best
-}
-
-fn wrong_program(lines: &[u32]) -> Option<Refusal>
-    ensures { result ≡ least (wrong_programs lines.now) }
-{
-    match lines {
-        [] => Some(Refusal {
-            line: Line(1),
-            rule: Rule::E26,
-        }),
-        [_, more @ ..] => least_program(more),
-    }
-}
-
-// The least of no PROGRAM statement and more than one.
-pub(crate) fn wrong_heading(
-    alloc: Global,
-    statements: &[Placed],
-) -> Result<Option<Refusal>, NoMemory>
-    ensures { IfOk result (λ v. v ≡ least (wrong_programs (program_lines statements.now))) }
-{
-    let lines = program_lines(alloc, statements)?;
-    Ok(wrong_program(&lines))
 }

@@ -308,7 +308,7 @@ fn arguments(
 }
 
 /// The names of a list; none where no parentheses are written.
-pub(crate) fn formal_list(formals: &Option<Seq<Name>>) -> &[Name]
+fn formal_list(formals: &Option<Seq<Name>>) -> &[Name]
     ensures { result.now ≡ formal_list formals.now }
 {
     match formals {

@@ -70,12 +70,15 @@ bound_of (n ∷ ns) = n
 abbrev pub run_with : List Setting → Option Command
 run_with ss = cond (are_single ss) (Some (command.Run (bound_of (filter_map turns_in ss)) (list_any is_vars ss))) None
 
--- `list` takes no more words
-abbrev pub list_with : List (List ℕ) → Option Command
-list_with [] = Some command.List
-list_with (w ∷ ws) = None
+-- a command that takes no more words
+abbrev pub alone : Command → List (List ℕ) → Option Command
+alone c [] = Some c
+alone c (w ∷ ws) = None
 
--- `run` and its options, or `list`
+-- `run` and its options, `check` or `list`
 abbrev pub command_of : List (List ℕ) → Option Command
 command_of [] = None
-command_of (w ∷ ws) = cond (bytes_eq w (codes "run")) (option_and_then run_with (settings_of ws)) (cond (bytes_eq w (codes "list")) (list_with ws) None)
+command_of (w ∷ ws) =
+    cond (bytes_eq w (codes "run")) (option_and_then run_with (settings_of ws))
+    (cond (bytes_eq w (codes "check")) (alone command.Check ws)
+    (cond (bytes_eq w (codes "list")) (alone command.List ws) None))

@@ -1,7 +1,7 @@
 //! The command that words are.
 
 ghost use Rattle.std.specs.Prelude.{◌≡◌, ◌++◌, map, option_and_then};
-ghost use Rattle.fm_words.specs.Words.{settings_of, run_with, list_with, command_of};
+ghost use Rattle.fm_words.specs.Words.{settings_of, run_with, alone, command_of};
 ghost use Rattle.fm_words.specs.Held.{options_of};
 
 use crate::option::next_option;
@@ -17,6 +17,8 @@ pub enum Command {
         /// Whether the report has the variables of main, and the cost.
         vars: bool,
     },
+    /// Checks a program and says whether it is deterministic.
+    Check,
     /// Checks a program and lists it.
     List,
 }
@@ -39,11 +41,11 @@ fn run_words(words: &[&str]) -> Option<Command>
     run_further(no_settings(), words)
 }
 
-fn list_words(words: &[&str]) -> Option<Command>
-    ensures { result ≡ list_with (map (λ w. w.now) words.now) }
+fn alone(command: Command, words: &[&str]) -> Option<Command>
+    ensures { result ≡ alone command (map (λ w. w.now) words.now) }
 {
     if words.is_empty() {
-        Some(Command::List)
+        Some(command)
     } else {
         None
     }
@@ -57,8 +59,10 @@ pub fn command_of(words: &[&str]) -> Option<Command>
     let (first, rest) = words.split_first()?;
     if *first == "run" {
         run_words(rest)
+    } else if *first == "check" {
+        alone(Command::Check, rest)
     } else if *first == "list" {
-        list_words(rest)
+        alone(Command::List, rest)
     } else {
         None
     }

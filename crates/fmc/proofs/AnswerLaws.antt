@@ -1,21 +1,29 @@
 -- What is answered, by the exit.
-use Rattle.std.proofs.Common.{◌≡◌, inl, inr, ℕ, ◌<◌, ◌≤◌, Bool, true, false, List, [], ◌∷◌, length, refl, sym, ap, subst, ◌∙◌, arith}
-use Rattle.std.specs.Prelude.{Option, Some, None, is_none, IfOk, IfSome, Result, Ok, Err}
+use Rattle.std.proofs.Common.{◌≡◌, ◌⊎◌, inl, inr, ℕ, ◌<◌, ◌≤◌, Bool, true, false, List, [], ◌∷◌, length, refl, sym, ap, subst, ◌∙◌, arith}
+use Rattle.std.specs.Prelude.{Option, Some, None, is_none, IfOk, IfErr, IfSome, Result, Ok, Err}
 use Rattle.std.proofs.lemmas.Bool.{false≢true}
 use Rattle.fm_base.specs.declared.schedule.Turn.{Turn}
 use Rattle.fm_base.specs.declared.rule.Refusal.{Refusal}
 use Rattle.fm_base.specs.Rules.{refusal_text}
-use Rattle.fm_base.specs.Verdict.{IsClean}
+use Rattle.fm_base.specs.Verdict.{IsClean, IsLeast, IsRefusal}
+use Rattle.fm_base.specs.declared.rule.CheckFail.{CheckFail}
+use Rattle.fm_base.specs.declared.name.Line.{Line}
 use Rattle.fm_cards.specs.Cards.{cards_of}
 use Rattle.fm_sched.specs.Schedule.{IsLegal, Settles}
 use Rattle.fm_tree.specs.declared.program_unit.Placed.{Placed}
+use Rattle.fm_tree.specs.declared.program_unit.Unit.{Unit}
+use Rattle.fm_symbols.specs.declared.names.UnitNames.{UnitNames}
+use Rattle.fm_symbols.specs.Context.{context_of}
+use Rattle.fm_unit.specs.Units.{units_of}
+use Rattle.fm_names.specs.Names.{names_of}
+use Rattle.fm_det.specs.Race.{IsRaceVerdict}
 use Rattle.fm_net.specs.Machine.{Place}
 use Rattle.fm_mean.specs.declared.program.Program.{Program}
 use Rattle.fm_mean.specs.declared.outcome.FaultAt.{FaultAt}
 use Rattle.fm_mean.specs.Steps.{step, first}
 use Rattle.fm_mean.proofs.Programs.{settles}
 use Rattle.fm_mean.specs.Report.{outcome_of, report_text}
-use Rattle.fm_front.specs.Verdict.{IsBrokenForm, AreStatementsOf}
+use Rattle.fm_front.specs.Verdict.{IsBroken, IsBrokenForm, AreStatementsOf}
 use Rattle.fm_front.specs.Program.{IsProgramOf, IsBuilt}
 use Rattle.fm_front.specs.Laws.{ProgramOrRefusal}
 use Rattle.fm_run.specs.Orders.{places_of}
@@ -30,17 +38,42 @@ use Rattle.fmc.specs.declared.answer.Exit.TheVariants.{Done, Faulted, Deadlocked
 use Rattle.fmc.specs.declared.answer.Reply.{Reply}
 use Rattle.fmc.specs.Exits.{is_end, is_decided}
 use Rattle.fmc.specs.Listing.{listed_text}
-use Rattle.fmc.specs.Answer.{Says, SaysOf, IsHistoryOf, IsEnded, IsUnplayed, IsNoHistory, HasHistory, IsAccepted, IsRefusedFor, IsCompleted, IsRefusedExit, IsTooLongExit, IsPlayedExit, source_limit, exit_by, exit_of, state_after, cost_of}
+use Rattle.fmc.specs.Answer.{Says, IsListOf, SaysRun, SaysTold, IsTold, TellsList, TellsDeterminism, IsFirstRaceOf, determinism_text, SaysOf, IsHistoryOf, IsEnded, IsUnplayed, IsNoHistory, HasHistory, IsAccepted, IsRefusedFor, IsCompleted, IsRefusedExit, IsTooLongExit, IsPlayedExit, source_limit, exit_by, exit_of, state_after, cost_of}
 use Rattle.fmc.specs.Reply.{bytes_of, places_in, IsReply, exit_in, text_in}
 
 -- Replies from what the parts give.
 
 pub refusal_says : (c : Command) (b : List ℕ) (v : Refusal) (r : Reply) → length b ≤ source_limit → IsRefusedFor c b v → r.ran.exit ≡ Refused → IsUnplayed r.ran.history.items (places_in r.ran) (bytes_of r.text) (refusal_text v) → IsReply c b r
 refusal_says (command.Run turns vars) b v r le h e u = subst (λ (x : Exit). Says (command.Run turns vars) b x r.ran.history.items (places_in r.ran) (bytes_of r.text)) (sym e) (record { within = le; refusal = v; refused = h; unplayed = u })
+refusal_says command.Check b v r le h e u = subst (λ (x : Exit). Says command.Check b x r.ran.history.items (places_in r.ran) (bytes_of r.text)) (sym e) (record { within = le; refusal = v; refused = h; unplayed = u })
 refusal_says command.List b v r le h e u = subst (λ (x : Exit). Says command.List b x r.ran.history.items (places_in r.ran) (bytes_of r.text)) (sym e) (record { within = le; refusal = v; refused = h; unplayed = u })
 
-pub listed_says : (b : List ℕ) (ss : List Placed) (r : Reply) → length b ≤ source_limit → IsClean (IsBrokenForm b) → AreStatementsOf (cards_of b) ss → r.ran.exit ≡ Done → IsUnplayed r.ran.history.items (places_in r.ran) (bytes_of r.text) (listed_text ss) → IsReply command.List b r
-listed_says b ss r le h k e u = subst (λ (x : Exit). Says command.List b x r.ran.history.items (places_in r.ran) (bytes_of r.text)) (sym e) (record { within = le; clean = h; statements = ss; read = k; unplayed = u })
+pub listed_says : (b : List ℕ) (ss : List Placed) (r : Reply) → length b ≤ source_limit → IsClean (IsBroken b) → AreStatementsOf (cards_of b) ss → r.ran.exit ≡ Done → IsUnplayed r.ran.history.items (places_in r.ran) (bytes_of r.text) (listed_text ss) → IsReply command.List b r
+listed_says b ss r le h k e u =
+    subst (λ (x : Exit). Says command.List b x r.ran.history.items (places_in r.ran) (bytes_of r.text)) (sym e)
+    (record { within = le; clean = h; statements = ss; read = k; told = listed_text ss; tells = refl; unplayed = u })
+
+pub checked_says : (b : List ℕ) (ss : List Placed) (race : Option Line) (r : Reply) → length b ≤ source_limit → IsClean (IsBroken b) → AreStatementsOf (cards_of b) ss → IsFirstRaceOf ss race
+    → r.ran.exit ≡ Done → IsUnplayed r.ran.history.items (places_in r.ran) (bytes_of r.text) (determinism_text race) → IsReply command.Check b r
+checked_says b ss race r le h k first e u =
+    subst (λ (x : Exit). Says command.Check b x r.ran.history.items (places_in r.ran) (bytes_of r.text)) (sym e)
+    (record { within = le; clean = h; statements = ss; read = k; told = determinism_text race; tells = (race, first, refl); unplayed = u })
+
+-- the first race of a checked program
+pub race_of : (ss : List Placed) (us : List Unit) (ns : List UnitNames) (race : Option Line) → us ≡ units_of ss → ns ≡ names_of (units_of ss) → ∥ IsRaceVerdict us (context_of us ns) race ∥₁ → IsFirstRaceOf ss race
+race_of ss us ns race e f h =
+    subst (λ (l : List Unit). ∥ IsRaceVerdict l (context_of l (names_of (units_of ss))) race ∥₁) e (subst (λ (l : List UnitNames). ∥ IsRaceVerdict us (context_of us l) race ∥₁) f h)
+
+-- the list of statements that were checked
+pub list_is : {V : Type 0} (items : V → List ℕ) (b : List ℕ) (ss : List Placed) (r : Result V CheckFail) → IsClean (IsBrokenForm b) → AreStatementsOf (cards_of b) ss → IfOk r (λ v. items v ≡ listed_text ss)
+    → IfOk r (λ _. (source : List ℕ) → AreStatementsOf (cards_of source) ss → IsClean (IsBrokenForm source) → IsClean (IsBroken source)) → IfOk r (λ v. IsListOf b (items v))
+list_is items b ss (Ok v) form read text clean = record { clean = clean b read form; statements = ss; read = read; listed = text }
+list_is items b ss (Err e) form read text clean = tt
+
+pub list_refused : {V : Type 0} (b : List ℕ) (ss : List Placed) (r : Result V CheckFail) → IsClean (IsBrokenForm b) → AreStatementsOf (cards_of b) ss
+    → IfErr r (λ e. (source : List ℕ) → AreStatementsOf (cards_of source) ss → IsClean (IsBrokenForm source) → IsRefusal (IsBroken source) e) → IfErr r (IsRefusal (IsBroken b))
+list_refused b ss (Ok v) form read h = tt
+list_refused b ss (Err e) form read h = h b read form
 
 end_by : (fs : List FaultAt) (b : Bool) → is_end (exit_by fs b) ≡ true
 end_by [] true = refl
@@ -136,25 +169,73 @@ run_history turns vars b Malformed h ps t k = absurd k
 run_history turns vars b Illegal h ps t k = absurd k
 run_history turns vars b Unfinished h ps t k = absurd k
 
-list_history : (b : List ℕ) (exit : Exit) (h : List Turn) (ps : List Place) (t : List ℕ) → Says command.List b exit h ps t → IsNoHistory h ps
-list_history b Done h ps t k = no_history h ps t _ k.unplayed
-list_history b Faulted h ps t k = absurd k
-list_history b Deadlocked h ps t k = absurd k
-list_history b Refused h ps t k = no_history h ps t _ k.unplayed
-list_history b Spent h ps t k = absurd k
-list_history b Usage h ps t k = absurd k
-list_history b ReadFault h ps t k = no_history h ps t _ k
-list_history b WriteFault h ps t k = absurd k
-list_history b NoMemory h ps t k = no_history h ps t _ k
-list_history b TooLong h ps t k = no_history h ps t _ k.1
-list_history b Malformed h ps t k = absurd k
-list_history b Illegal h ps t k = absurd k
-list_history b Unfinished h ps t k = absurd k
+-- of a command that runs nothing, and refuses for the least rule that is broken
+module _ (Tells : List Placed → List ℕ → Type 0) (command : Command) (b : List ℕ) (least : (v : Refusal) → IsRefusedFor command b v → IsLeast (IsBroken b) v) where
+  told_history : (exit : Exit) (h : List Turn) (ps : List Place) (t : List ℕ) → SaysTold Tells command b exit h ps t → IsNoHistory h ps
+  told_history Done h ps t k = no_history h ps t _ k.unplayed
+  told_history Faulted h ps t k = absurd k
+  told_history Deadlocked h ps t k = absurd k
+  told_history Refused h ps t k = no_history h ps t _ k.unplayed
+  told_history Spent h ps t k = absurd k
+  told_history Usage h ps t k = absurd k
+  told_history ReadFault h ps t k = no_history h ps t _ k
+  told_history WriteFault h ps t k = absurd k
+  told_history NoMemory h ps t k = no_history h ps t _ k
+  told_history TooLong h ps t k = no_history h ps t _ k.1
+  told_history Malformed h ps t k = absurd k
+  told_history Illegal h ps t k = absurd k
+  told_history Unfinished h ps t k = absurd k
+
+  told_completed : (exit : Exit) (h : List Turn) (ps : List Place) (t : List ℕ) → SaysTold Tells command b exit h ps t → (exit ≡ ReadFault → ⊥) → length b ≤ source_limit → IsClean (IsBroken b) → (exit ≡ Done) ⊎ (exit ≡ NoMemory)
+  told_completed Done h ps t k r le v = inl refl
+  told_completed Faulted h ps t k r le v = absurd k
+  told_completed Deadlocked h ps t k r le v = absurd k
+  told_completed Refused h ps t k r le v = absurd (v k.refusal (least k.refusal k.refused).broken)
+  told_completed Spent h ps t k r le v = absurd k
+  told_completed Usage h ps t k r le v = absurd k
+  told_completed ReadFault h ps t k r le v = absurd (r refl)
+  told_completed WriteFault h ps t k r le v = absurd k
+  told_completed NoMemory h ps t k r le v = inr refl
+  told_completed TooLong h ps t k r le v = absurd (omega (arith, k.0))
+  told_completed Malformed h ps t k r le v = absurd k
+  told_completed Illegal h ps t k r le v = absurd k
+  told_completed Unfinished h ps t k r le v = absurd k
+
+  told_refused : (exit : Exit) (h : List Turn) (ps : List Place) (t : List ℕ) → SaysTold Tells command b exit h ps t → (exit ≡ ReadFault → ⊥) → length b ≤ source_limit → (v : Refusal) → IsRefusedFor command b v → IsRefusedExit exit
+  told_refused Done h ps t k r le v w = absurd (k.clean v (least v w).broken)
+  told_refused Faulted h ps t k r le v w = absurd k
+  told_refused Deadlocked h ps t k r le v w = absurd k
+  told_refused Refused h ps t k r le v w = inl refl
+  told_refused Spent h ps t k r le v w = absurd k
+  told_refused Usage h ps t k r le v w = absurd k
+  told_refused ReadFault h ps t k r le v w = absurd (r refl)
+  told_refused WriteFault h ps t k r le v w = absurd k
+  told_refused NoMemory h ps t k r le v w = inr refl
+  told_refused TooLong h ps t k r le v w = absurd (omega (arith, k.0))
+  told_refused Malformed h ps t k r le v w = absurd k
+  told_refused Illegal h ps t k r le v w = absurd k
+  told_refused Unfinished h ps t k r le v w = absurd k
+
+  told_long : (exit : Exit) (h : List Turn) (ps : List Place) (t : List ℕ) → SaysTold Tells command b exit h ps t → (exit ≡ ReadFault → ⊥) → source_limit < length b → IsTooLongExit exit
+  told_long Done h ps t k r l = absurd (omega (arith, k.within))
+  told_long Faulted h ps t k r l = absurd k
+  told_long Deadlocked h ps t k r l = absurd k
+  told_long Refused h ps t k r l = absurd (omega (arith, k.within))
+  told_long Spent h ps t k r l = absurd k
+  told_long Usage h ps t k r l = absurd k
+  told_long ReadFault h ps t k r l = absurd (r refl)
+  told_long WriteFault h ps t k r l = absurd k
+  told_long NoMemory h ps t k r l = inr refl
+  told_long TooLong h ps t k r l = inl refl
+  told_long Malformed h ps t k r l = absurd k
+  told_long Illegal h ps t k r l = absurd k
+  told_long Unfinished h ps t k r l = absurd k
 
 pub says_history : (o : Option Command) (b : List ℕ) (exit : Exit) (h : List Turn) (ps : List Place) (t : List ℕ) → SaysOf o b exit h ps t → HasHistory o b h ps
 says_history None b exit h ps t k = no_history h ps t _ k.1
 says_history (Some (command.Run turns vars)) b exit h ps t k = run_history turns vars b exit h ps t k
-says_history (Some command.List) b exit h ps t k = list_history b exit h ps t k
+says_history (Some command.Check) b exit h ps t k = told_history TellsDeterminism command.Check b (λ v w. w) exit h ps t k
+says_history (Some command.List) b exit h ps t k = told_history TellsList command.List b (λ v w. w) exit h ps t k
 
 run_completed : ProgramOrRefusal → (turns : ℕ) (vars : Bool) (b : List ℕ) (exit : Exit) (h : List Turn) (ps : List Place) (t : List ℕ) → Says (command.Run turns vars) b exit h ps t → (exit ≡ ReadFault → ⊥) → length b ≤ source_limit → IsAccepted (command.Run turns vars) b → IsCompleted (command.Run turns vars) exit
 run_completed one turns vars b Done h ps t k r le v = inl (inl refl)
@@ -171,24 +252,10 @@ run_completed one turns vars b Malformed h ps t k r le v = absurd k
 run_completed one turns vars b Illegal h ps t k r le v = absurd k
 run_completed one turns vars b Unfinished h ps t k r le v = absurd k
 
-list_completed : (b : List ℕ) (exit : Exit) (h : List Turn) (ps : List Place) (t : List ℕ) → Says command.List b exit h ps t → (exit ≡ ReadFault → ⊥) → length b ≤ source_limit → IsAccepted command.List b → IsCompleted command.List exit
-list_completed b Done h ps t k r le v = inl refl
-list_completed b Faulted h ps t k r le v = absurd k
-list_completed b Deadlocked h ps t k r le v = absurd k
-list_completed b Refused h ps t k r le v = absurd (v k.refusal k.refused.broken)
-list_completed b Spent h ps t k r le v = absurd k
-list_completed b Usage h ps t k r le v = absurd k
-list_completed b ReadFault h ps t k r le v = absurd (r refl)
-list_completed b WriteFault h ps t k r le v = absurd k
-list_completed b NoMemory h ps t k r le v = inr refl
-list_completed b TooLong h ps t k r le v = absurd (omega (arith, k.0))
-list_completed b Malformed h ps t k r le v = absurd k
-list_completed b Illegal h ps t k r le v = absurd k
-list_completed b Unfinished h ps t k r le v = absurd k
-
 pub completed : ProgramOrRefusal → (c : Command) (b : List ℕ) (exit : Exit) (h : List Turn) (ps : List Place) (t : List ℕ) → Says c b exit h ps t → (exit ≡ ReadFault → ⊥) → length b ≤ source_limit → IsAccepted c b → IsCompleted c exit
 completed one (command.Run turns vars) b exit h ps t k r le v = run_completed one turns vars b exit h ps t k r le v
-completed one command.List b exit h ps t k r le v = list_completed b exit h ps t k r le v
+completed one command.Check b exit h ps t k r le v = told_completed TellsDeterminism command.Check b (λ q w. w) exit h ps t k r le v
+completed one command.List b exit h ps t k r le v = told_completed TellsList command.List b (λ q w. w) exit h ps t k r le v
 
 run_refused : ProgramOrRefusal → (turns : ℕ) (vars : Bool) (b : List ℕ) (exit : Exit) (h : List Turn) (ps : List Place) (t : List ℕ) → Says (command.Run turns vars) b exit h ps t → (exit ≡ ReadFault → ⊥) → length b ≤ source_limit → (v : Refusal) → IsRefusedFor (command.Run turns vars) b v → IsRefusedExit exit
 run_refused one turns vars b Done h ps t k r le v w = absurd (one b k.program v k.kept.lawful k.kept.built w)
@@ -205,24 +272,10 @@ run_refused one turns vars b Malformed h ps t k r le v w = absurd k
 run_refused one turns vars b Illegal h ps t k r le v w = absurd k
 run_refused one turns vars b Unfinished h ps t k r le v w = absurd k
 
-list_refused : (b : List ℕ) (exit : Exit) (h : List Turn) (ps : List Place) (t : List ℕ) → Says command.List b exit h ps t → (exit ≡ ReadFault → ⊥) → length b ≤ source_limit → (v : Refusal) → IsRefusedFor command.List b v → IsRefusedExit exit
-list_refused b Done h ps t k r le v w = absurd (k.clean v w.broken)
-list_refused b Faulted h ps t k r le v w = absurd k
-list_refused b Deadlocked h ps t k r le v w = absurd k
-list_refused b Refused h ps t k r le v w = inl refl
-list_refused b Spent h ps t k r le v w = absurd k
-list_refused b Usage h ps t k r le v w = absurd k
-list_refused b ReadFault h ps t k r le v w = absurd (r refl)
-list_refused b WriteFault h ps t k r le v w = absurd k
-list_refused b NoMemory h ps t k r le v w = inr refl
-list_refused b TooLong h ps t k r le v w = absurd (omega (arith, k.0))
-list_refused b Malformed h ps t k r le v w = absurd k
-list_refused b Illegal h ps t k r le v w = absurd k
-list_refused b Unfinished h ps t k r le v w = absurd k
-
 pub refused_by : ProgramOrRefusal → (c : Command) (b : List ℕ) (exit : Exit) (h : List Turn) (ps : List Place) (t : List ℕ) → Says c b exit h ps t → (exit ≡ ReadFault → ⊥) → length b ≤ source_limit → (v : Refusal) → IsRefusedFor c b v → IsRefusedExit exit
 refused_by one (command.Run turns vars) b exit h ps t k r le v w = run_refused one turns vars b exit h ps t k r le v w
-refused_by one command.List b exit h ps t k r le v w = list_refused b exit h ps t k r le v w
+refused_by one command.Check b exit h ps t k r le v w = told_refused TellsDeterminism command.Check b (λ q x. x) exit h ps t k r le v w
+refused_by one command.List b exit h ps t k r le v w = told_refused TellsList command.List b (λ q x. x) exit h ps t k r le v w
 
 run_long : (turns : ℕ) (vars : Bool) (b : List ℕ) (exit : Exit) (h : List Turn) (ps : List Place) (t : List ℕ) → Says (command.Run turns vars) b exit h ps t → (exit ≡ ReadFault → ⊥) → source_limit < length b → IsTooLongExit exit
 run_long turns vars b Done h ps t k r l = absurd (omega (arith, k.within))
@@ -239,25 +292,11 @@ run_long turns vars b Malformed h ps t k r l = absurd k
 run_long turns vars b Illegal h ps t k r l = absurd k
 run_long turns vars b Unfinished h ps t k r l = absurd k
 
-list_long : (b : List ℕ) (exit : Exit) (h : List Turn) (ps : List Place) (t : List ℕ) → Says command.List b exit h ps t → (exit ≡ ReadFault → ⊥) → source_limit < length b → IsTooLongExit exit
-list_long b Done h ps t k r l = absurd (omega (arith, k.within))
-list_long b Faulted h ps t k r l = absurd k
-list_long b Deadlocked h ps t k r l = absurd k
-list_long b Refused h ps t k r l = absurd (omega (arith, k.within))
-list_long b Spent h ps t k r l = absurd k
-list_long b Usage h ps t k r l = absurd k
-list_long b ReadFault h ps t k r l = absurd (r refl)
-list_long b WriteFault h ps t k r l = absurd k
-list_long b NoMemory h ps t k r l = inr refl
-list_long b TooLong h ps t k r l = inl refl
-list_long b Malformed h ps t k r l = absurd k
-list_long b Illegal h ps t k r l = absurd k
-list_long b Unfinished h ps t k r l = absurd k
-
 pub too_long_by : (o : Option Command) (b : List ℕ) (exit : Exit) (h : List Turn) (ps : List Place) (t : List ℕ) → SaysOf o b exit h ps t → is_none o ≡ false → (exit ≡ ReadFault → ⊥) → source_limit < length b → IsTooLongExit exit
 too_long_by None b exit h ps t k c r l = absurd (false≢true (sym c))
 too_long_by (Some (command.Run turns vars)) b exit h ps t k c r l = run_long turns vars b exit h ps t k r l
-too_long_by (Some command.List) b exit h ps t k c r l = list_long b exit h ps t k r l
+too_long_by (Some command.Check) b exit h ps t k c r l = told_long TellsDeterminism command.Check b (λ v w. w) exit h ps t k r l
+too_long_by (Some command.List) b exit h ps t k c r l = told_long TellsList command.List b (λ v w. w) exit h ps t k r l
 
 -- the same of what the words say
 pub said_of : (o : Option Command) (c : Command) (b : List ℕ) (exit : Exit) (h : List Turn) (ps : List Place) (t : List ℕ) → o ≡ Some c → SaysOf o b exit h ps t → Says c b exit h ps t

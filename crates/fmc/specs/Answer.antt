@@ -3,6 +3,7 @@
 use Rattle.std.specs.Prelude.{◌≡◌, ◌≢◌, ◌⊎◌, ℕ, ◌<◌, ◌≤◌, Bool, true, false, List, [], ◌∷◌, ◌++◌, length, Option, Some, None, is_none, codes}
 use Rattle.std.specs.Fmt.{decimal}
 use Rattle.std.specs.Io.KnownBytes.{Appends, IsAtEnd}
+use Rattle.fm_base.specs.declared.name.Line.{Line}
 use Rattle.fm_base.specs.declared.schedule.Turn.{Turn}
 use Rattle.fm_base.specs.declared.rule.CheckFail.TheVariants as fail
 use Rattle.fm_base.specs.declared.rule.Refusal.{Refusal}
@@ -21,7 +22,11 @@ use Rattle.fm_mean.specs.declared.outcome.Outcome.{Outcome}
 use Rattle.fm_mean.specs.Process.{Proc}
 use Rattle.fm_mean.specs.Steps.{language, step, first}
 use Rattle.fm_mean.specs.Report.{outcome_of, report_text}
-use Rattle.fm_front.specs.Verdict.{IsBrokenForm, AreStatementsOf}
+use Rattle.fm_symbols.specs.Context.{context_of}
+use Rattle.fm_unit.specs.Units.{units_of}
+use Rattle.fm_names.specs.Names.{names_of}
+use Rattle.fm_det.specs.Race.{IsRaceVerdict}
+use Rattle.fm_front.specs.Verdict.{IsBroken, AreStatementsOf}
 use Rattle.fm_front.specs.Program.{IsProgramOf, IsBuilt, IsRefusalOf}
 use Rattle.fm_run.specs.Runs.{HaveSteps, IsFrontWithin}
 use Rattle.fm_words.specs.Words.{command_of}
@@ -99,13 +104,38 @@ pub record IsUnplayed (history : List Turn) (places : List Place) (text told : L
   pub no_places : places ≡ []
   pub text_is : text ≡ told
 
--- the statements of the source, each on a line, and nothing was played
-pub record IsListed (source : List ℕ) (history : List Turn) (places : List Place) (text : List ℕ) : Type 0 where
+-- what a command tells of the statements of a source that breaks no rule; nothing was played
+pub record IsTold (Tells : List Placed → List ℕ → Type 0) (source : List ℕ) (history : List Turn) (places : List Place) (text : List ℕ) : Type 0 where
   pub within : length source ≤ source_limit
-  pub clean : IsClean (IsBrokenForm source)
+  pub clean : IsClean (IsBroken source)
   pub statements : List Placed
   pub read : AreStatementsOf (cards_of source) statements
-  pub unplayed : IsUnplayed history places text (listed_text statements)
+  pub told : List ℕ
+  pub tells : Tells statements told
+  pub unplayed : IsUnplayed history places text told
+
+-- each statement on a line
+abbrev pub TellsList : List Placed → List ℕ → Type 0
+TellsList statements told = told ≡ listed_text statements
+
+-- the source breaks no rule, and this is the list of its statements
+pub record IsListOf (source text : List ℕ) : Type 0 where
+  pub clean : IsClean (IsBroken source)
+  pub statements : List Placed
+  pub read : AreStatementsOf (cards_of source) statements
+  pub listed : text ≡ listed_text statements
+
+-- the least line of a MERGER or PROBE that a process may come to
+abbrev pub IsFirstRaceOf : List Placed → Option Line → Type 0
+IsFirstRaceOf statements race = ∥ IsRaceVerdict (units_of statements) (context_of (units_of statements) (names_of (units_of statements))) race ∥₁
+
+abbrev pub determinism_text : Option Line → List ℕ
+determinism_text None = codes "deterministic\n"
+determinism_text (Some line) = codes "not deterministic: line " ++ decimal line.0 ++ 10 ∷ []
+
+-- whether every schedule comes to one outcome
+abbrev pub TellsDeterminism : List Placed → List ℕ → Type 0
+TellsDeterminism statements told = (race : Option Line) × IsFirstRaceOf statements race × (told ≡ determinism_text race)
 
 -- nothing was played
 abbrev pub IsNoHistory : List Turn → List Place → Type 0
@@ -116,17 +146,20 @@ abbrev pub HasHistory : Option Command → List ℕ → List Turn → List Place
 HasHistory None source history places = IsNoHistory history places
 HasHistory (Some (command.Run turns vars)) source history places =
     IsNoHistory history places ⊎ ((program : Program) × (choices : List Place) × IsHistoryOf source program turns history places choices)
+HasHistory (Some command.Check) source history places = IsNoHistory history places
 HasHistory (Some command.List) source history places = IsNoHistory history places
 
--- the command refuses the source for this: a run for the verdict or a statement that isn't built, a list for the form of text and statements alone
+-- the command refuses the source for this: each for the least rule that is broken, a run besides for a statement that isn't built
 abbrev pub IsRefusedFor : Command → List ℕ → Refusal → Type 0
 IsRefusedFor (command.Run turns vars) source v = IsRefusalOf source (fail.Refused v)
-IsRefusedFor command.List source v = IsLeast (IsBrokenForm source) v
+IsRefusedFor command.Check source v = IsLeast (IsBroken source) v
+IsRefusedFor command.List source v = IsLeast (IsBroken source) v
 
 -- the command does its work on the source
 abbrev pub IsAccepted : Command → List ℕ → Type 0
 IsAccepted (command.Run turns vars) source = (program : Program) × IsProgramOf source program × IsBuilt source
-IsAccepted command.List source = IsClean (IsBrokenForm source)
+IsAccepted command.Check source = IsClean (IsBroken source)
+IsAccepted command.List source = IsClean (IsBroken source)
 
 pub record IsRefused (command : Command) (source : List ℕ) (history : List Turn) (places : List Place) (text : List ℕ) : Type 0 where
   pub within : length source ≤ source_limit
@@ -134,25 +167,43 @@ pub record IsRefused (command : Command) (source : List ℕ) (history : List Tur
   pub refused : IsRefusedFor command source refusal
   pub unplayed : IsUnplayed history places text (refusal_text refusal)
 
+-- what a run says by its exit
+abbrev pub SaysRun : (turns : ℕ) → (vars : Bool) → List ℕ → Exit → List Turn → List Place → List ℕ → Type 0
+SaysRun turns vars b Done h ps t = IsEnded b turns vars Done h ps t
+SaysRun turns vars b Faulted h ps t = IsEnded b turns vars Faulted h ps t
+SaysRun turns vars b Deadlocked h ps t = IsEnded b turns vars Deadlocked h ps t
+SaysRun turns vars b Refused h ps t = IsRefused (command.Run turns vars) b h ps t
+SaysRun turns vars b Spent h ps t = IsSpent b turns h ps t
+SaysRun turns vars b Usage h ps t = ⊥
+SaysRun turns vars b ReadFault h ps t = IsUnplayed h ps t (codes "read fault\n")
+SaysRun turns vars b WriteFault h ps t = ⊥
+SaysRun turns vars b NoMemory h ps t = IsUnplayed h ps t (codes "no memory\n")
+SaysRun turns vars b TooLong h ps t = (source_limit < length b) × IsUnplayed h ps t (codes "source too long\n")
+SaysRun turns vars b Malformed h ps t = ⊥
+SaysRun turns vars b Illegal h ps t = ⊥
+SaysRun turns vars b Unfinished h ps t = ⊥
+
+-- what a command says that runs nothing and tells this of a source
+abbrev pub SaysTold : (List Placed → List ℕ → Type 0) → Command → List ℕ → Exit → List Turn → List Place → List ℕ → Type 0
+SaysTold Tells c b Done h ps t = IsTold Tells b h ps t
+SaysTold Tells c b Faulted h ps t = ⊥
+SaysTold Tells c b Deadlocked h ps t = ⊥
+SaysTold Tells c b Refused h ps t = IsRefused c b h ps t
+SaysTold Tells c b Spent h ps t = ⊥
+SaysTold Tells c b Usage h ps t = ⊥
+SaysTold Tells c b ReadFault h ps t = IsUnplayed h ps t (codes "read fault\n")
+SaysTold Tells c b WriteFault h ps t = ⊥
+SaysTold Tells c b NoMemory h ps t = IsUnplayed h ps t (codes "no memory\n")
+SaysTold Tells c b TooLong h ps t = (source_limit < length b) × IsUnplayed h ps t (codes "source too long\n")
+SaysTold Tells c b Malformed h ps t = ⊥
+SaysTold Tells c b Illegal h ps t = ⊥
+SaysTold Tells c b Unfinished h ps t = ⊥
+
 -- the exit, with schedule and text, is one of the command for these bytes
 abbrev pub Says : Command → List ℕ → Exit → List Turn → List Place → List ℕ → Type 0
-Says (command.Run turns vars) b Done h ps t = IsEnded b turns vars Done h ps t
-Says command.List b Done h ps t = IsListed b h ps t
-Says (command.Run turns vars) b Faulted h ps t = IsEnded b turns vars Faulted h ps t
-Says command.List b Faulted h ps t = ⊥
-Says (command.Run turns vars) b Deadlocked h ps t = IsEnded b turns vars Deadlocked h ps t
-Says command.List b Deadlocked h ps t = ⊥
-Says c b Refused h ps t = IsRefused c b h ps t
-Says (command.Run turns vars) b Spent h ps t = IsSpent b turns h ps t
-Says command.List b Spent h ps t = ⊥
-Says c b Usage h ps t = ⊥
-Says c b ReadFault h ps t = IsUnplayed h ps t (codes "read fault\n")
-Says c b WriteFault h ps t = ⊥
-Says c b NoMemory h ps t = IsUnplayed h ps t (codes "no memory\n")
-Says c b TooLong h ps t = (source_limit < length b) × IsUnplayed h ps t (codes "source too long\n")
-Says c b Malformed h ps t = ⊥
-Says c b Illegal h ps t = ⊥
-Says c b Unfinished h ps t = ⊥
+Says (command.Run turns vars) b exit h ps t = SaysRun turns vars b exit h ps t
+Says command.Check b exit h ps t = SaysTold TellsDeterminism command.Check b exit h ps t
+Says command.List b exit h ps t = SaysTold TellsList command.List b exit h ps t
 
 -- and of words that are no command
 abbrev pub SaysOf : Option Command → List ℕ → Exit → List Turn → List Place → List ℕ → Type 0
@@ -176,6 +227,7 @@ pub record Answers (words : List (List ℕ)) (b : List ℕ) (exit : Exit) (histo
 -- the command did its work to the end, or as far as its turns, or found no memory
 abbrev pub IsCompleted : Command → Exit → Type 0
 IsCompleted (command.Run turns vars) exit = ((exit ≡ Done) ⊎ ((exit ≡ Faulted) ⊎ (exit ≡ Deadlocked))) ⊎ ((exit ≡ Spent) ⊎ (exit ≡ NoMemory))
+IsCompleted command.Check exit = (exit ≡ Done) ⊎ (exit ≡ NoMemory)
 IsCompleted command.List exit = (exit ≡ Done) ⊎ (exit ≡ NoMemory)
 
 abbrev pub IsRefusedExit : Exit → Type 0

@@ -1,20 +1,26 @@
 //! The reply to a source.
 
-ghost use Rattle.std.specs.Prelude.{◌≡◌, ◌≤◌, length, IfOk, IfErr, true};
+ghost use Rattle.std.specs.Prelude.{◌≡◌, ◌≤◌, ℕ, List, length, IfOk, IfErr, true};
 ghost use Rattle.fm_base.specs.Rules.{refusal_text};
+ghost use Rattle.fm_base.specs.Verdict.{IsClean, IsRefusal};
+ghost use Rattle.fm_cards.specs.Cards.{cards_of};
+ghost use Rattle.fm_rules.specs.Program.{AreShaped};
 ghost use Rattle.fm_front.specs.Program.{IsRefusalOf};
+ghost use Rattle.fm_front.specs.Verdict.{AreStatementsOf, IsBroken, IsBrokenForm};
+ghost use Rattle.fmc.specs.Listing.{listed_text};
 ghost use Rattle.fm_words.specs.declared.command.Command.TheVariants as command;
 ghost use Rattle.fmc.specs.Exits.{is_decided};
-ghost use Rattle.fmc.specs.Answer.{IsUnplayed, IsPlayedExit, Says, exit_of, spent_text, source_limit};
+ghost use Rattle.fmc.specs.Answer.{IsListOf, determinism_text, IsUnplayed, IsPlayedExit, Says, exit_of, spent_text, source_limit};
 ghost use Rattle.fmc.specs.Reply.{bytes_of, places_in, IsReply, exit_in, text_in};
 
 use crate::answer::{Exit, Ran, Reply, Text};
 use crate::listing::list_text;
-use fm_base::{CheckFail, NoMemory, Refusal};
-use fm_front::{front, statements};
+use fm_base::{CheckFail, Line, NoMemory, Refusal};
+use fm_front::{check_statements, front, runnable, statements};
 use fm_mean::Outcome;
 use fm_report::report;
 use fm_run::{Ending, Run, run_program};
+use fm_tree::Placed;
 use fm_words::Command;
 use std::alloc::Global;
 
@@ -94,7 +100,7 @@ pub fn run_source(
     ensures exit { IfOk result (λ r. IsPlayedExit r.0.exit) }
     ensures refused { IfErr result (IsRefusalOf bytes.now) }
 {
-    let program = front(alloc, bytes)?;
+    let program = runnable(alloc, bytes)?;
     let Run {
         history,
         paths,
@@ -127,16 +133,71 @@ fn try_run(alloc: Global, bytes: &[u8], turns: u64, vars: bool) -> Result<Reply,
     }
 }
 
+fn determinism_text(alloc: Global, race: Option<Line>) -> Result<Text, NoMemory>
+    ensures { IfOk result (λ t. bytes_of t ≡ determinism_text race) }
+{
+    match race {
+        None => Ok(Text::Fixed(b"deterministic\n")),
+        Some(line) => {
+            let mut text = Vec::from_slice(alloc, b"not deterministic: line ")?;
+            text.extend_from_slice(line.0.to_string(alloc)?.as_bytes())?;
+            text.push(b'\n')?;
+            Ok(Text::Made(text))
+        }
+    }
+}
+
+fn try_check(alloc: Global, bytes: &[u8]) -> Result<Reply, NoMemory>
+    requires { length bytes.now ≤ source_limit }
+    ensures reply { IfOk result (λ r. IsReply command.Check bytes.now r) }
+    ensures kind { IfOk result (λ r. is_decided r.ran.exit ≡ true) }
+{
+    match front(alloc, bytes) {
+        Ok(program) => {
+            let text = determinism_text(alloc, program.first_race())?;
+            Ok(unplayed_reply(alloc, Exit::Done, text))
+        }
+        Err(CheckFail::Refused(refusal)) => refusal_reply(alloc, refusal),
+        Err(CheckFail::NoMemory) => Err(NoMemory),
+    }
+}
+
+/// The list of statements that break no rule, of a source whose form breaks none.
+fn checked_list(alloc: Global, statements: Vec<Placed>) -> Result<Vec<u8>, CheckFail>
+    requires { AreShaped statements.items }
+    ensures text { IfOk result (λ v. v.items ≡ listed_text statements.items) }
+    ensures clean { IfOk result (λ _. (source : List ℕ) → AreStatementsOf (cards_of source) statements.items → IsClean (IsBrokenForm source) → IsClean (IsBroken source)) }
+    ensures refused { IfErr result (λ e. (source : List ℕ) → AreStatementsOf (cards_of source) statements.items → IsClean (IsBrokenForm source) → IsRefusal (IsBroken source) e) }
+{
+    let text = list_text(alloc, &statements)?;
+    match check_statements(alloc, statements) {
+        Ok(program) => {
+            drop(program);
+            Ok(text)
+        }
+        Err(fail) => Err(fail),
+    }
+}
+
+/// The list of the statements of a source of these bytes.
+fn list_source(alloc: Global, bytes: &[u8]) -> Result<Vec<u8>, CheckFail>
+    requires { length bytes.now ≤ source_limit }
+    ensures text { IfOk result (λ v. IsListOf bytes.now v.items) }
+    ensures refused { IfErr result (IsRefusal (IsBroken bytes.now)) }
+{
+    match statements(alloc, bytes) {
+        Ok(statements) => checked_list(alloc, statements),
+        Err(fail) => Err(fail),
+    }
+}
+
 fn try_list(alloc: Global, bytes: &[u8]) -> Result<Reply, NoMemory>
     requires { length bytes.now ≤ source_limit }
     ensures reply { IfOk result (λ r. IsReply command.List bytes.now r) }
     ensures kind { IfOk result (λ r. is_decided r.ran.exit ≡ true) }
 {
-    match statements(alloc, bytes) {
-        Ok(statements) => {
-            let text = Text::Made(list_text(alloc, &statements)?);
-            Ok(unplayed_reply(alloc, Exit::Done, text))
-        }
+    match list_source(alloc, bytes) {
+        Ok(text) => Ok(unplayed_reply(alloc, Exit::Done, Text::Made(text))),
         Err(CheckFail::Refused(refusal)) => refusal_reply(alloc, refusal),
         Err(CheckFail::NoMemory) => Err(NoMemory),
     }
@@ -150,6 +211,7 @@ pub fn reply(alloc: Global, command: Command, bytes: &[u8]) -> Reply
 {
     let tried = match command {
         Command::Run { turns, vars } => try_run(alloc, bytes, turns, vars),
+        Command::Check => try_check(alloc, bytes),
         Command::List => try_list(alloc, bytes),
     };
     match tried {

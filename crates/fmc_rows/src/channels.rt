@@ -123,23 +123,6 @@ fn ports_in_messages_go_with_an_inport(rt: HostRuntime) -> Result<(), Fail> {
     Ok(())
 }
 
-#[test]
-fn ports_in_a_message_go_where_the_inport_is_gone(rt: HostRuntime) -> Result<(), Fail> {
-    let alloc = rt.alloc();
-    let mut channels = Channels::new(alloc);
-    let (first_in, first_out) = made(&rt, alloc, &mut channels, 1)?;
-    let (second_in, second_out) = made(&rt, alloc, &mut channels, 2)?;
-    channels.discard(first_in);
-    send(
-        &rt,
-        &mut channels,
-        &first_out,
-        with_port(alloc, second_out)?,
-    )?;
-    assert!(rt; is_end(receive(&rt, &mut channels, &second_in)));
-    Ok(())
-}
-
 // A merger ends where its last writer is closed, in whatever order they are.
 #[test]
 fn a_merger_ends_with_its_last_writer(rt: HostRuntime) -> Result<(), Fail> {

@@ -16,4 +16,6 @@ mod programs;
 #[cfg(test)]
 mod report;
 #[cfg(test)]
+mod rules;
+#[cfg(test)]
 mod words;

@@ -8,7 +8,7 @@ use std::test::Fail;
 const USAGE: &[u8] = b"usage: fmc run or trace or replay or check or list or make N or demo N\n";
 
 /// What is answered, and what was written.
-fn answer(alloc: Global, words: &[&str], source: &[u8]) -> Result<(Ran, Vec<u8>), Fail> {
+pub fn answer(alloc: Global, words: &[&str], source: &[u8]) -> Result<(Ran, Vec<u8>), Fail> {
     let mut source = MemSource::new(Vec::from_slice(alloc, source)?, 4096, Vec::new(alloc));
     let mut sink = MemSink::new(alloc, 4096, 65_536, Vec::new(alloc))?;
     let ran = fmc(alloc, words, &mut source, &mut sink);
@@ -111,6 +111,15 @@ const TWICE: &[u8] = b"      PROGRAM TWICE
       END
 ";
 
+/// A merger of two writers.
+const MERGED: &[u8] = b"      PROGRAM MERGED
+      INPORT (INTEGER) P
+      OUTPORT (INTEGER) Q
+      OUTPORT (INTEGER) R
+      MERGER(IN=P,OUT=Q,OUT=R)
+      END
+";
+
 /// Nineteen continuation lines.
 const ONES: &[u8] = b"      PROGRAM P
       PRINT *, 1
@@ -179,9 +188,9 @@ const RUNS: [Row; 26] = [
         text: b" 8999999999999999991\nfault main line 4 Overflow\n",
     },
     Row {
-        source: b"      PROGRAM P\n      I = 2**3\n      END\n",
-        exit: Exit::Refused,
-        text: b"line 2: E10 no statement of the grammar\n",
+        source: b"      PROGRAM P\n      I = 2**3\n      PRINT *, I, 7/2\n      END\n",
+        exit: Exit::Done,
+        text: b" 8 3\n",
     },
     Row {
         source: b"      program p\r\nC a comment\n      k = -(3 + 4) * 2\r\n\n      print *, k, -k, k*k - 1\n      print *\n      end",
@@ -206,22 +215,22 @@ const RUNS: [Row; 26] = [
     Row {
         source: b"      PRINT *, 1\n      END\n",
         exit: Exit::Refused,
-        text: b"line 1: E26 not exactly one PROGRAM\n",
+        text: b"line 1: E20 statement out of place\n",
     },
     Row {
         source: b"      PROGRAM P\n      PRINT *, 1\n",
         exit: Exit::Refused,
-        text: b"line 2: E10 no statement of the grammar\n",
+        text: b"line 2: E28 no END\n",
     },
     Row {
         source: b"\n      PROGRAM P\n",
         exit: Exit::Refused,
-        text: b"line 2: E10 no statement of the grammar\n",
+        text: b"line 2: E28 no END\n",
     },
     Row {
         source: b"      PROGRAM P\n      PROGRAM Q\n      END\n",
         exit: Exit::Refused,
-        text: b"line 2: E26 not exactly one PROGRAM\n",
+        text: b"line 2: E20 statement out of place\n",
     },
     Row {
         source: b"      PROGRAM P\n      PRINT *, 1                                                      ,2,3\n      END\n",
@@ -276,22 +285,22 @@ const RUNS: [Row; 26] = [
     Row {
         source: b"      PROGRAM P\n      PROCESSES\n      PROCESSCALL C(1)\n      ENDPROCESSES\n      END\n",
         exit: Exit::Refused,
-        text: b"line 3: E10 no statement of the grammar\n",
+        text: b"line 3: E43 unknown unit\n",
     },
     Row {
         source: b"      PROGRAM P\n      PROCESSES\n      PRINT *, 1\n      ENDPROCESSES\n      END\n",
         exit: Exit::Refused,
-        text: b"line 3: E10 no statement of the grammar\n",
+        text: b"line 3: E29 not allowed in a process block\n",
     },
     Row {
         source: b"      PROGRAM P\n      OUTPORT (INTEGER) A\n      RECEIVE(A) I\n      END\n",
         exit: Exit::Refused,
-        text: b"line 3: E10 no statement of the grammar\n",
+        text: b"line 3: E51 wrong port direction\n",
     },
     Row {
         source: b"      PROGRAM P\n      INPORT (INTEGER) A\n      PROCESSES\n      PROCESSCALL B(A)\n      ENDPROCESSES\n      END\n      PROCESS B(I)\n      END\n",
         exit: Exit::Refused,
-        text: b"line 4: E10 no statement of the grammar\n",
+        text: b"line 4: E50 port as a value\n",
     },
 ];
 
@@ -301,7 +310,7 @@ struct Call {
     row: Row,
 }
 
-const CALLS: [Call; 9] = [
+const CALLS: [Call; 12] = [
     Call {
         words: &["run", "--vars"],
         row: Row {
@@ -345,9 +354,9 @@ const CALLS: [Call; 9] = [
     Call {
         words: &["list"],
         row: Row {
-            source: b"      do 10 i = 1 , 3\n\n   10 continue",
+            source: b"      program p\n      do 10 i = 1 , 3\n\n   10 continue\n      end",
             exit: Exit::Done,
-            text: b"     1       DO10I=1,3\n     3    10 CONTINUE\n",
+            text: b"     1       PROGRAMP\n     2       DO10I=1,3\n     4    10 CONTINUE\n     5       END\n",
         },
     },
     Call {
@@ -367,7 +376,31 @@ const CALLS: [Call; 9] = [
         },
     },
     Call {
+        words: &["list"],
+        row: Row {
+            source: b"      do 10 i = 1 , 3\n",
+            exit: Exit::Refused,
+            text: b"line 1: E20 statement out of place\n",
+        },
+    },
+    Call {
         words: &["check"],
+        row: Row {
+            source: LEAST,
+            exit: Exit::Done,
+            text: b"deterministic\n",
+        },
+    },
+    Call {
+        words: &["check"],
+        row: Row {
+            source: MERGED,
+            exit: Exit::Done,
+            text: b"not deterministic: line 5\n",
+        },
+    },
+    Call {
+        words: &["check", "--vars"],
         row: Row {
             source: LEAST,
             exit: Exit::Usage,

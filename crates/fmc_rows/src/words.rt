@@ -20,13 +20,14 @@ const RUNS: [(&[&str], u64, bool); 8] = [
 ];
 
 /// Words that are no command.
-const NOTHING: [&[&str]; 24] = [
+const NOTHING: [&[&str]; 25] = [
     &[],
     &[""],
     &["RUN"],
     &["--vars", "run"],
     &["list", "--vars"],
     &["list", "list"],
+    &["check", "--vars"],
     &["run", "list"],
     &["run", "--"],
     &["run", "-h"],
@@ -50,6 +51,7 @@ const NOTHING: [&[&str]; 24] = [
 #[test]
 fn words_are_their_commands(rt: HostRuntime) -> Result<(), Fail> {
     assert_eq!(rt; command_of(&["list"]), Some(Command::List));
+    assert_eq!(rt; command_of(&["check"]), Some(Command::Check));
     for (i, (row, turns, vars)) in RUNS.iter().enumerate() {
         let command = Command::Run {
             turns: *turns,

@@ -2,4 +2,4 @@ use Rattle.fm_front.proofs.Passes.{InUnit}
 use Rattle.fm_front.proofs.program.body.Given as goal
 
 abbrev pub invariant-statements : goal.invariant-statements
-invariant-statements l = InUnit l.tables l.unit l.scope l.ends l.closed l.index l.standing l.body.items l.fn.best l.best
+invariant-statements l = InUnit l.tables l.scope l.placed-index l.body.items l.fn.best l.best
