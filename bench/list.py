@@ -15,24 +15,33 @@ import tempfile
 
 HERE = os.path.dirname(os.path.abspath(__file__))
 
+HEAD = [
+    b"      PROGRAM P\n",
+    b"      LOGICAL L\n",
+    b"      INTEGER A(9,9)\n",
+    b"      OUTPORT (INTEGER, INTEGER) Q\n",
+]
+
 LINES = [
     b"      I = (I + 12)*(J - 7) - K*1234567\n",
-    b"   10 IF (I .LT. 3 .AND. .NOT. L) SEND(Q) I, J + 1\n",
+    b"      IF (I .LT. 3 .AND. .NOT. L) SEND(Q) I, J + 1\n",
     b"C     a comment line\n",
     b"      PRINT *, 'a constant', I, A(J,\n",
     b"     1 K + 1)\n",
-    b"      DO 20 M = 1, 10\n",
+    b"      DO M = 1, 10\n",
+    b"      ENDDO\n",
 ]
+
+END = b"      END\n"
 
 
 def source(size):
-    """A source of exactly so many bytes, of whole lines and one comment."""
-    text = bytearray()
-    while True:
-        group = b"".join(LINES)
-        if len(text) + len(group) + 2 > size:
-            break
+    """A lawful source of exactly so many bytes, of whole lines and one comment."""
+    text = bytearray(b"".join(HEAD))
+    group = b"".join(LINES)
+    while len(text) + len(group) + len(END) + 2 <= size:
         text += group
+    text += END
     text += b"C" * (size - len(text) - 1) + b"\n"
     return bytes(text)
 

@@ -1,0 +1,60 @@
+C     Clients ask one server. A request is a number and the outport on which
+C     the answer comes back, so ports travel in messages; a merger joins the
+C     requests of all clients.
+      PROGRAM ASKING
+      PARAMETER (NUMBER = 3)
+      INTEGER ANSWERS(NUMBER), TOTAL
+      INPORT (INTEGER, OUTPORT (INTEGER)) REQUESTS
+      OUTPORT (INTEGER, OUTPORT (INTEGER)) ASK(NUMBER)
+      MERGER(IN=REQUESTS, OUT=ASK)
+      PROCESSES
+        PROCESSCALL SERVER(REQUESTS)
+        PROCESSDO 10 I = 1, NUMBER
+          PROCESSCALL CLIENT(ASK(I), 100*I, ANSWERS(I))
+   10   CONTINUE
+      END PROCESSES
+      CALL ADD(ANSWERS, TOTAL)
+      IF (TOTAL .GT. 50) THEN
+        PRINT *, 'large', TOTAL
+      ELSE
+        PRINT *, 'small', TOTAL
+      END IF
+      END
+
+      PROCESS SERVER(REQUESTS)
+      INPORT (INTEGER, OUTPORT (INTEGER)) REQUESTS
+      OUTPORT (INTEGER) REPLY
+   10 RECEIVE(REQUESTS, END=20) NUMBER, REPLY
+      IF (NUMBER .GE. 0) SEND(REPLY) ROOT(NUMBER)
+      ENDCHANNEL(REPLY)
+      GOTO 10
+   20 END
+
+      PROCESS CLIENT(ASK, NUMBER, ANSWER)
+      OUTPORT (INTEGER, OUTPORT (INTEGER)) ASK
+      INTEGER ANSWER
+      INTENT (IN) NUMBER
+      INPORT (INTEGER) BACK
+      OUTPORT (INTEGER) REPLY
+      CHANNEL(IN=BACK, OUT=REPLY)
+      SEND(ASK) NUMBER, REPLY
+      ENDCHANNEL(ASK)
+      RECEIVE(BACK, IOSTAT=IOS) ANSWER
+      IF (IOS .NE. 0) ANSWER = -1
+      END
+
+      SUBROUTINE ADD(VALUES, TOTAL)
+      PARAMETER (NUMBER = 3)
+      INTEGER VALUES(NUMBER), TOTAL
+      TOTAL = 0
+      DO 10 I = 1, NUMBER
+   10 TOTAL = TOTAL + VALUES(I)
+      END
+
+C     The greatest number whose square is at most NUMBER.
+      INTEGER FUNCTION ROOT(NUMBER)
+      ROOT = 0
+      DO WHILE ((ROOT + 1)**2 .LE. NUMBER)
+        ROOT = ROOT + 1
+      END DO
+      END
