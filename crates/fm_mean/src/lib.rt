@@ -1,13 +1,96 @@
-//! What a program means: trees, states, steps, outcomes and reports. The definitions stand in
-//! `specs/`; the trees that they go over are the types of this crate.
+//! What a program that breaks no rule means: definitions in `specs/`, laws in `proofs/`. Each function here has an empty
+//! body: its contract is a law.
 #![tactic(auto)]
 
-mod laws;
 mod outcome;
-mod program;
-mod tree;
+mod place;
 
-pub use laws::{each_step_costs, ports_are_owned, schedules_commute, schedules_settle};
+ghost use Rattle.std.specs.Prelude.{◌≡◌, ◌≤◌, ℕ, Option, Some, List, [], Ok, slice_get};
+ghost use Rattle.fm_sched.specs.Schedule.{Diamond, IsEnding, Settles, Stays, Throughout};
+ghost use Rattle.fm_net.specs.Lawful.{IsLawfulLanguage};
+ghost use Rattle.fm_net.specs.Machine.{Place, State};
+ghost use Rattle.fm_net.specs.Owned.{GoneIsEmpty, IsOwned};
+ghost use Rattle.fm_net.specs.Typed.{AllIn, IsTyped};
+ghost use Rattle.fm_values.specs.Places.{size};
+ghost use Rattle.fm_rules.specs.declared.program.Program.{Program};
+ghost use Rattle.fm_tree.specs.Tree.{Ref, Tree, Trees, trees_from};
+ghost use Rattle.fm_tree.specs.declared.program_unit.Entry.{Entry};
+ghost use Rattle.fm_tree.specs.declared.statement.CallPart.{CallPart};
+ghost use Rattle.fm_tree.specs.declared.statement.Simple.TheVariants as simple;
+ghost use Rattle.fm_tree.specs.declared.statement.Stmt.TheVariants as stmt;
+ghost use Rattle.fm_tree.specs.declared.form.UnitKind.TheVariants as unit_kind;
+ghost use Rattle.fm_rules.specs.Program.{main_of};
+ghost use Rattle.fm_mean.specs.Names.{ProgramUnit, kind_of, main_number, unit_at, unit_named};
+ghost use Rattle.fm_mean.specs.Actions.{arguments_in, next_reference, trees_in};
+ghost use Rattle.fm_mean.specs.Layout.{AreLaidOut};
+ghost use Rattle.fm_mean.specs.declared.place.Actual.{Actual};
+ghost use Rattle.fm_mean.specs.Evaluate.{Scope, actuals_of};
+ghost use Rattle.fm_mean.specs.Calls.{entered};
+ghost use Rattle.fm_mean.specs.ValueTypes.{AreSized, ArgumentsAreOf};
+ghost use Rattle.fm_mean.specs.Determinism.{IsDeterministic};
+ghost use Rattle.fm_mean.specs.Fits.{Fits, IsFine, Types, ValuesFit};
+ghost use Rattle.fm_mean.specs.Process.{Proc};
+ghost use Rattle.fm_mean.specs.Seats.{AreOnFirstNodes};
+ghost use Rattle.fm_mean.specs.Steps.{first, language, step};
+ghost use Rattle.fm_mean.specs.CallsOpen.{OpensWhole, ReferenceOpensWhole};
+
 pub use outcome::{At, FaultAt, Outcome, OutputLine, Shown, ShownVariable, Wait};
-pub use program::{Argument, Entry, Kind, Program, Statement, Unit, Variable};
-pub use tree::{Expr, Item, Node, Operator, Sign};
+pub use place::{Actual, Back, Span};
+
+/// Along every schedule of a program each open port stands in one place: in a variable of one process, with a start that
+/// waits, or in one message; no message waits where the inport is gone; and each port stands at a place of its channel's
+/// type, and each message fits its channel.
+pub fn ports_are_owned()
+    ensures lawful { (p : Program) → IsLawfulLanguage (language p) }
+    ensures throughout { (p : Program) → Throughout (step p) (IsOwned (language p)) (first p) }
+    ensures gone { (p : Program) → Throughout (step p) (λ s. GoneIsEmpty s.chans) (first p) }
+    ensures typed { (p : Program) → Throughout (step p) (IsTyped (language p) (IsFine p) Fits) (first p) }
+{}
+
+/// A step of one process leaves every other its step, also in programs with mergers and probes.
+pub fn steps_stay()
+    ensures { (p : Program) → Throughout (step p) (Stays (step p)) (first p) }
+{}
+
+/// In a deterministic program the steps of two processes commute, and all schedules lead to one outcome.
+pub fn schedules_settle()
+    ensures commute { (p : Program) → IsDeterministic p → Throughout (step p) (Diamond (step p)) (first p) }
+    ensures settle { (p : Program) → IsDeterministic p → (cs : List Place) → IsEnding (step p) (first p) cs → Settles (step p) (first p) cs }
+{}
+
+/// Each step of a program costs a turn.
+pub fn each_step_costs()
+    ensures { (p : Program) (s : State Proc) (q : Place) (t : State Proc × ℕ) → step p s q ≡ Some t → 1 ≤ t.1 }
+{}
+
+/// Each process is on the first node of its machine.
+pub fn nodes_are_first()
+    ensures { (p : Program) → Throughout (step p) AreOnFirstNodes (first p) }
+{}
+
+/// Where arguments have the types and sizes of the formals, opening a frame lets nothing go; so it is at each CALL, each
+/// PROCESSCALL and each reference of a FUNCTION in a program, in a frame whose values have the types of its variables.
+pub fn opening_drops_nothing()
+    ensures alike { (types : Types) (s : Scope) (u : ProgramUnit) (ts : Trees) (k : ℕ) (args : List Actual) → AreSized s.unit.names.variables → ValuesFit types s.unit.names.variables s.values
+        → ArgumentsAreOf s u 1 ts → actuals_of s ts k ≡ Ok args → (entered u s.values args).drops ≡ [] }
+    ensures calls { (p : Program) (n : ℕ) (u : ProgramUnit) (i : ℕ) (e : Entry) → unit_at p n ≡ Some u → slice_get u.tree.body i ≡ Some e
+        → (name : List ℕ) (args : Option (List Tree)) (v : ℕ × ProgramUnit) → e.stmt ≡ stmt.Simple (simple.Call name args) → unit_named p name ≡ Some v → OpensWhole p u v.1 (trees_in args) }
+    ensures process_calls { (p : Program) (n : ℕ) (u : ProgramUnit) (i : ℕ) (e : Entry) → unit_at p n ≡ Some u → slice_get u.tree.body i ≡ Some e
+        → (name : List ℕ) (part : Option CallPart) (v : ℕ × ProgramUnit) → e.stmt ≡ stmt.ProcessCall name part → unit_named p name ≡ Some v → OpensWhole p u v.1 (trees_from (arguments_in part)) }
+    ensures references { (p : Program) (n : ℕ) (u : ProgramUnit) (i : ℕ) (e : Entry) → unit_at p n ≡ Some u → slice_get u.tree.body i ≡ Some e
+        → (j : ℕ) (name : List ℕ) (args : Trees) → next_reference e j ≡ Some (Ref name args) → ReferenceOpensWhole p u name args }
+{}
+
+/// The variables of a unit are laid out one behind the other from 0 on. Each has as many words as its bounds have elements,
+/// of which there are 65,536 at most.
+pub fn variables_are_laid_out()
+    ensures laid_out { (p : Program) (n : ℕ) (u : ProgramUnit) → unit_at p n ≡ Some u → AreLaidOut 0 u.names.variables }
+    ensures sized { (p : Program) (n : ℕ) (u : ProgramUnit) → unit_at p n ≡ Some u → AreSized u.names.variables }
+    ensures small { (p : Program) (n : ℕ) (u : ProgramUnit) → unit_at p n ≡ Some u → AllIn (λ v. size v.bounds ≤ 65536) u.names.variables }
+{}
+
+/// There is a PROGRAM, and it is the unit that the checked program names as its main one.
+pub fn main_is_the_program()
+    ensures number { (p : Program) (m : ℕ) → main_number p ≡ Some m → main_of p.units.units ≡ m }
+    ensures there { (p : Program) → (m : ℕ) × (u : ProgramUnit) × (main_number p ≡ Some m) × (unit_at p m ≡ Some u) × (kind_of u ≡ unit_kind.Program) }
+{}

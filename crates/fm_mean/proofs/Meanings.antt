@@ -1,0 +1,260 @@
+-- The names of a unit that breaks no rule: constants, variables, formals.
+use Rattle.std.proofs.Common.{◌≡◌, ◌⊎◌, inl, inr, ℕ, zero, suc, ◌+◌, ◌<◌, ◌==◌, Bool, true, false, cond, Option, Some, None, unwrap_or, List, [], ◌∷◌, ◌++◌, map, slice_get, refl, sym, ap, ◌∙◌, arith}
+use Rattle.std.specs.Prelude.{if◌then◌else◌, fold}
+use Rattle.std.specs.FinMap.{get, empty, get-empty}
+use Rattle.std.specs.Ordering.{nat_cmp}
+use Rattle.std.specs.Cmp.Lexicographic.{slice_cmp}
+use Rattle.std.specs.List.{list_any}
+use Rattle.fm_tree.specs.declared.program_unit.Placed.{Placed}
+use Rattle.fm_tree.specs.declared.statement.Defined.{Defined}
+use Rattle.fm_symbols.specs.ByName.{ByName}
+use Rattle.fm_symbols.specs.Context.{constant_entry, constant_symbol, variable_entries, symbol_of}
+use Rattle.fm_symbols.specs.declared.names.Constant.{Constant}
+use Rattle.fm_symbols.specs.declared.symbol.Symbol.{Symbol}
+use Rattle.fm_constants.specs.declared.known.Known.{Known}
+use Rattle.fm_constants.specs.Constants.{constants_of, with_definition, with_definitions, known_from, value_here, entry_of, entries_in, entries_from}
+use Rattle.fm_constants.specs.Values as constants
+use Rattle.fm_constants.specs.Parts.{definitions_in}
+use Rattle.fm_occurrences.specs.declared.seen.Occurrence.{Occurrence}
+use Rattle.fm_occurrences.specs.Occurrences.{is_of, with_occurrence, first_occurrences}
+use Rattle.fm_names.specs.declared.sheet.Sheet.{Sheet}
+use Rattle.fm_names.specs.Sheets.{numbered}
+use Rattle.fm_names.specs.Variables.{those_that, variable, words_of, laid_out}
+use Rattle.fm_mean.specs.Names.{same_name, constant_in, place_in, formal_from}
+use Rattle.fm_mean.proofs.FirstEntries.{or_then, first_entry, new_there}
+use Rattle.fm_mean.proofs.JudgedValues.{symbol_placed}
+use Rattle.fm_mean.proofs.Members.{In, in_left, in_right, in_either, passing, name_is, same_names}
+
+pub none_some : {X : Type 0} (x : X) → None ≡ Some x → ⊥
+none_some x e = absurd (cc)
+
+-- ---- entries by name
+
+pub first_append : {X : Type 0} (xs ys : List (List ℕ × X)) (q : List ℕ) → first_entry xs q ≡ None → first_entry (xs ++ ys) q ≡ first_entry ys q
+first_append [] ys q e = refl
+first_append {X} (x ∷ xs) ys q e = go (same_name q x.0) e (λ h. first_append xs ys q h)
+  where
+    go : (b : Bool) → cond b (Some x.1) (first_entry xs q) ≡ None → (first_entry xs q ≡ None → first_entry (xs ++ ys) q ≡ first_entry ys q) → cond b (Some x.1) (first_entry (xs ++ ys) q) ≡ first_entry ys q
+    go true h rest = absurd (none_some x.1 (sym h))
+    go false h rest = rest h
+
+-- what has no entry has none in the first part
+pub first_front : {X : Type 0} (xs ys : List (List ℕ × X)) (q : List ℕ) → first_entry (xs ++ ys) q ≡ None → (first_entry xs q ≡ None) × (first_entry ys q ≡ None)
+first_front [] ys q e = (refl, e)
+first_front {X} (x ∷ xs) ys q e = go (same_name q x.0) e (λ h. first_front xs ys q h)
+  where
+    go : (b : Bool) → cond b (Some x.1) (first_entry (xs ++ ys) q) ≡ None → (first_entry (xs ++ ys) q ≡ None → (first_entry xs q ≡ None) × (first_entry ys q ≡ None)) → (cond b (Some x.1) (first_entry xs q) ≡ None) × (first_entry ys q ≡ None)
+    go true h rest = absurd (none_some x.1 (sym h))
+    go false h rest = rest h
+
+-- an entry stands in the list
+pub entry_in : {X : Type 0} (es : List (List ℕ × X)) (q : List ℕ) (x : X) → first_entry es q ≡ Some x → (e : List ℕ × X) × In e es × (q ≡ e.0) × (e.1 ≡ x)
+entry_in [] q x e = absurd (cc)
+entry_in {X} (y ∷ es) q x e = go (same_name q y.0) refl e (λ h. entry_in es q x h)
+  where
+    the_one : (a b : X) → Some a ≡ Some b → a ≡ b
+    the_one a b h = cc
+
+    go : (b : Bool) → same_name q y.0 ≡ b → cond b (Some y.1) (first_entry es q) ≡ Some x → (first_entry es q ≡ Some x → (e : List ℕ × X) × In e es × (q ≡ e.0) × (e.1 ≡ x)) → (e : List ℕ × X) × In e (y ∷ es) × (q ≡ e.0) × (e.1 ≡ x)
+    go true is h rest = (y, inl refl, name_is q y.0 is, the_one y.1 x h)
+    go false is h rest = let r = rest h in (r.0, inr r.1, r.2, r.3)
+
+-- ---- constants
+
+-- a name that is known is defined
+defined_among : (ds : List Defined) (m : ByName Known) (place item : ℕ) (q : List ℕ) (k : Known) → get (with_definitions m place item ds) q ≡ Some k → (get m q ≡ Some k) ⊎ ((d : Defined) × In d ds × (d.name ≡ q))
+defined_among [] m place item q k e = inl e
+defined_among (d ∷ ds) m place item q k e = later (defined_among ds (with_definition m place item d) place (item + 1) q k e)
+  where
+    here : (o : Option Known) (b : Bool) → get m q ≡ o → same_name q d.name ≡ b → or_then o (cond b (Some (record { value = constants.value_of m place item d.value; place = place; item = item })) None) ≡ Some k
+        → (get m q ≡ Some k) ⊎ ((e : Defined) × In e (d ∷ ds) × (e.name ≡ q))
+    here (Some y) b is at h = inl (is ∙ h)
+    here None true is at h = inr (d, inl refl, sym (name_is q d.name at))
+    here None false is at h = absurd (none_some k h)
+
+    later : (get (with_definition m place item d) q ≡ Some k) ⊎ ((e : Defined) × In e ds × (e.name ≡ q)) → (get m q ≡ Some k) ⊎ ((e : Defined) × In e (d ∷ ds) × (e.name ≡ q))
+    later (inl h) = here (get m q) (same_name q d.name) refl refl (sym (new_there m d.name (record { value = constants.value_of m place item d.value; place = place; item = item }) q) ∙ h)
+    later (inr h) = inr (h.0, inr h.1, h.2)
+
+known_among : (ps : List Placed) (m : ByName Known) (place : ℕ) (q : List ℕ) (k : Known) → get (known_from m place ps) q ≡ Some k → (get m q ≡ Some k) ⊎ ((p : Placed) × (d : Defined) × In p ps × In d (definitions_in p.stmt) × (d.name ≡ q))
+known_among [] m place q k e = inl e
+known_among (p ∷ ps) m place q k e = later (known_among ps (with_definitions m place 0 (definitions_in p.stmt)) (place + 1) q k e)
+  where
+    first : (get m q ≡ Some k) ⊎ ((d : Defined) × In d (definitions_in p.stmt) × (d.name ≡ q)) → (get m q ≡ Some k) ⊎ ((r : Placed) × (d : Defined) × In r (p ∷ ps) × In d (definitions_in r.stmt) × (d.name ≡ q))
+    first (inl h) = inl h
+    first (inr h) = inr (p, h.0, inl refl, h.1, h.2)
+
+    later : (get (with_definitions m place 0 (definitions_in p.stmt)) q ≡ Some k) ⊎ ((r : Placed) × (d : Defined) × In r ps × In d (definitions_in r.stmt) × (d.name ≡ q))
+        → (get m q ≡ Some k) ⊎ ((r : Placed) × (d : Defined) × In r (p ∷ ps) × In d (definitions_in r.stmt) × (d.name ≡ q))
+    later (inl h) = first (defined_among (definitions_in p.stmt) m place 0 q k h)
+    later (inr h) = inr (h.0, h.1, inr h.2, h.3, h.4)
+
+abbrev nothing_known : ByName Known
+nothing_known = empty
+
+pub known_defined : (specs : List Placed) (q : List ℕ) (k : Known) → get (constants_of specs) q ≡ Some k → (p : Placed) × (d : Defined) × In p specs × In d (definitions_in p.stmt) × (d.name ≡ q)
+known_defined specs q k e = go (known_among specs nothing_known 0 q k e)
+  where
+    go : (get nothing_known q ≡ Some k) ⊎ ((p : Placed) × (d : Defined) × In p specs × In d (definitions_in p.stmt) × (d.name ≡ q)) → (p : Placed) × (d : Defined) × In p specs × In d (definitions_in p.stmt) × (d.name ≡ q)
+    go (inl h) = absurd (none_some k (sym (get-empty (slice_cmp nat_cmp) q) ∙ h))
+    go (inr h) = h
+
+-- an entry of a constant is of a name that is known
+entry_known : (known : ByName Known) (name : List ℕ) (place item : ℕ) (e : List ℕ × Constant) → In e (entry_of name (value_here (get known name) place item)) → (k : Known) × (get known e.0 ≡ Some k)
+entry_known known name place item e h = go (get known name) refl h
+  where
+    by_value : (k : Known) → get known name ≡ Some k → (v : Option Constant) → In e (entry_of name v) → (k : Known) × (get known e.0 ≡ Some k)
+    by_value k is None h = absurd h
+    by_value k is (Some c) (inl s) = (k, ap (λ (e : List ℕ × Constant). get known e.0) (sym s) ∙ is)
+    by_value k is (Some c) (inr h) = absurd h
+
+    go : (o : Option Known) → get known name ≡ o → In e (entry_of name (value_here o place item)) → (k : Known) × (get known e.0 ≡ Some k)
+    go None is h = absurd h
+    go (Some k) is h = by_value k is (value_here (Some k) place item) h
+
+among_known : (known : ByName Known) (place item : ℕ) (ds : List Defined) (e : List ℕ × Constant) → In e (entries_in known place item ds) → (k : Known) × (get known e.0 ≡ Some k)
+among_known known place item [] e h = absurd h
+among_known known place item (d ∷ ds) e h = go (in_either e (entry_of d.name (value_here (get known d.name) place item)) (entries_in known place (item + 1) ds) h) (λ k. among_known known place (item + 1) ds e k)
+  where
+    go : In e (entry_of d.name (value_here (get known d.name) place item)) ⊎ In e (entries_in known place (item + 1) ds) → (In e (entries_in known place (item + 1) ds) → (k : Known) × (get known e.0 ≡ Some k)) → (k : Known) × (get known e.0 ≡ Some k)
+    go (inl a) rest = entry_known known d.name place item e a
+    go (inr b) rest = rest b
+
+pub entries_known : (known : ByName Known) (place : ℕ) (ps : List Placed) (e : List ℕ × Constant) → In e (entries_from known place ps) → (k : Known) × (get known e.0 ≡ Some k)
+entries_known known place [] e h = absurd h
+entries_known known place (p ∷ ps) e h = go (in_either e (entries_in known place 0 (definitions_in p.stmt)) (entries_from known (place + 1) ps) h) (λ k. entries_known known (place + 1) ps e k)
+  where
+    go : In e (entries_in known place 0 (definitions_in p.stmt)) ⊎ In e (entries_from known (place + 1) ps) → (In e (entries_from known (place + 1) ps) → (k : Known) × (get known e.0 ≡ Some k)) → (k : Known) × (get known e.0 ≡ Some k)
+    go (inl a) rest = among_known known place 0 (definitions_in p.stmt) e a
+    go (inr b) rest = rest b
+
+pub map_front : (cs : List (List ℕ × Constant)) (q : List ℕ) → ((e : List ℕ × Constant) → In e cs → q ≡ e.0 → ⊥) → first_entry (map constant_entry cs) q ≡ None
+map_front [] q none = refl
+map_front (c ∷ cs) q none = go (same_name q c.0) refl (map_front cs q (λ e h. none e (inr h)))
+  where
+    go : (b : Bool) → same_name q c.0 ≡ b → first_entry (map constant_entry cs) q ≡ None → cond b (Some (constant_symbol c.1)) (first_entry (map constant_entry cs) q) ≡ None
+    go true is rest = absurd (none c (inl refl) (name_is q c.0 is))
+    go false is rest = rest
+
+pub constant_found : (cs : List (List ℕ × Constant)) (q : List ℕ) (c : Constant) → constant_in q cs ≡ Some c → (e : List ℕ × Constant) × In e cs × (q ≡ e.0)
+constant_found [] q c e = absurd (cc)
+constant_found (x ∷ cs) q c e = go (same_name q x.0) refl e (λ h. constant_found cs q c h)
+  where
+    go : (b : Bool) → same_name q x.0 ≡ b → cond b (Some x.1) (constant_in q cs) ≡ Some c → (constant_in q cs ≡ Some c → (e : List ℕ × Constant) × In e cs × (q ≡ e.0)) → (e : List ℕ × Constant) × In e (x ∷ cs) × (q ≡ e.0)
+    go true is h rest = (x, inl refl, name_is q x.0 is)
+    go false is h rest = let r = rest h in (r.0, inr r.1, r.2)
+
+-- ---- occurrences
+
+kept_one : (os : List Occurrence) (o x : Occurrence) → In x os → In x (with_occurrence os o)
+kept_one os o x h = elim (list_any (is_of o.name) os) as (λ (b : Bool). In x (cond b os (os ++ o ∷ []))) [ true ↦ h | false ↦ in_left x os (o ∷ []) h ]
+
+kept_all : (xs acc : List Occurrence) (x : Occurrence) → In x acc → In x (fold with_occurrence acc xs)
+kept_all [] acc x h = h
+kept_all (o ∷ xs) acc x h = kept_all xs (with_occurrence acc o) x (kept_one acc o x h)
+
+added : (acc : List Occurrence) (o : Occurrence) → (x : Occurrence) × In x (with_occurrence acc o) × (o.name ≡ x.name)
+added acc o = go (list_any (is_of o.name) acc) refl
+  where
+    go : (b : Bool) → list_any (is_of o.name) acc ≡ b → (x : Occurrence) × In x (cond b acc (acc ++ o ∷ [])) × (o.name ≡ x.name)
+    go true is = let r = passing (is_of o.name) acc is in (r.0, r.1, name_is o.name r.0.name r.2)
+    go false is = (o, in_right o acc (o ∷ []) (inl refl), refl)
+
+noted : (os acc : List Occurrence) (o : Occurrence) → In o os → (x : Occurrence) × In x (fold with_occurrence acc os) × (o.name ≡ x.name)
+noted [] acc o h = absurd h
+noted (y ∷ os) acc o (inl s) = let a = added acc y in (a.0, kept_all os (with_occurrence acc y) a.0 a.1, ap (λ (z : Occurrence). z.name) (sym s) ∙ a.2)
+noted (y ∷ os) acc o (inr h) = noted os (with_occurrence acc y) o h
+
+-- a name that occurs is among the first occurrences
+pub first_noted : (os : List Occurrence) (o : Occurrence) → In o os → (x : Occurrence) × In x (first_occurrences os) × (o.name ≡ x.name)
+first_noted os o h = noted os [] o h
+
+pub chosen : (test : Occurrence → Bool) (os : List Occurrence) (o : Occurrence) → In o os → test o ≡ true → In o (those_that test os)
+chosen test [] o h e = absurd h
+chosen test (x ∷ os) o (inl s) e = go (test x) (ap test s ∙ e)
+  where
+    go : (b : Bool) → b ≡ true → In o (if b then x ∷ those_that test os else those_that test os)
+    go true e = inl s
+    go false e = absurd (cc e)
+chosen test (x ∷ os) o (inr h) e = go (test x) (chosen test os o h e)
+  where
+    go : (b : Bool) → In o (those_that test os) → In o (if b then x ∷ those_that test os else those_that test os)
+    go true k = inr k
+    go false k = k
+
+-- ---- variables
+
+-- a name among these has an entry
+pub found_there : (s : Sheet) (os : List Occurrence) (w place : ℕ) (q : List ℕ) (o : Occurrence) → In o os → q ≡ o.name → first_entry (variable_entries place (laid_out s w os)) q ≡ None → ⊥
+found_there s [] w place q o h e none = absurd h
+found_there s (x ∷ os) w place q o h e none = go (same_name q x.name) refl none h (λ k n. found_there s os (w + words_of s x.name) (place + 1) q o k e n)
+  where
+    go : (b : Bool) → same_name q x.name ≡ b → cond b (Some (symbol_of place (variable s w x.name))) (first_entry (variable_entries (place + 1) (laid_out s (w + words_of s x.name) os)) q) ≡ None → (x ≡ o) ⊎ In o os
+        → (In o os → first_entry (variable_entries (place + 1) (laid_out s (w + words_of s x.name) os)) q ≡ None → ⊥) → ⊥
+    go true is n h rest = none_some (symbol_of place (variable s w x.name)) (sym n)
+    go false is n (inl s') rest = absurd (no (sym (same_names q x.name (e ∙ ap (λ (z : Occurrence). z.name) (sym s'))) ∙ is))
+      where
+        no : true ≡ false → ⊥
+        no e = absurd (cc)
+    go false is n (inr k) rest = rest k n
+
+-- and what it is
+pub what_there : (s : Sheet) (os : List Occurrence) (w place : ℕ) (q : List ℕ) (y : Symbol) → first_entry (variable_entries place (laid_out s w os)) q ≡ Some y → (k first : ℕ) × (symbol_of k (variable s first q) ≡ y)
+what_there s [] w place q y e = absurd (cc)
+what_there s (x ∷ os) w place q y e = go (same_name q x.name) refl e (λ h. what_there s os (w + words_of s x.name) (place + 1) q y h)
+  where
+    the_one : (a b : Symbol) → Some a ≡ Some b → a ≡ b
+    the_one a b h = cc
+
+    go : (b : Bool) → same_name q x.name ≡ b → cond b (Some (symbol_of place (variable s w x.name))) (first_entry (variable_entries (place + 1) (laid_out s (w + words_of s x.name) os)) q) ≡ Some y
+        → (first_entry (variable_entries (place + 1) (laid_out s (w + words_of s x.name) os)) q ≡ Some y → (k first : ℕ) × (symbol_of k (variable s first q) ≡ y)) → (k first : ℕ) × (symbol_of k (variable s first q) ≡ y)
+    go true is h rest = (place, w, ap (λ n. symbol_of place (variable s w n)) (name_is q x.name is) ∙ the_one (symbol_of place (variable s w x.name)) y h)
+    go false is h rest = rest h
+
+-- the place of a formal is that of its variable
+pub formal_here : (s : Sheet) (os : List Occurrence) (w place i : ℕ) (q : List ℕ) (o : Occurrence) → In o os → q ≡ o.name → ((n : List ℕ) → (unwrap_or (get s.formals n) 0 == suc i) ≡ same_name q n)
+    → place_in (first_entry (variable_entries place (laid_out s w os)) q) ≡ Some (formal_from place (suc i) (laid_out s w os))
+formal_here s [] w place i q o h e alike = absurd h
+formal_here s (x ∷ os) w place i q o h e alike = go (same_name q x.name) refl h (λ k. formal_here s os (w + words_of s x.name) (place + 1) i q o k e alike)
+  where
+    go : (b : Bool) → same_name q x.name ≡ b → (x ≡ o) ⊎ In o os
+        → (In o os → place_in (first_entry (variable_entries (place + 1) (laid_out s (w + words_of s x.name) os)) q) ≡ Some (formal_from (place + 1) (suc i) (laid_out s (w + words_of s x.name) os)))
+        → place_in (first_entry (variable_entries place (laid_out s w (x ∷ os))) q) ≡ Some (formal_from place (suc i) (laid_out s w (x ∷ os)))
+    go true is h rest =
+        let rest' = laid_out s (w + words_of s x.name) os in
+        ap (λ b. place_in (cond b (Some (symbol_of place (variable s w x.name))) (first_entry (variable_entries (place + 1) rest') q))) is
+        ∙ symbol_placed (variable s w x.name).kind (variable s w x.name).bounds (variable s w x.name).words place
+        ∙ sym (ap (λ b. Some (cond b place (formal_from (suc place) (suc i) rest'))) (alike x.name ∙ is))
+    go false is (inl s') rest = absurd (no (sym (same_names q x.name (e ∙ ap (λ (z : Occurrence). z.name) (sym s'))) ∙ is))
+      where
+        no : true ≡ false → ⊥
+        no e = absurd (cc)
+    go false is (inr k) rest =
+        let rest' = laid_out s (w + words_of s x.name) os in
+        ap (λ b. place_in (cond b (Some (symbol_of place (variable s w x.name))) (first_entry (variable_entries (place + 1) rest') q))) is ∙ rest k
+        ∙ ap (λ (n : ℕ). Some (formal_from n (suc i) rest')) (omega arith) ∙ sym (ap (λ b. Some (cond b place (formal_from (suc place) (suc i) rest'))) (alike x.name ∙ is))
+
+-- numbers of formals
+pub numbered_there : (names : List (List ℕ)) (m : ℕ) (q : List ℕ) (k : ℕ) → first_entry (numbered m names) q ≡ Some k → (j : ℕ) × (k ≡ m + j) × (slice_get names j ≡ Some q)
+numbered_there [] m q k e = absurd (cc)
+numbered_there (x ∷ names) m q k e = go (same_name q x) refl e (λ h. numbered_there names (m + 1) q k h)
+  where
+    the_number : (a b : ℕ) → Some a ≡ Some b → a ≡ b
+    the_number a b h = cc
+
+    go : (b : Bool) → same_name q x ≡ b → cond b (Some m) (first_entry (numbered (m + 1) names) q) ≡ Some k → (first_entry (numbered (m + 1) names) q ≡ Some k → (j : ℕ) × (k ≡ m + 1 + j) × (slice_get names j ≡ Some q))
+        → (j : ℕ) × (k ≡ m + j) × (slice_get (x ∷ names) j ≡ Some q)
+    go true is h rest = (zero, omega (arith, the_number m k h), ap Some (sym (name_is q x is)))
+    go false is h rest = let r = rest h in (suc r.0, omega (arith, r.1), r.2)
+
+pub numbered_here : (names : List (List ℕ)) (m i : ℕ) (q : List ℕ) → slice_get names i ≡ Some q → ((j : ℕ) → j < i → slice_get names j ≡ Some q → ⊥) → first_entry (numbered m names) q ≡ Some (m + i)
+numbered_here [] m i q e once = absurd (cc)
+numbered_here (x ∷ names) m zero q e once = ap (λ b. cond b (Some m) (first_entry (numbered (m + 1) names) q)) (same_names q x (sym (the_name x q e))) ∙ ap (λ (n : ℕ). Some n) (omega arith)
+  where
+    the_name : (a b : List ℕ) → Some a ≡ Some b → a ≡ b
+    the_name a b h = cc
+numbered_here (x ∷ names) m (suc i) q e once = go (same_name q x) refl (numbered_here names (m + 1) i q e (λ j less at. once (suc j) (omega (arith, less)) at))
+  where
+    go : (b : Bool) → same_name q x ≡ b → first_entry (numbered (m + 1) names) q ≡ Some (m + 1 + i) → cond b (Some m) (first_entry (numbered (m + 1) names) q) ≡ Some (m + suc i)
+    go true is rest = absurd (once 0 (omega arith) (ap Some (sym (name_is q x is))))
+    go false is rest = rest ∙ ap (λ (n : ℕ). Some n) (omega arith)
