@@ -1,0 +1,6 @@
+pub mod Memory
+pub mod Frames
+pub mod LetGo
+pub mod Leaving
+pub mod Units
+pub mod Lookup
