@@ -1,0 +1,4 @@
+pub mod Steps
+pub mod Walks
+pub mod Seating
+pub mod SpanLaws

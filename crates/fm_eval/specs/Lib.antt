@@ -1,0 +1,5 @@
+pub mod Scopes
+pub mod Outcomes
+pub mod References
+pub mod Printing
+pub mod Operands
