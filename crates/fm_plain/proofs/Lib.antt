@@ -1,5 +1,11 @@
-pub mod PrintLaws
-pub mod EventLaws
-pub mod Handing
+pub mod StepLaws
+pub mod CallLaws
+pub mod PortLaws
+pub mod FailureLaws
+pub mod ReferenceLaws
+pub mod ElementLaws
+pub mod ReturnLaws
+pub mod StartLaws
+pub mod Free
+pub mod StandingLaws
 pub mod LocalLaws
-pub mod JoinLaws

@@ -1,8 +1,6 @@
-pub mod Readings
-pub mod Advance
-pub mod Arguments
 pub mod Events
-pub mod Faults
-pub mod Kept
-pub mod Local
-pub mod Returning
+pub mod Standing
+pub mod Steps
+pub mod Operands
+pub mod Advance
+pub mod Looking

@@ -1,39 +1,71 @@
-//! The next event of a process.
+//! Events of a process.
 
-use fm_base::{Fault, Line, Name};
-use fm_chan::{Message, Port};
+use fm_base::{ChanName, Fault, Line, Seq};
+use fm_mean::{Actual, Span};
 
-/// An event, with its operands. A step that touches more than its process is one, or that faults. The
-/// names are those of the program; a port is told by the variable in which it stands.
+/// What a process meets others by, or what changes its phase, with evaluated operands: places are those of its innermost frame,
+/// and `next` is the entry that it does then. Contracts see it as the meaning's (`event_by`).
 #[derive(Drop)]
-pub enum Event<'p> {
-    /// The statement at this line faults.
-    Fault(Line, Fault),
-    /// A channel is made for two variables, an inport and an outport.
-    Make(&'p Name, &'p Name),
-    /// A message goes out by the outport of a variable.
-    Send(&'p Name, Message),
-    /// A message comes in by the inport of a variable, at this line, for a variable.
-    Receive(&'p Name, Line, &'p Name),
-    /// The outport of a variable is closed.
-    Close(&'p Name),
-    /// The pending processes start.
-    Start,
-    /// The children of this block are joined, of which there are so many.
-    Join(u32, usize),
+pub enum Event {
+    /// A fault at a line.
+    Fail(Line, Fault),
+    /// A new channel.
+    Make {
+        /// The places of its inport and of its outports.
+        places: Seq<Span>,
+        /// The number of its writers.
+        writers: u32,
+        /// What it costs.
+        cost: u64,
+        /// Where the process goes on.
+        next: u32,
+    },
+    /// A message goes into a channel.
+    Send {
+        /// The channel.
+        channel: ChanName,
+        /// The writer by which it is sent.
+        writer: u32,
+        /// The items.
+        items: Seq<Actual>,
+        /// Where the process goes on.
+        next: u32,
+    },
+    /// A message comes from a channel.
+    Receive {
+        /// The channel.
+        channel: ChanName,
+        /// The line of the statement.
+        line: Line,
+        /// The places of the items.
+        items: Seq<Span>,
+        /// The place of IOSTAT.
+        iostat: Option<Span>,
+        /// Where END leads.
+        at_end: Option<u32>,
+        /// Where the process goes on.
+        next: u32,
+    },
+    /// Whether a receive would wait.
+    Probe {
+        /// The channel.
+        channel: ChanName,
+        /// The place that is set.
+        empty: Span,
+        /// Where the process goes on.
+        next: u32,
+    },
+    /// The starts of the innermost frame begin as a block.
+    Begin,
+    /// The children of a block are joined, who stand in the phase.
+    Join {
+        /// The number of the block.
+        block: u32,
+        /// How many children there are.
+        count: usize,
+        /// Where the process goes on.
+        next: u32,
+    },
     /// The process ends.
     End,
-}
-
-/// What may keep a process from its step.
-#[derive(Drop)]
-pub enum Blocker<'a> {
-    /// It does nothing more.
-    Rest,
-    /// It waits for nobody.
-    Free,
-    /// It needs a message of the port's channel, or its end.
-    Message(&'a Port),
-    /// It needs the end of the children of this block, of which there are so many.
-    Children(u32, usize),
 }

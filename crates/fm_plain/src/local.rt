@@ -1,86 +1,135 @@
-//! One local step of a process.
+//! One step of a process, where it is its own.
 
-ghost use Rattle.std.specs.Prelude.{◌≡◌, IfOk, OnErr};
-ghost use Rattle.fm_mean.specs.Actions.{action_of, action_at, action_by, entry_of};
-ghost use Rattle.fm_plain.specs.Readings.{proc_of};
-ghost use Rattle.fm_plain.specs.Local.{IsLocal};
+ghost use Rattle.fm_rules.specs.declared.program.Program as declared;
+ghost use Rattle.std.specs.Prelude.{◌≡◌, ◌∷◌, List, length, IfOk, OnErr};
+ghost use Rattle.std.specs.Option.{option_copied};
+ghost use Rattle.fm_mean.specs.Actions.{Action, action_by, action_of, next_reference, running};
+ghost use Rattle.fm_mean.specs.Process as mean;
+ghost use Rattle.fm_mean.specs.Process.{Execution, Proc};
+ghost use Rattle.fm_frame.specs.Frames.{execution_of, frame_of, phase_of, proc_of};
+ghost use Rattle.fm_frame.specs.Units.{unit_of};
+ghost use Rattle.fm_plain.specs.Standing.{SitsAt, StandsIn, below_in, frame_in, point_in, program_in, standing, IsRaised};
+ghost use Rattle.fm_plain.specs.Steps.{IsActed, IsStep, runs_with};
 
+use crate::calling::reference_step;
 use crate::event::Event;
-use crate::process::{Phase, PlainProc};
-use fm_base::NoMemory;
-use fm_mean::{Entry, Program, Statement};
+use crate::here::{Here, go_to};
+use crate::joining::after_at;
+use crate::statements::statement;
+use crate::step::Step;
+use fm_base::{NoMemory, Seq};
+use fm_frame::{Frame, LetGo, Phase, PlainProc};
+use fm_reference::reference_at;
+use fm_rules::Program;
+use fm_tree::{Entry, Expr};
 use std::alloc::Global;
 
-/// What the next step is.
+/// What a step was.
 #[derive(Drop)]
-pub(crate) enum Local<'p> {
-    /// It was local, and is made: its cost in turns, and that of all steps so far.
-    Done(u64, u64),
+pub(crate) enum Acted {
+    /// It touched the process alone, and is made at this cost.
+    Done(u32),
     /// There is none.
     Rest,
     /// An event, which is to be done.
-    Event(Event<'p>),
+    Event(Event),
+    /// It is made at this cost, and lets these ports go.
+    LetsGo(LetGo, u32),
 }
 
-fn local_at<'p>(
-    alloc: Global,
-    program: &'p Program,
-    process: &mut PlainProc,
-    entry: &'p Entry,
-    paid: u64,
-) -> Result<Local<'p>, NoMemory>
-    ensures { IfOk result (λ l. IsLocal program.now (action_at program.now (proc_of process.old) entry.now.line.0 entry.now.statement) paid (proc_of process.old) l (proc_of process.new)) }
+// The reference of an entry that comes when so many are done.
+pub(crate) fn next_reference(entry: &Entry, done: usize) -> Option<&Expr>
+    ensures { option_copied result ≡ next_reference entry.now done }
 {
-    let line = entry.line;
-    match &entry.statement {
-        Statement::Assign(name, expr) => process.assign(alloc, line, name, expr, paid),
-        Statement::Print(items) => process.print(alloc, line, items.as_slice(), paid),
-        Statement::Channel(inport, outport) => Ok(Local::Event(Event::Make(inport, outport))),
-        Statement::Send(outport, expr) => {
-            let event = process.send_at(alloc, line, outport, expr)?;
-            Ok(Local::Event(event))
-        }
-        Statement::Receive(inport, item) => {
-            Ok(Local::Event(process.receive_at(line, inport, item)))
-        }
-        Statement::EndChannel(outport) => Ok(Local::Event(process.close_at(line, outport))),
-        Statement::Processes => process.begin_block(paid),
-        Statement::ProcessCall(unit, arguments) => {
-            process.call(alloc, program, line, *unit, arguments.as_slice(), paid)
-        }
-        Statement::EndProcesses => Ok(Local::Event(Event::Start)),
-        Statement::End => Ok(Local::Event(Event::End)),
+    let place = entry.refs.as_slice().get(done)?;
+    reference_at(&entry.stmt, *place)
+}
+
+// The references of an entry come first, each a step of its own.
+fn step_at(
+    alloc: Global,
+    here: &Here<'_>,
+    top: &mut Frame,
+    below: &mut Vec<Frame>,
+) -> Result<Step, NoMemory>
+    requires { StandsIn here.now top.old }
+    ensures acts { IfOk result (λ r. (w : Execution) → SitsAt here.now w → IsStep (program_in here.now) w (action_by (program_in here.now) w (unit_of here.now.unit) (point_in here.now) (frame_in here.now top.old) (below_in here.now below.old.items) (next_reference here.now.entry.now (length (frame_in here.now top.old).results))) (standing (program_in here.now) top.old below.old.items) r (standing (program_in here.now) top.new below.new.items)) }
+    ensures err { OnErr result (standing (program_in here.now) top.new below.new.items ≡ standing (program_in here.now) top.old below.old.items) }
+{
+    match next_reference(here.entry, top.results.len()) {
+        None => statement(alloc, here, top, below, &here.entry.stmt),
+        Some(tree) => reference_step(alloc, here, top, below, tree),
     }
 }
 
-fn local_running<'p>(
-    alloc: Global,
-    program: &'p Program,
-    process: &mut PlainProc,
-    paid: u64,
-) -> Result<Local<'p>, NoMemory>
-    ensures { IfOk result (λ l. IsLocal program.now (action_by program.now (proc_of process.old) (entry_of program.now (proc_of process.old))) paid (proc_of process.old) l (proc_of process.new)) }
+// A line is put out when there is room for it.
+fn finish(step: Step, top: &mut Frame, lines: &mut Vec<Seq<u8>>) -> Result<Acted, NoMemory>
+    ensures acts { IfOk result (λ r. (p : declared.Program) (x : Proc) (fs below : List mean.Frame) (a : Action) → IsStep p x.execution a fs step (frame_of p top.old ∷ below) → IsActed p a (runs_with x fs lines.old.items) r (runs_with x (frame_of p top.new ∷ below) lines.new.items)) }
+    ensures err_top { OnErr result ((p : declared.Program) (x : Proc) (fs below : List mean.Frame) (a : Action) → IsStep p x.execution a fs step (frame_of p top.old ∷ below) → frame_of p top.new ∷ below ≡ fs) }
+    ensures err_lines { OnErr result (lines.new.items ≡ lines.old.items) }
 {
-    match process.entry(program) {
-        Some(entry) => local_at(alloc, program, process, entry, paid),
-        None => Ok(Local::Rest),
+    match step {
+        Step::Made(cost) => Ok(Acted::Done(cost)),
+        Step::Rest => Ok(Acted::Rest),
+        Step::Event(event) => Ok(Acted::Event(event)),
+        Step::LetsGo(ports, cost) => Ok(Acted::LetsGo(ports, cost)),
+        Step::Prints(text, cost, next) => {
+            lines.push(text)?;
+            go_to(top, next);
+            Ok(Acted::Done(cost))
+        }
     }
 }
 
-/// Does the next step of a process where that is local, and else leaves it as it was. `paid` is the cost
-/// in turns so far.
-pub(crate) fn step_locally<'p>(
-    alloc: Global,
-    program: &'p Program,
-    process: &mut PlainProc,
-    paid: u64,
-) -> Result<Local<'p>, NoMemory>
-    ensures { IfOk result (λ l. IsLocal program.now (action_of program.now (proc_of process.old)) paid (proc_of process.old) l (proc_of process.new)) }
+// The step of a process that runs, with a frame innermost if it has any.
+fn run(alloc: Global, program: &Program, process: &mut PlainProc) -> Result<Acted, NoMemory>
+    requires runs { phase_of process.old.phase ≡ mean.Running }
+    requires raised { IsRaised process.old.top process.old.below.items }
+    ensures acts { IfOk result (λ a. IsActed program.now (running program.now (execution_of program.now process.old) (execution_of program.now process.old).frames) (proc_of program.now process.old) a (proc_of program.now process.new)) }
+    ensures err { OnErr result (proc_of program.now process.new ≡ proc_of program.now process.old) }
 {
+    let Some(top) = &mut process.top else {
+        return Ok(Acted::Rest);
+    };
+    let Some(here) = Here::of(program, top, process.machine, process.node) else {
+        return Ok(Acted::Rest);
+    };
+    let step = step_at(alloc, &here, top, &mut process.below)?;
+    finish(step, top, &mut process.lines)
+}
+
+// Where no frame is innermost, the last of the others is.
+fn raise(process: &mut PlainProc)
+    ensures process { (p : declared.Program) → proc_of p process.new ≡ proc_of p process.old }
+    ensures phase { process.new.phase ≡ process.old.phase }
+    ensures raised { IsRaised process.new.top process.new.below.items }
+{
+    if process.top.is_none() {
+        process.top = process.below.pop();
+    }
+}
+
+/// Makes the next step of a process where that is its own, and else leaves the process as it was.
+pub(crate) fn act(
+    alloc: Global,
+    program: &Program,
+    process: &mut PlainProc,
+) -> Result<Acted, NoMemory>
+    ensures acts { IfOk result (λ a. IsActed program.now (action_of program.now (proc_of program.now process.old)) (proc_of program.now process.old) a (proc_of program.now process.new)) }
+    ensures err { OnErr result (proc_of program.now process.new ≡ proc_of program.now process.old) }
+{
+    raise(process);
     match &process.phase {
-        Phase::Running => local_running(alloc, program, process, paid),
-        Phase::Joining(block, calls) => Ok(Local::Event(Event::Join(*block, calls.len()))),
-        Phase::Ended => Ok(Local::Rest),
-        Phase::Faulted(_, _) => Ok(Local::Rest),
+        Phase::Running => run(alloc, program, process),
+        Phase::Joining(block, kids) => Ok(match &process.top {
+            None => Acted::Rest,
+            Some(top) => Acted::Event(Event::Join {
+                block: *block,
+                count: kids.len(),
+                next: after_at(program, top),
+            }),
+        }),
+        Phase::Ended => Ok(Acted::Rest),
+        Phase::Faulted(_, _) => Ok(Acted::Rest),
     }
 }

@@ -1,136 +1,123 @@
-//! Copying back from children that have ended.
+//! The return from a unit.
 
-ghost use Rattle.std.specs.Prelude.{◌≡◌, ◌+◌, ℕ, IfOk, OnOk, map, option_copied};
-ghost use Rattle.std.specs.FinMap as finite;
-ghost use Rattle.fm_mean.specs.Steps.{place_in, number_back, port_back, one_back, each_back, without_child, arguments_of, back_words, all_back_words, joining_words};
-ghost use Rattle.fm_plain.specs.Kept.{kept_in};
-ghost use Rattle.fm_plain.specs.Returning.{returned_of, child_back, kept_back};
+ghost use Rattle.std.specs.Prelude.{◌≡◌, ◌+◌, ◌<◌, length, slice_set, IfOk, OnErr};
+ghost use Rattle.fm_mean.specs.Actions.{gives_back, results_in, returns};
+ghost use Rattle.fm_mean.specs.Calls.{back_words};
+ghost use Rattle.fm_mean.specs.Process.{Execution};
+ghost use Rattle.fm_tree.specs.declared.form.UnitKind.{UnitKind as Kind};
+ghost use Rattle.fm_frame.specs.Units.{unit_of};
+ghost use Rattle.fm_mean.specs.Places.{live};
+ghost use Rattle.fm_frame.specs.Frames.{frame_of};
+ghost use Rattle.fm_plain.specs.Standing.{HasGivenBack, StandsIn, below_in, frame_in, program_in, standing};
+ghost use Rattle.fm_plain.specs.Steps.{IsStep};
 
-use crate::entries::item_at;
-use crate::frame::{Frame, set_variable, variable};
-use crate::ports::{PortMap, put_last, put_port};
-use crate::process::Kept;
-use fm_base::{Name, NoMemory, Seq};
-use fm_chan::Port;
-use fm_mean::{Argument, Entry, Expr, Node, Statement};
+use crate::event::Event;
+use crate::here::Here;
+use crate::looping::scalar_place;
+use crate::step::{Step, lets_go, put_out_with};
+use fm_base::{NoMemory, PortValue};
+use fm_frame::memory::number_at;
+use fm_frame::{Frame, variables_of};
+use fm_passing::{back_words, give_back};
+use fm_rules::Program;
+use fm_tree::UnitKind;
 use std::alloc::Global;
-use std::collections::VecDeque;
-use std::mem::replace;
+use std::mem;
 
-/// What the parent has, what the child at hand is left with, and what is discarded.
-#[derive(Drop)]
-pub(crate) struct Returned {
-    /// The parent's variables that are integers.
-    pub numbers: Frame,
-    /// Its ports.
-    pub ports: PortMap,
-    /// The child's ports that weren't copied back.
-    pub rest: PortMap,
-    /// The ports that are discarded, in order.
-    pub drops: Seq<Port>,
-}
-
-/// The variable that an argument is, if it is one.
-pub(crate) fn place_in(expr: &Expr) -> Option<&Name>
-    ensures { option_copied result ≡ place_in expr.now }
+// Copies back what a frame gives, to the frame below it; answers the ports that were put out.
+fn copy_back(
+    alloc: Global,
+    program: &Program,
+    caller: &mut Frame,
+    callee: &mut Frame,
+) -> Result<Vec<Option<PortValue>>, NoMemory>
+    ensures ok { IfOk result (λ d. HasGivenBack program.now caller.old callee.old caller.new callee.new (live d.items)) }
+    ensures err_caller { OnErr result (frame_of program.now caller.new ≡ frame_of program.now caller.old) }
+    ensures err_callee { OnErr result (frame_of program.now callee.new ≡ frame_of program.now callee.old) }
 {
-    match &expr.node {
-        Node::Named(name) => Some(name),
-        Node::Number(_) => None,
-        Node::Paren(_) => None,
-        Node::Signed(_, _) => None,
-        Node::Binary(_, _, _) => None,
-    }
+    give_back(
+        alloc,
+        variables_of(program, caller.unit),
+        caller.memory.as_mut_slice(),
+        variables_of(program, callee.unit),
+        callee.memory.as_mut_slice(),
+        callee.backs.as_slice(),
+    )
 }
 
-/// The arguments of the process call at an entry.
-pub(crate) fn arguments_of(body: &[Entry], call: usize) -> &[Argument]
-    ensures { result.now ≡ arguments_of body.now call }
+// The cost of giving back.
+fn back_cost(frame: &Frame) -> Result<u32, NoMemory>
+    ensures { IfOk result (λ cost. cost ≡ 1 + back_words frame.now.backs) }
 {
-    match item_at(body, call) {
-        Some(entry) => match &entry.statement {
-            Statement::ProcessCall(_, arguments) => arguments.as_slice(),
-            Statement::Assign(_, _) => &[],
-            Statement::Print(_) => &[],
-            Statement::Channel(_, _) => &[],
-            Statement::Send(_, _) => &[],
-            Statement::Receive(_, _) => &[],
-            Statement::EndChannel(_) => &[],
-            Statement::Processes => &[],
-            Statement::EndProcesses => &[],
-            Statement::End => &[],
-        },
-        None => &[],
-    }
+    let words = back_words(frame.backs.as_slice())?;
+    let cost = words.checked_add(1).ok_or(NoMemory)?;
+    u32::try_from(cost).map_err(|_| NoMemory)
 }
 
-impl Returned {
-    fn number_back(
-        &mut self,
-        alloc: Global,
-        kid: &Frame,
-        formal: &Name,
-        expr: &Expr,
-    ) -> Result<(), NoMemory>
-        ensures { OnOk result (returned_of self.new ≡ number_back (returned_of self.old) kid.now formal.now (place_in expr.now)) }
-    {
-        match place_in(expr) {
-            Some(place) => set_variable(alloc, &mut self.numbers, place, variable(kid, formal)),
-            None => Ok(()),
-        }
-    }
+// The frame of a subroutine gives back and is gone, with what it still holds.
+fn gives_back(
+    alloc: Global,
+    here: &Here<'_>,
+    top: &mut Frame,
+    below: &mut Vec<Frame>,
+) -> Result<Step, NoMemory>
+    requires { StandsIn here.now top.old }
+    ensures acts { IfOk result (λ r. (w : Execution) → IsStep (program_in here.now) w (gives_back w (frame_in here.now top.old) (below_in here.now below.old.items)) (standing (program_in here.now) top.old below.old.items) r (standing (program_in here.now) top.new below.new.items)) }
+    ensures err { OnErr result (standing (program_in here.now) top.new below.new.items ≡ standing (program_in here.now) top.old below.old.items) }
+{
+    let Some(last) = below.len().checked_sub(1) else {
+        return Ok(Step::Event(Event::End));
+    };
+    let program = here.unit.program();
+    let cost = back_cost(top)?;
+    let replaced = copy_back(alloc, program, &mut below[last], top)?;
+    let Some(caller) = below.pop() else {
+        return Ok(Step::Rest);
+    };
+    let ports = put_out_with(alloc, replaced, mem::replace(top, caller));
+    Ok(lets_go(here, ports, cost))
+}
 
-    fn port_back(&mut self, alloc: Global, formal: &Name, place: &Name) -> Result<(), NoMemory>
-        ensures { OnOk result (returned_of self.new ≡ port_back (returned_of self.old) formal.now place.now (finite.get self.old.rest formal.now)) }
-    {
-        match self.rest.remove(formal) {
-            Some(port) => match put_port(alloc, &mut self.ports, place, port)? {
-                Some(displaced) => self.drops.push(displaced),
-                None => Ok(()),
-            },
-            None => Ok(()),
-        }
-    }
+// The frame of a function leaves its result with the entry that refers to it.
+fn results_in(
+    alloc: Global,
+    here: &Here<'_>,
+    top: &mut Frame,
+    below: &mut Vec<Frame>,
+) -> Result<Step, NoMemory>
+    requires { StandsIn here.now top.old }
+    ensures acts { IfOk result (λ r. (w : Execution) → IsStep (program_in here.now) w (results_in w (unit_of here.now.unit) (frame_in here.now top.old) (below_in here.now below.old.items)) (standing (program_in here.now) top.old below.old.items) r (standing (program_in here.now) top.new below.new.items)) }
+    ensures err { OnErr result (standing (program_in here.now) top.new below.new.items ≡ standing (program_in here.now) top.old below.old.items) }
+{
+    let Some(last) = below.len().checked_sub(1) else {
+        return Ok(Step::Event(Event::End));
+    };
+    let place = scalar_place(here.unit.result_variable());
+    let word = number_at(top.memory.as_slice(), here.unit.variables(), place);
+    below[last].results.push(word)?;
+    let Some(caller) = below.pop() else {
+        return Ok(Step::Rest);
+    };
+    let ports = put_out_with(alloc, Vec::new(alloc), mem::replace(top, caller));
+    Ok(lets_go(here, ports, 1))
+}
 
-    fn one_back(&mut self, alloc: Global, kid: &Frame, argument: &Argument) -> Result<(), NoMemory>
-        ensures { OnOk result (returned_of self.new ≡ one_back kid.now argument.now (returned_of self.old)) }
-    {
-        match argument {
-            Argument::Number(formal, expr) => self.number_back(alloc, kid, formal, expr),
-            Argument::Port(formal, variable) => self.port_back(alloc, formal, variable),
-        }
-    }
-
-    fn each_back(
-        &mut self,
-        alloc: Global,
-        kid: &Frame,
-        arguments: &[Argument],
-    ) -> Result<(), NoMemory>
-        ensures { OnOk result (returned_of self.new ≡ each_back kid.now arguments.now (returned_of self.old)) }
-    {
-        match arguments.split_first() {
-            None => Ok(()),
-            Some((argument, rest)) => {
-                self.one_back(alloc, kid, argument)?;
-                self.each_back(alloc, kid, rest)
-            }
-        }
-    }
-
-    /// One child, by the arguments of its call.
-    pub(crate) fn child_back(
-        &mut self,
-        alloc: Global,
-        arguments: &[Argument],
-        child: Kept,
-    ) -> Result<(), NoMemory>
-        ensures { OnOk result (returned_of self.new ≡ child_back (returned_of self.old) arguments.now (kept_in child)) }
-    {
-        let Kept { numbers, ports } = child;
-        self.rest = ports;
-        self.each_back(alloc, &numbers, arguments)?;
-        let rest = replace(&mut self.rest, PortMap::new(alloc));
-        put_last(rest, &mut self.drops)
+/// RETURN, and END of a unit.
+pub(crate) fn returns(
+    alloc: Global,
+    here: &Here<'_>,
+    top: &mut Frame,
+    below: &mut Vec<Frame>,
+    kind: UnitKind,
+) -> Result<Step, NoMemory>
+    requires { StandsIn here.now top.old }
+    ensures acts { IfOk result (λ r. (w : Execution) → IsStep (program_in here.now) w (returns w (unit_of here.now.unit) (frame_in here.now top.old) (below_in here.now below.old.items) kind) (standing (program_in here.now) top.old below.old.items) r (standing (program_in here.now) top.new below.new.items)) }
+    ensures err { OnErr result (standing (program_in here.now) top.new below.new.items ≡ standing (program_in here.now) top.old below.old.items) }
+{
+    match kind {
+        UnitKind::Program => Ok(Step::Event(Event::End)),
+        UnitKind::Process => Ok(Step::Event(Event::End)),
+        UnitKind::Subroutine => gives_back(alloc, here, top, below),
+        UnitKind::Function => results_in(alloc, here, top, below),
     }
 }
