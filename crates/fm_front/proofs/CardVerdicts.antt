@@ -1,11 +1,10 @@
 -- The verdict on cards, one after the other.
-use Rattle.std.proofs.Common.{◌≡◌, inl, inr, ⊎_elim, ℕ, ◌<◌, List, [], ◌∷◌, ◌++◌, length, get_or, zero, suc, sym, ap, subst, arith}
-use Rattle.std.specs.Prelude.{Option, Some, None, Contains, map}
+use Rattle.std.proofs.Common.{◌≡◌, inl, inr, ⊎_elim, ℕ, List, [], ◌∷◌, ◌++◌, subst, arith}
+use Rattle.std.specs.Prelude.{Option, Some, None}
 use Rattle.fm_base.specs.declared.rule.CheckFail.{CheckFail}
 use Rattle.fm_base.specs.declared.rule.CheckFail.TheVariants.{Refused, NoMemory}
 use Rattle.fm_base.specs.declared.rule.Refusal.{Refusal}
-use Rattle.fm_base.specs.Rules.{phase_of}
-use Rattle.fm_base.specs.Verdict.{Either, IsClean, IsLeast, IsVerdict, IsRefusal, IsOfPhase, IsBeforePhase, earliest, first_of, or_next, place}
+use Rattle.fm_base.specs.Verdict.{Either, IsClean, IsLeast, IsVerdict, IsRefusal, IsOfPhase, IsBeforePhase, earliest, first_of, or_next}
 use Rattle.fm_base.proofs.Least.{verdict_same}
 use Rattle.fm_base.proofs.Phases.{verdict_join, phase_join}
 use Rattle.fm_cards.specs.Broken as cards
@@ -16,7 +15,6 @@ use Rattle.fm_stmt.specs.Checked as card
 use Rattle.fm_stmt.specs.Checked.{IsStatementOf}
 use Rattle.fm_stmt.proofs.CardLaws as laws
 use Rattle.fm_tree.specs.declared.program_unit.Placed.{Placed}
-use Rattle.fm_front.specs.Program.{IsRefusalOf}
 use Rattle.fm_rules.specs.Program.{AreShaped}
 use Rattle.fm_rules.proofs.Phases.{then_first, then_next}
 use Rattle.fm_front.specs.Verdict.{AreStatementsOf, IsBroken, IsBrokenCard, IsBrokenForm, IsBrokenLater, IsVerdictOn, HasRead}
@@ -94,11 +92,6 @@ later_next source b clean v = then_next (IsBrokenForm source) (IsBrokenLater sou
 pub refused_form : (source : List ℕ) (e : CheckFail) → IsRefusal (IsBrokenForm source) e → IsRefusal (IsBroken source) e
 refused_form source (Refused q) h = form_first source q h
 refused_form source NoMemory h = tt
-
--- what is broken in the source is the refusal
-pub refused_source : (source : List ℕ) (e : CheckFail) → IsRefusal (IsBroken source) e → IsRefusalOf source e
-refused_source source (Refused q) h = inl h
-refused_source source NoMemory h = tt
 
 pub cards_refused : (source : List ℕ) (cs : List Card) (ps : List Placed) (best : Option Refusal) (q : Refusal) → cs ≡ cards_of source → IsClean (cards.IsBroken source) → HasRead cs ps best → best ≡ Some q → IsLeast (IsBrokenForm source) q
 cards_refused source cs ps best q e clean h is =

@@ -1,4 +1,3 @@
-pub mod Maps
 pub mod CardVerdicts
+pub mod OnePrograms
 pub mod Uniques
-pub mod Passes

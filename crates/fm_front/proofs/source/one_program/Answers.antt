@@ -4,14 +4,8 @@ use Rattle.fm_front.proofs.source.one_program.Goals as goal
 pub returns-clause-program : goal.returns-clause-program
 returns-clause-program c = laws.one_program c.one_statement.ensures
 
-pub returns-clause-refusal : goal.returns-clause-refusal
-returns-clause-refusal c = laws.one_refusal c.one_statement.ensures
-
-pub returns-clause-either : goal.returns-clause-either
-returns-clause-either c = laws.program_or_refusal c.one_statement.ensures
-
 pub returns-clause-clean : goal.returns-clause-clean
 returns-clause-clean c = laws.program_is_clean
 
-pub returns-clause-verdict : goal.returns-clause-verdict
-returns-clause-verdict c = laws.verdict_is_refusal
+pub returns-clause-either : goal.returns-clause-either
+returns-clause-either c = laws.program_or_refusal
