@@ -9,11 +9,12 @@ use Rattle.fm_chan.specs.Received.{pops_at}
 use Rattle.fm_net.specs.Machine.{Place, State, Need, Nothing, Event, New, Children, Ask, Stop, Go, act, act_of, reply_at, gathered, served, served_at, finished}
 use Rattle.fm_net.specs.Owned.{IsOwned, name_of, present}
 use Rattle.fm_net.proofs.Holders.{event_channel}
-use Rattle.fm_mean.specs.declared.program.Program.{Program}
-use Rattle.fm_mean.specs.Process.{Proc, has_ended}
-use Rattle.fm_mean.specs.Steps.{ask, needed, need_of, emptied, language, step}
-use Rattle.fm_mean.proofs.Programs.{lawful}
-use Rattle.fm_plain.specs.Events.{is_free, is_free_event}
+use Rattle.fm_rules.specs.declared.program.Program.{Program}
+use Rattle.fm_mean.specs.Process.{Proc, has_ended, emptied}
+use Rattle.fm_mean.specs.Outcome.{need_in, need_of}
+use Rattle.fm_mean.specs.Steps.{ask, language, step}
+use Rattle.fm_mean.proofs.Lawful.{lawful}
+use Rattle.fm_plain.specs.Looking.{is_free, is_free_event}
 use Rattle.fm_run.specs.Goes.{is_served, joined_in, kids_by}
 
 some_map : {A B : Type 0} (f : A → B) (o : Option A) → is_some (option_map f o) ≡ is_some o
@@ -33,6 +34,10 @@ free_served (Push w m) o ch there free = ap (λ v. is_some (served_at {Proc = Pr
 free_served (Pop limits) o ch there free = absurd (cc free)
 free_served Look o ch there free = ap (λ v. is_some (served_at {Proc = Proc} Look v)) there
 
+pub some_there : {A : Type 0} (o : Option A) → is_some o ≡ true → (x : A) × (o ≡ Some x)
+some_there None e = absurd (cc e)
+some_there (Some x) e = (x, refl)
+
 some_kids : (o : Option (List Proc)) → is_some o ≡ true → (kids : List Proc) × (o ≡ Some kids)
 some_kids None e = absurd (cc e)
 some_kids (Some kids) e = (kids, refl)
@@ -42,7 +47,7 @@ module _ (program : Program) (s : State Proc) (p : Place) where
   is_served_at None = false
   is_served_at (Some need) = is_some (served has_ended s.procs s.chans p need)
 
-  acts_served : (k : Ask Proc) → is_some (option_map finished (act (ask program) has_ended emptied s.procs s.chans p k)) ≡ is_served_at (needed k)
+  acts_served : (k : Ask Proc) → is_some (option_map finished (act (ask program) has_ended emptied s.procs s.chans p k)) ≡ is_served_at (need_in k)
   acts_served Stop = refl
   acts_served (Go need f) = some_map _ _ ∙ some_map _ _
 
@@ -69,7 +74,7 @@ module _ (program : Program) (s : State Proc) (p : Place) where
     pub joins : (b n : ℕ) → need_of program x ≡ Some (Children b n) → is_some (step program s p) ≡ is_some (gathered has_ended s.procs p b 1 n)
     joins b n needs = steps_served ∙ ap is_served_at needs ∙ some_map _ _
 
-    free : IsOwned (language program) s → (k : Ask Proc) → ask program x ≡ k → is_free (needed k) ≡ true → is_served_at (needed k) ≡ true
+    free : IsOwned (language program) s → (k : Ask Proc) → ask program x ≡ k → is_free (need_in k) ≡ true → is_served_at (need_in k) ≡ true
     free owned Stop asks is_so = absurd (cc is_so)
     free owned (Go Nothing f) asks is_so = refl
     free owned (Go (Event c a) f) asks is_so =

@@ -8,9 +8,8 @@ use Rattle.fm_maps.proofs.Alters.{alters-append, alters_past, alters_there}
 use Rattle.fm_net.specs.Machine.{Place, Procs, child, with_child, gathered, start_changes, child_changes}
 use Rattle.fm_net.proofs.Keys.{path_order}
 use Rattle.fm_net.proofs.Children.{other_child, off_children, child_there, first_gathered}
-use Rattle.fm_mean.specs.Process.{Proc, has_ended}
-use Rattle.fm_mean.specs.Report.{ended_at, awaited}
-use Rattle.fm_mean.specs.Steps.{emptied}
+use Rattle.fm_mean.specs.Process.{Proc, has_ended, emptied}
+use Rattle.fm_mean.specs.Outcome.{ended_at, awaited}
 
 -- ---- starting
 
@@ -104,6 +103,13 @@ module _ (m : Procs Proc) (p : Place) (b : ℕ) where
   ended_of None e = absurd (cc e)
   ended_of (Some x) e = (x, refl, e)
 
+  -- where so many and one more have ended, so have so many, and the one more
+  pub one_less : (n : ℕ) (ys : List Proc) → gathered has_ended m p b 1 (n + 1) ≡ Some ys → ((xs : List Proc) × (gathered has_ended m p b 1 n ≡ Some xs)) × (ended_at (get m (child p b (n + 1))) ≡ true)
+  one_less n ys e =
+      let next : suc n ≡ n + 1 = omega arith in
+      let l = last_gathered 1 n ys (ap (λ (j : ℕ). gathered has_ended m p b 1 j) next ∙ e) in
+      ((l.front, l.before), ap ended_at l.is ∙ l.done)
+
   -- one child more has ended
   pub ended_more : (n : ℕ) → is_some (gathered has_ended m p b 1 n) ≡ true → ended_at (get m (child p b (n + 1))) ≡ true → is_some (gathered has_ended m p b 1 (n + 1)) ≡ true
   ended_more n before this =
@@ -142,3 +148,9 @@ module _ (m : Procs Proc) (p : Place) (b : ℕ) where
       let next : suc (place + 1) ≡ place + 1 + 1 = omega arith in
       ap (awaited m p b (place + 1)) left ∙ ap (λ c. cond c (awaited m p b (suc (place + 1)) (count - (place + 1))) (Some (child p b (place + 1)))) done
       ∙ ap (λ (k : ℕ). awaited m p b k (count - (place + 1))) next
+
+  -- where one child hasn't ended, it is waited for
+  pub awaited_here : (count place : ℕ) → place < count → ended_at (get m (child p b (place + 1))) ≡ false → awaited m p b (place + 1) (count - place) ≡ Some (child p b (place + 1))
+  awaited_here count place low this =
+      let left : count - place ≡ suc (count - (place + 1)) = omega arith in
+      ap (awaited m p b (place + 1)) left ∙ ap (λ c. cond c (awaited m p b (suc (place + 1)) (count - (place + 1))) (Some (child p b (place + 1)))) this

@@ -7,7 +7,7 @@ use Rattle.fm_net.specs.Machine.{Place, State}
 use Rattle.fm_net.specs.Starts.{child_places, starts_along}
 use Rattle.std.proofs.lemmas.Option.{get_or_from_slice_get}
 use Rattle.fm_run.specs.declared.pieces.Piece.{Piece}
-use Rattle.fm_mean.specs.declared.program.Program.{Program}
+use Rattle.fm_rules.specs.declared.program.Program.{Program}
 use Rattle.fm_mean.specs.Process.{Proc}
 use Rattle.fm_mean.specs.Steps.{language, step}
 use Rattle.fm_run.specs.Orders.{chosen, ready_after}

@@ -13,14 +13,14 @@ use Rattle.fm_sched.proofs.Runs.{IsLegal-append, play-append, used-append, lengt
 use Rattle.fm_net.specs.Machine.{Place, State}
 use Rattle.fm_net.specs.Owned.{IsOwned}
 use Rattle.fm_mean.specs.declared.outcome.Outcome.{Outcome}
-use Rattle.fm_mean.specs.declared.program.Program.{Program}
+use Rattle.fm_rules.specs.declared.program.Program.{Program}
 use Rattle.fm_mean.specs.Process.{Proc}
-use Rattle.fm_mean.specs.Report.{outcome_of}
+use Rattle.fm_mean.specs.Outcome.{outcome_of}
 use Rattle.fm_mean.specs.Steps.{language, step, first, first_proc}
 use Rattle.fm_net.specs.Starts.{child_places, starts_along, starts_of, choices_of}
 use Rattle.fm_net.proofs.Histories.{choices_more, choices_stay}
 use Rattle.fm_net.proofs.Orders.{everybody, starts_more}
-use Rattle.fm_mean.proofs.Programs.{step_costs}
+use Rattle.fm_mean.proofs.Laws.{each_costs as step_costs}
 use Rattle.fm_run.specs.declared.pieces.Piece.{Piece}
 use Rattle.fm_run.specs.declared.player.Player.{Player}
 use Rattle.fm_run.specs.declared.run.Ending.{Ending}
@@ -148,11 +148,11 @@ module _ (program : Program) where
       let at = everybody (language program) (first_proc program) kept.choices kept.legal p x (ap (λ (u : State Proc). get u.procs p) kept.there ∙ is) in
       (at.0, ap (λ qs. slice_get qs at.0) kept.places_are ∙ at.1)
 
-  pub run_ended : (turns : ℕ) (player : Player) → IsPlayed program player → player.able.items ≡ [] → player.used ≤ turns → IsFrontWithin program turns player.history.items (places_of player.paths.items) → (o : Outcome) → o ≡ outcome_of program player.used (state_of player.net)
+  pub run_ended : (turns : ℕ) (player : Player) → IsPlayed program player → player.able.items ≡ [] → player.used ≤ turns → IsFrontWithin program turns player.history.items (places_of player.paths.items) → (o : Outcome) → o ≡ outcome_of program player.used (state_of program player.net)
       → (r : Run) → r.history ≡ player.history → r.paths ≡ player.paths → r.ending ≡ Ended o → IsRun program turns r
   run_ended turns player played none within front o o_is r h p e =
       let k = played.history in
-      let s = state_of player.net in
+      let s = state_of program player.net in
       let ps = places_of player.paths.items in
       let final : IsFinal (step program) s = nobody_can s ps (subst (λ (ns : List ℕ). AreAble program s ps ns) none played.able) (started_all player.history.items ps s player.used k) in
       record {

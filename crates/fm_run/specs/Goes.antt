@@ -1,26 +1,24 @@
--- How a process goes on with its event: itself, its children, the channels and the cost.
+-- How a process goes on with its event: itself, its children, the channels, the ports and the cost.
 -- Source: this profile.
-use Rattle.std.specs.Prelude.{◌≡◌, ℕ, Bool, true, false, is_some, Option, Some, None, List, [], ◌++◌}
+use Rattle.std.specs.Prelude.{◌≡◌, ℕ, Bool, true, false, is_some, Option, Some, None, List, [], ◌++◌, map}
 use Rattle.std.specs.FinMap.{get, insert}
 use Rattle.fm_base.specs.declared.path.ChanName.{ChanName}
-use Rattle.fm_base.specs.declared.port.PortValue.{PortValue}
 use Rattle.fm_base.specs.Channels.{Message, Chans, all_shed}
 use Rattle.fm_maps.specs.Changes.{Change}
-use Rattle.fm_chan.specs.Events.{is_outport}
 use Rattle.fm_chan.specs.declared.message.Got.{Got}
 use Rattle.fm_chan.specs.declared.message.Got.TheVariants as got
 use Rattle.fm_net.specs.Machine.{Place, Need, Nothing, Event, New, Children, Reply, Onward, Go, Procs, reply_with, made, chans_after, spilt, served_at, gathered, child_changes}
-use Rattle.fm_mean.specs.declared.program.Program.{Program}
-use Rattle.fm_mean.specs.Process.{Ports, Proc, has_ended}
-use Rattle.fm_mean.specs.Steps.{ask, emptied}
+use Rattle.fm_rules.specs.declared.program.Program.{Program}
+use Rattle.fm_net.specs.Owned.{name_of}
+use Rattle.fm_mean.specs.Outcome.{need_of}
+use Rattle.fm_mean.specs.Process.{Proc, has_ended, emptied}
+use Rattle.fm_mean.specs.Steps.{ask}
 use Rattle.fm_plain.specs.declared.event.Event as plain
 use Rattle.fm_plain.specs.declared.event.Event.TheVariants as event
-
--- a variable has a port of this direction
-pub record HasPort (ports : Ports) (name : List ℕ) (is_out : Bool) : Type 0 where
-  pub port : PortValue
-  pub there : get ports name ≡ Some port
-  pub direction : is_outport port ≡ is_out
+use Rattle.fm_run.specs.declared.ports.Ports.{Ports}
+use Rattle.fm_onward.specs.declared.joining.Ended.{Ended}
+use Rattle.fm_onward.specs.Joins.{after_join, frames_in, left_frames}
+use Rattle.fm_run.specs.Held.{Carries, MayDrop, MayGoOn, StayBut, came_by, left_by}
 
 -- the channels serve the need
 abbrev pub is_served : Chans → Option Need → Bool
@@ -45,15 +43,15 @@ joined_in (Some (Event c a)) = None
 joined_in (Some (New n writers)) = None
 joined_in (Some (Children b n)) = Some (b, n)
 
--- and by its event
-abbrev pub joined_by : plain.Event → Option (ℕ × ℕ)
-joined_by (event.Fault line fault) = None
-joined_by (event.Make p q) = None
-joined_by (event.Send q m) = None
-joined_by (event.Receive p line item) = None
-joined_by (event.Close q) = None
-joined_by event.Start = None
-joined_by (event.Join block count) = Some (block, count)
+-- and by its event, with the entry behind
+abbrev pub joined_by : plain.Event → Option (ℕ × ℕ × ℕ)
+joined_by (event.Fail line fault) = None
+joined_by (event.Make places writers cost next) = None
+joined_by (event.Send channel writer items next) = None
+joined_by (event.Receive channel line items iostat at_end next) = None
+joined_by (event.Probe channel empty next) = None
+joined_by event.Begin = None
+joined_by (event.Join block count next) = Some (block, count, next)
 joined_by event.End = None
 
 -- the children that are joined, where all have ended
@@ -81,7 +79,7 @@ pub record GoesOn (place : Place) (before : Chans) (need : Need) (o : Onward Pro
   pub cost_is : cost ≡ o.cost
 
 -- the process did what it asked for
-pub record Performs (program : Program) (place : Place) (x : Proc) (before : Chans) (kids : List Proc) (after : Proc) (starts : List Proc) (chans : Chans) (cost : ℕ) : Type 0 where
+pub record Performs (program : Program) (place : Place) (x : Proc) (before : Chans) (kids : List Proc) (ports : Ports) (after : Proc) (starts : List Proc) (chans : Chans) (later : Ports) (cost : ℕ) : Type 0 where
   pub need : Need
   pub going : ChanName → Reply Proc → Onward Proc
   pub reply : Reply Proc
@@ -89,9 +87,41 @@ pub record Performs (program : Program) (place : Place) (x : Proc) (before : Cha
   pub replies : Replies before kids need reply
   pub block_is : (going (made place need) reply).block ≡ x.next_block
   pub goes : GoesOn place before need (going (made place need) reply) after starts chans cost
+  pub carries : Carries (came_by place need reply) (left_by need (going (made place need) reply)) ports later
+
+-- what the process may take out of the kept ports with its event
+abbrev pub MayPerform : Program → Place → Proc → Chans → (kids : List Proc) → Ports → Type 0
+MayPerform program place x before kids ports = (need : Need) (going : ChanName → Reply Proc → Onward Proc) (r : Reply Proc) → ask program x ≡ Go need going → Replies before kids need r
+    → MayGoOn ports place need r (going (made place need) r)
+
+-- a process can do what it asks for
+pub record CanPerform (program : Program) (place : Place) (x : Proc) (before : Chans) (kids : List Proc) (ports : Ports) : Type 0 where
+  pub ready : is_served before (need_of program x) ≡ true
+  -- no channel has the name of its next one
+  pub absent : get before (name_of place x.next_channel) ≡ None
+  pub may : MayPerform program place x before kids ports
 
 -- and it alone changed, beside the channels
-pub record PerformsAt (program : Program) (place : Place) (x : Proc) (before : Chans) (kids : List Proc) (old new : Procs Proc) (starts : List Proc) (chans : Chans) (cost : ℕ) : Type 0 where
+pub record PerformsAt (program : Program) (place : Place) (x : Proc) (before : Chans) (kids : List Proc) (ports : Ports) (old new : Procs Proc) (starts : List Proc) (chans : Chans) (later : Ports) (cost : ℕ) : Type 0 where
   pub after : Proc
-  pub performs : Performs program place x before kids after starts chans cost
+  pub performs : Performs program place x before kids ports after starts chans later cost
+  pub procs_are : new ≡ insert old place after
+
+-- a process can join children that left these frames
+pub record CanJoin (program : Program) (x : Proc) (next : ℕ) (left : List Ended) (ports : Ports) : Type 0 where
+  pub kids : List Proc
+  pub frames : map frames_in kids ≡ map (left_frames program) left
+  pub drops : MayDrop ports [] (after_join x next kids).drops
+
+-- a process goes on with children that it joined
+pub record Joins (x : Proc) (next : ℕ) (kids : List Proc) (ports : Ports) (before : Chans) (after : Proc) (chans : Chans) (later : Ports) (cost : ℕ) : Type 0 where
+  pub self_is : after ≡ (after_join x next kids).self
+  pub chans_are : chans ≡ all_shed (after_join x next kids).drops before
+  pub carries : StayBut (after_join x next kids).drops ports later
+  pub cost_is : cost ≡ (after_join x next kids).cost
+
+-- and it alone changed, beside the channels
+pub record JoinsAt (place : Place) (x : Proc) (next : ℕ) (kids : List Proc) (ports : Ports) (before : Chans) (old new : Procs Proc) (chans : Chans) (later : Ports) (cost : ℕ) : Type 0 where
+  pub after : Proc
+  pub joins : Joins x next kids ports before after chans later cost
   pub procs_are : new ≡ insert old place after

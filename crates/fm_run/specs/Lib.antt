@@ -1,5 +1,9 @@
+pub mod Orderings
+pub mod Keys
 pub mod Readings
+pub mod Held
 pub mod Goes
 pub mod Pieces
 pub mod Orders
+pub mod Shown
 pub mod Runs

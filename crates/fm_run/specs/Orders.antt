@@ -8,7 +8,7 @@ use Rattle.std.specs.declared.alloc.Global.{Global}
 use Rattle.std.specs.declared.sync.Arc.{Arc}
 use Rattle.fm_base.specs.declared.path.Path.{Path}
 use Rattle.fm_net.specs.Machine.{Place, State}
-use Rattle.fm_mean.specs.declared.program.Program.{Program}
+use Rattle.fm_rules.specs.declared.program.Program.{Program}
 use Rattle.fm_mean.specs.Process.{Proc}
 use Rattle.fm_mean.specs.Steps.{step}
 

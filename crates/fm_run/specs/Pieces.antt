@@ -4,13 +4,13 @@ use Rattle.std.specs.Prelude.{◌≡◌, ◌⊎◌, ℕ, ◌+◌, ◌<◌, ◌�
 use Rattle.std.specs.FinMap.{get, insert}
 use Rattle.fm_sched.specs.Schedule.{play, IsLegal, Leads}
 use Rattle.fm_net.specs.Machine.{Place, Procs, State}
-use Rattle.fm_mean.specs.declared.program.Program.{Program}
+use Rattle.fm_rules.specs.declared.program.Program.{Program}
 use Rattle.fm_mean.specs.Process.{Proc}
-use Rattle.fm_net.specs.Starts.{child_places, starts_along}
+use Rattle.fm_net.specs.Starts.{child_places, starts_along, starts_at}
 use Rattle.fm_mean.specs.Actions.{local_step}
 use Rattle.fm_mean.specs.Steps.{language, step}
 use Rattle.fm_plain.specs.Advance.{IsAdvanced}
-use Rattle.fm_plain.specs.declared.advance.Advanced.{Advanced}
+use Rattle.fm_plain.specs.declared.advancing.Advanced.{Advanced}
 use Rattle.fm_run.specs.declared.pieces.Piece.{Piece}
 
 -- the process at a place made local steps, and it alone changed
@@ -23,6 +23,23 @@ pub record AdvancesAt (program : Program) (slice : ℕ) (place : Place) (x : Pro
 pub record Makes (program : Program) (s : State Proc) (p : Place) (steps : ℕ) (t : State Proc) (cost : ℕ) (starts : List Place) : Type 0 where
   pub leads : Leads (step program) s (replicate steps p) t cost
   pub starts_are : starts_along (language program) s (replicate steps p) ≡ starts
+
+-- one step more behind so many, and whom it starts
+pub record Steps (program : Program) (s : State Proc) (p : Place) (steps cost : ℕ) (r : Piece) (t : State Proc) : Type 0 where
+  pub paid : ℕ
+  pub leads : step program s p ≡ Some (t, paid)
+  pub starts : starts_at (language program) s p ≡ child_places p r.block 1 r.started
+  pub steps_are : r.steps ≡ steps + 1
+  pub cost_is : r.cost ≡ cost + paid
+
+-- or none, where the process can't step
+pub record Waits (program : Program) (s : State Proc) (p : Place) (steps cost : ℕ) (r : Piece) (t : State Proc) : Type 0 where
+  pub waits : is_some (step program s p) ≡ false
+  pub stays : t ≡ s
+  pub piece : r ≡ record { steps = steps; cost = cost; block = 0; started = 0 }
+
+abbrev pub StepsOrWaits : Program → State Proc → Place → (steps cost : ℕ) → Piece → State Proc → Type 0
+StepsOrWaits program s p steps cost r t = Steps program s p steps cost r t ⊎ Waits program s p steps cost r t
 
 -- whether a process, if it's there, has a local step
 abbrev pub is_local_in : Program → Option Proc → Bool

@@ -1,17 +1,33 @@
--- The processes and channels in memory as the meaning's state.
+-- The processes, channels and ports in memory as the meaning's state, and the ports by their values.
 -- Source: this profile.
-use Rattle.fm_base.specs.PathOrder.{path_cmp}
+use Rattle.std.specs.Prelude.{Option}
+use Rattle.std.specs.FinMap.{get}
+use Rattle.fm_base.specs.declared.port.PortValue.{PortValue}
+use Rattle.fm_base.specs.declared.port.PortValue.TheVariants.{Writer, Reader}
+use Rattle.fm_base.specs.PathOrder.{path_cmp, channel_cmp}
 use Rattle.fm_chan.specs.Bodies.{chans_of}
 use Rattle.fm_maps.specs.Map.{map_of, map_values}
 use Rattle.fm_net.specs.Machine.{Procs, State}
+use Rattle.fm_rules.specs.declared.program.Program.{Program}
 use Rattle.fm_mean.specs.Process.{Proc}
-use Rattle.fm_plain.specs.Readings.{proc_of}
+use Rattle.fm_frame.specs.Frames.{proc_of}
+use Rattle.fm_run.specs.Orderings.{outport_cmp}
+use Rattle.fm_run.specs.declared.ports.Ports.{Ports}
+use Rattle.fm_run.specs.declared.processes.Slot.{Slot}
 use Rattle.fm_run.specs.declared.processes.Processes.{Processes}
 use Rattle.fm_run.specs.declared.processes.Net.{Net}
 
--- the processes by their paths
-unfoldable pub procs_of : Processes → Procs Proc
-procs_of x = map_values proc_of (map_of path_cmp x.by_path)
+abbrev pub proc_in : Program → Slot → Proc
+proc_in program s = proc_of program s.process
 
-abbrev pub state_of : Net → State Proc
-state_of n = record { procs = procs_of n.processes; chans = chans_of n.channels }
+-- the processes by their paths
+unfoldable pub procs_of : Program → Processes → Procs Proc
+procs_of program x = map_values (proc_in program) (map_of path_cmp x.by_path)
+
+abbrev pub state_of : Program → Net → State Proc
+state_of program n = record { procs = procs_of program n.processes; chans = chans_of n.channels }
+
+-- what is kept under the value of a port, if something is
+unfoldable pub kept : Ports → PortValue → Option PortValue
+kept ports (Writer c w) = get (map_of outport_cmp ports.outports) (record { channel = c; number = w })
+kept ports (Reader c) = get (map_of channel_cmp ports.inports) c

@@ -4,16 +4,17 @@ use Rattle.std.specs.Prelude.{◌≡◌, ℕ, suc, ◌<◌, ◌≤◌, true, Opt
 use Rattle.fm_base.specs.declared.schedule.Turn.{Turn}
 use Rattle.fm_sched.specs.Schedule.{play, used, IsLegal, IsFinal}
 use Rattle.fm_net.specs.Machine.{Place, State}
-use Rattle.fm_mean.specs.declared.program.Program.{Program}
+use Rattle.fm_rules.specs.declared.program.Program.{Program}
 use Rattle.fm_mean.specs.Process.{Proc}
 use Rattle.fm_net.specs.Starts.{starts_along, starts_of, choices_of}
 use Rattle.fm_mean.specs.Steps.{language, step, first}
-use Rattle.fm_mean.specs.Report.{outcome_of}
+use Rattle.fm_mean.specs.Outcome.{outcome_of}
 use Rattle.fm_run.specs.declared.run.Ending.{Ending}
 use Rattle.fm_run.specs.declared.run.Ending.TheVariants.{Ended, Spent}
 use Rattle.fm_run.specs.declared.run.Run.{Run}
 use Rattle.fm_run.specs.declared.player.Player.{Player}
 use Rattle.fm_run.specs.Orders.{Among, EachOnce, places_of, can_at, chosen, ready_first, ready_after}
+use Rattle.fm_run.specs.Held.{IsSound}
 use Rattle.fm_run.specs.Pieces.{IsFull}
 use Rattle.fm_run.specs.Readings.{state_of}
 
@@ -46,8 +47,9 @@ pub record AreAble (program : Program) (s : State Proc) (places : List Place) (a
 
 -- a run between two pieces
 pub record IsPlayed (program : Program) (player : Player) : Type 0 where
-  pub history : IsPlayedBy program player.history.items (places_of player.paths.items) (state_of player.net) player.used
-  pub able : AreAble program (state_of player.net) (places_of player.paths.items) player.able.items
+  pub history : IsPlayedBy program player.history.items (places_of player.paths.items) (state_of program player.net) player.used
+  pub able : AreAble program (state_of program player.net) (places_of player.paths.items) player.able.items
+  pub sound : IsSound program player.net
 
 -- ---- a run that follows its choices
 
@@ -58,8 +60,8 @@ pub record Stand : Type 0 where
   pub places : List Place
   pub able : List ℕ
 
-abbrev pub stand_of : Player → Stand
-stand_of player = record { state = state_of player.net; places = places_of player.paths.items; able = player.able.items }
+abbrev pub stand_of : Program → Player → Stand
+stand_of program player = record { state = state_of program player.net; places = places_of player.paths.items; able = player.able.items }
 
 -- main has started, and can step or can't
 abbrev pub first_stand : Program → Stand

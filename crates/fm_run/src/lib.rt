@@ -4,21 +4,26 @@
 //! piece of a run is so many local steps of one process, and then one event, if it comes to one that it
 //! can do (`make_piece`); the run is a list of pieces, each of the process that its choice tells among
 //! those that can step, in the order in which they are served (`run_program`).
-//! That a process can step at all, that its channels are there, and that the name of a new channel is
-//! new, follow from the laws of the meaning: no premise is on the program.
+//! The runner keeps each port that a process holds under its value, and what each process does next
+//! (`IsSound`). That a process can step at all, that its channels and ports are there, and that the name of a
+//! new channel is new, follow from the laws of the meaning: no premise is on the program.
 #![tactic(auto)]
 
+mod messages;
 mod orders;
 mod outcome;
 mod perform;
 mod pieces;
 mod player;
+mod ports;
 mod processes;
 mod ready;
 mod run;
+mod shown;
 mod step;
 
 pub use pieces::{Piece, SLICE, make_piece};
-pub use processes::{Net, Processes};
+pub use ports::{Outport, Ports};
+pub use processes::{Net, Processes, Slot};
 pub use ready::can_step;
 pub use run::{Ending, Run, run_program};

@@ -3,13 +3,14 @@
 ghost use Rattle.std.specs.Prelude.{◌≡◌, ◌<◌, ◌++◌, ◌∷◌, ◌==◌, ◌&&◌, ◌||◌, ℕ, true, false, cond, not, [], length, filter, slice_index_or, IfOk, OnOk};
 ghost use Rattle.fm_net.specs.Owned.{IsOwned};
 ghost use Rattle.fm_mean.specs.Steps.{language};
+ghost use Rattle.fm_run.specs.Held.{IsSound};
 ghost use Rattle.fm_run.specs.Readings.{state_of};
 ghost use Rattle.fm_run.specs.Orders.{AreMarked, places_of, can_at, chosen, others_in, in_turn};
 
 use crate::processes::Net;
 use crate::ready::can_step;
 use fm_base::{NoMemory, Path};
-use fm_mean::Program;
+use fm_rules::Program;
 use std::alloc::Global;
 use std::sync::Arc;
 
@@ -42,8 +43,9 @@ fn is_able(
     paths: &[Arc<Path>],
     number: u32,
 ) -> Result<bool, NoMemory>
-    requires { IsOwned (language program.now) (state_of net.now) }
-    ensures { IfOk result (λ r. r ≡ can_at program.now (state_of net.now) (places_of paths.now) number) }
+    requires owned { IsOwned (language program.now) (state_of program.now net.now) }
+    requires sound { IsSound program.now net.now }
+    ensures { IfOk result (λ r. r ≡ can_at program.now (state_of program.now net.now) (places_of paths.now) number) }
 {
     match paths.get(number as usize) {
         Some(path) => can_step(alloc, net, program, path),
@@ -68,8 +70,9 @@ pub(crate) fn keep_able(
     paths: &[Arc<Path>],
     numbers: &[u32],
 ) -> Result<Vec<u32>, NoMemory>
-    requires { IsOwned (language program.now) (state_of net.now) }
-    ensures { IfOk result (λ v. v.items ≡ filter (can_at program.now (state_of net.now) (places_of paths.now)) numbers.now) }
+    requires owned { IsOwned (language program.now) (state_of program.now net.now) }
+    requires sound { IsSound program.now net.now }
+    ensures { IfOk result (λ v. v.items ≡ filter (can_at program.now (state_of program.now net.now) (places_of paths.now)) numbers.now) }
 {
     let mut able = Vec::new(alloc);
     'numbers: for number in numbers {

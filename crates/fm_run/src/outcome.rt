@@ -2,20 +2,29 @@
 
 ghost use Rattle.std.specs.Prelude.{◌≡◌, ◌++◌, ◌∷◌, [], map, option_map, IfOk, OnOk};
 ghost use Rattle.std.specs.List.{flat_map};
-ghost use Rattle.std.specs.FinMap.{get, entries};
-ghost use Rattle.fm_base.specs.Channels.{channel_of};
-ghost use Rattle.fm_mean.specs.Report.{lines_at, fault_at, awaited, waits_by, wait_at, shown_of, shown_all, outcome_of};
-ghost use Rattle.fm_mean.specs.Steps.{need_of};
-ghost use Rattle.fm_plain.specs.Readings.{proc_of};
-ghost use Rattle.fm_run.specs.Readings.{procs_of, state_of};
+ghost use Rattle.std.specs.FinMap.{entries};
+ghost use Rattle.std.specs.Option.{option_copied};
+ghost use Rattle.fm_rules.specs.declared.program.Program as declared;
+ghost use Rattle.fm_mean.specs.declared.outcome.At.TheVariants as at;
+ghost use Rattle.fm_mean.specs.Actions as action;
+ghost use Rattle.fm_mean.specs.Actions.{action_of};
+ghost use Rattle.fm_mean.specs.Names.{unit_at};
+ghost use Rattle.fm_mean.specs.Outcome.{lines_at, fault_at, awaited, line_at, line_within, need_of, waits_by, wait_at, outcome_of};
+ghost use Rattle.fm_frame.specs.Frames.{proc_of};
+ghost use Rattle.fm_plain.specs.Events.{event_by};
+ghost use Rattle.fm_plain.specs.Looking.{IsNext};
+ghost use Rattle.fm_run.specs.Held.{AreLookedAt};
+ghost use Rattle.fm_run.specs.Readings.{proc_in, procs_of, state_of};
+ghost use Rattle.fm_run.specs.Shown.{line_of_frame};
 
-use crate::processes::{Net, Processes};
-use crate::ready::child_path;
-use fm_base::{ChanName, Name, NoMemory, Path, Seq};
-use fm_mean::{
-    At, FaultAt, Kind, Outcome, OutputLine, Program, Shown, ShownVariable, Variable, Wait,
-};
-use fm_plain::{Blocker, PlainProc};
+use crate::processes::{Net, Processes, Slot};
+use crate::ready::{child_path, kid_count};
+use crate::shown::shown_all;
+use fm_base::{Line, NoMemory, Path, Seq};
+use fm_frame::{Frame, Phase, PlainProc, UnitView};
+use fm_mean::{At, FaultAt, Outcome, OutputLine, Wait};
+use fm_plain::{Event, Next};
+use fm_rules::Program;
 use std::alloc::Global;
 
 /// Output lines, faults and waits, process after process.
@@ -60,15 +69,26 @@ fn push_fault(
     path: &Path,
     process: &PlainProc,
 ) -> Result<(), NoMemory>
-    ensures { OnOk result (all.new.items ≡ all.old.items ++ fault_at (path.now, proc_of process.now)) }
+    ensures { OnOk result ((p : declared.Program) → all.new.items ≡ all.old.items ++ fault_at (path.now, proc_of p process.now)) }
 {
-    match process.fault() {
-        Some((line, fault)) => {
+    match process.phase {
+        Phase::Faulted(line, fault) => {
             let path = path.copy(alloc)?;
             all.push(FaultAt { path, line, fault })?;
             Ok(())
         }
-        None => Ok(()),
+        Phase::Running => Ok(()),
+        Phase::Joining(_, _) => Ok(()),
+        Phase::Ended => Ok(()),
+    }
+}
+
+fn join_of(child: Option<Path>) -> Option<At>
+    ensures { result ≡ option_map at.Join child }
+{
+    match child {
+        Some(child) => Some(At::Join(child)),
+        None => None,
     }
 }
 
@@ -81,7 +101,7 @@ impl Processes {
         block: u32,
         count: usize,
     ) -> Result<Option<Path>, NoMemory>
-        ensures { IfOk result (λ o. o ≡ awaited (procs_of self.now) path.now block 1 count) }
+        ensures { IfOk result (λ o. (p : declared.Program) → o ≡ awaited (procs_of p self.now) path.now block 1 count) }
     {
         'children: for place in 0..count {
             let child = child_path(alloc, path, block, place)?;
@@ -92,24 +112,43 @@ impl Processes {
         Ok(None)
     }
 
-    // What a process waits for, where it waits.
-    fn waits(
+    // What a process waits for that stands at this event, where it waits.
+    fn waits_at(
         &self,
         alloc: Global,
-        program: &Program,
         path: &Path,
         process: &PlainProc,
+        event: &Event,
     ) -> Result<Option<At>, NoMemory>
-        ensures { IfOk result (λ o. o ≡ waits_by (procs_of self.now) path.now (need_of program.now (proc_of process.now))) }
+        ensures { IfOk result (λ o. (p : declared.Program) → action_of p (proc_of p process.now) ≡ action.Meets (event_by (proc_of p process.now).phase event.now) →
+            o ≡ waits_by (procs_of p self.now) path.now (need_of p (proc_of p process.now))) }
     {
-        match process.blocker(program) {
-            Blocker::Message(port) => Ok(Some(At::Receive(port.channel().copy(alloc)?))),
-            Blocker::Children(block, count) => match self.awaited(alloc, path, block, count)? {
-                Some(child) => Ok(Some(At::Join(child))),
-                None => Ok(None),
-            },
-            Blocker::Rest => Ok(None),
-            Blocker::Free => Ok(None),
+        match event {
+            Event::Receive { channel, .. } => {
+                let name = channel.copy(alloc)?;
+                Ok(Some(At::Receive(name)))
+            }
+            Event::Join { block, .. } => {
+                let child = self.awaited(alloc, path, *block, kid_count(process))?;
+                Ok(join_of(child))
+            }
+            Event::Fail(_, _) => Ok(None),
+            Event::Make { .. } => Ok(None),
+            Event::Send { .. } => Ok(None),
+            Event::Probe { .. } => Ok(None),
+            Event::Begin => Ok(None),
+            Event::End => Ok(None),
+        }
+    }
+
+    // What a process waits for, where it waits.
+    fn waits(&self, alloc: Global, path: &Path, slot: &Slot) -> Result<Option<At>, NoMemory>
+        ensures { IfOk result (λ o. (p : declared.Program) → IsNext p (proc_in p slot.now) slot.now.next → o ≡ waits_by (procs_of p self.now) path.now (need_of p (proc_in p slot.now))) }
+    {
+        match &slot.next {
+            Next::Meets(event) => self.waits_at(alloc, path, &slot.process, event),
+            Next::Steps => Ok(None),
+            Next::Rests => Ok(None),
         }
     }
 
@@ -119,14 +158,15 @@ impl Processes {
         program: &Program,
         all: &mut Vec<Wait>,
         path: &Path,
-        process: &PlainProc,
+        slot: &Slot,
     ) -> Result<(), NoMemory>
-        ensures { OnOk result (all.new.items ≡ all.old.items ++ wait_at program.now (procs_of self.now) (path.now, proc_of process.now)) }
+        requires { IsNext program.now (proc_in program.now slot.now) slot.now.next }
+        ensures { OnOk result (all.new.items ≡ all.old.items ++ wait_at program.now (procs_of program.now self.now) (path.now, proc_in program.now slot.now)) }
     {
-        match self.waits(alloc, program, path, process)? {
+        match self.waits(alloc, path, slot)? {
             Some(at) => {
                 let path = path.copy(alloc)?;
-                let line = process.line(program);
+                let line = line_at(program, &slot.process);
                 all.push(Wait { path, line, at })?;
                 Ok(())
             }
@@ -135,100 +175,81 @@ impl Processes {
     }
 }
 
+// The line at which a process stands.
+fn line_at(program: &Program, process: &PlainProc) -> Line
+    ensures { result.0 ≡ line_at program.now (proc_of program.now process.now) }
+{
+    match top_frame(process) {
+        Some(frame) => line_of(program, frame),
+        None => Line(0),
+    }
+}
+
+fn top_frame(process: &PlainProc) -> Option<&Frame>
+    ensures { (p : declared.Program) → line_at p (proc_of p process.now) ≡ line_of_frame p (option_copied result) }
+{
+    match &process.top {
+        Some(frame) => Some(frame),
+        None => process.below.last(),
+    }
+}
+
+fn line_of(program: &Program, frame: &Frame) -> Line
+    ensures { result.0 ≡ line_within (unit_at program.now frame.now.unit) frame.now.entry }
+{
+    match UnitView::new(program, frame.unit) {
+        Some(unit) => match unit.entry(frame.entry) {
+            Some((entry, _)) => entry.line,
+            None => Line(0),
+        },
+        None => Line(0),
+    }
+}
+
 impl Gathered {
+    fn new(alloc: Global) -> Gathered
+        ensures lines { result.lines.items ≡ [] }
+        ensures faults { result.faults.items ≡ [] }
+        ensures waits { result.waits.items ≡ [] }
+    {
+        Gathered {
+            lines: Vec::new(alloc),
+            faults: Vec::new(alloc),
+            waits: Vec::new(alloc),
+        }
+    }
+
     fn add(
         &mut self,
         alloc: Global,
         program: &Program,
         processes: &Processes,
         path: &Path,
-        process: &PlainProc,
+        slot: &Slot,
     ) -> Result<(), NoMemory>
-        ensures lines { OnOk result (self.new.lines.items ≡ self.old.lines.items ++ lines_at (path.now, proc_of process.now)) }
-        ensures faults { OnOk result (self.new.faults.items ≡ self.old.faults.items ++ fault_at (path.now, proc_of process.now)) }
-        ensures waits { OnOk result (self.new.waits.items ≡ self.old.waits.items ++ wait_at program.now (procs_of processes.now) (path.now, proc_of process.now)) }
+        requires { IsNext program.now (proc_in program.now slot.now) slot.now.next }
+        ensures lines { OnOk result (self.new.lines.items ≡ self.old.lines.items ++ lines_at (path.now, proc_in program.now slot.now)) }
+        ensures faults { OnOk result (self.new.faults.items ≡ self.old.faults.items ++ fault_at (path.now, proc_in program.now slot.now)) }
+        ensures waits { OnOk result (self.new.waits.items ≡ self.old.waits.items ++ wait_at program.now (procs_of program.now processes.now) (path.now, proc_in program.now slot.now)) }
     {
-        push_lines(alloc, &mut self.lines, path, process.lines())?;
-        push_fault(alloc, &mut self.faults, path, process)?;
-        processes.push_wait(alloc, program, &mut self.waits, path, process)
+        push_lines(alloc, &mut self.lines, path, slot.process.lines())?;
+        push_fault(alloc, &mut self.faults, path, &slot.process)?;
+        processes.push_wait(alloc, program, &mut self.waits, path, slot)
     }
 }
 
 impl Processes {
     fn gathered(&self, alloc: Global, program: &Program) -> Result<Gathered, NoMemory>
-        ensures lines { IfOk result (λ all. all.lines.items ≡ flat_map lines_at (entries (procs_of self.now))) }
-        ensures faults { IfOk result (λ all. all.faults.items ≡ flat_map fault_at (entries (procs_of self.now))) }
-        ensures waits { IfOk result (λ all. all.waits.items ≡ flat_map (wait_at program.now (procs_of self.now)) (entries (procs_of self.now))) }
+        requires { AreLookedAt program.now self.now }
+        ensures lines { IfOk result (λ all. all.lines.items ≡ flat_map lines_at (entries (procs_of program.now self.now))) }
+        ensures faults { IfOk result (λ all. all.faults.items ≡ flat_map fault_at (entries (procs_of program.now self.now))) }
+        ensures waits { IfOk result (λ all. all.waits.items ≡ flat_map (wait_at program.now (procs_of program.now self.now)) (entries (procs_of program.now self.now))) }
     {
-        let mut all = Gathered {
-            lines: Vec::new(alloc),
-            faults: Vec::new(alloc),
-            waits: Vec::new(alloc),
-        };
-        'processes: for (path, process) in self.by_path.iter() {
-            all.add(alloc, program, self, path, process)?;
+        let mut all = Gathered::new(alloc);
+        'processes: for (path, slot) in self.by_path.iter() {
+            all.add(alloc, program, self, path, slot)?;
         }
         Ok(all)
-    }
-}
-
-fn shown_port(alloc: Global, process: &PlainProc, name: &Name) -> Result<Option<ChanName>, NoMemory>
-    ensures { IfOk result (λ o. o ≡ option_map channel_of (get (proc_of process.now).ports name.now)) }
-{
-    match process.port(name) {
-        Some(port) => Ok(Some(port.channel().copy(alloc)?)),
-        None => Ok(None),
-    }
-}
-
-fn one<T: Drop>(alloc: Global, element: T) -> Result<Seq<T>, NoMemory>
-    ensures { IfOk result (λ s. s ≡ element ∷ []) }
-{
-    let mut all = Seq::new(alloc);
-    all.push(element)?;
-    Ok(all)
-}
-
-fn shown(alloc: Global, process: &PlainProc, variable: &Variable) -> Result<ShownVariable, NoMemory>
-    ensures { IfOk result (λ v. v ≡ shown_of (proc_of process.now) variable.now) }
-{
-    let name = variable.name.copy(alloc)?;
-    let shown = match variable.kind {
-        Kind::Integer => Shown::Numbers(one(alloc, process.number(&variable.name))?),
-        Kind::Port => Shown::Ports(one(alloc, shown_port(alloc, process, &variable.name)?)?),
-    };
-    Ok(ShownVariable { name, shown })
-}
-
-fn shown_each(
-    alloc: Global,
-    process: &PlainProc,
-    variables: &[Variable],
-) -> Result<Vec<ShownVariable>, NoMemory>
-    ensures { IfOk result (λ v. v.items ≡ map (shown_of (proc_of process.now)) variables.now) }
-{
-    let mut all = Vec::new(alloc);
-    'variables: for variable in variables {
-        all.push(shown(alloc, process, variable)?)?;
-    }
-    Ok(all)
-}
-
-// The variables of main.
-fn shown_all(
-    alloc: Global,
-    program: &Program,
-    main: Option<&PlainProc>,
-) -> Result<Vec<ShownVariable>, NoMemory>
-    ensures { IfOk result (λ v. v.items ≡ shown_all program.now (option_map (λ x. proc_of x.now) main.entry)) }
-{
-    let process = match main {
-        Some(process) => process,
-        None => return Ok(Vec::new(alloc)),
-    };
-    match program.units.as_slice().get(program.main as usize) {
-        Some(unit) => shown_each(alloc, process, unit.variables.as_slice()),
-        None => Ok(Vec::new(alloc)),
     }
 }
 
@@ -240,7 +261,8 @@ pub(crate) fn outcome(
     program: &Program,
     used: u64,
 ) -> Result<Outcome, NoMemory>
-    ensures { IfOk result (λ o. o ≡ outcome_of program.now used (state_of net.now)) }
+    requires { AreLookedAt program.now net.now.processes }
+    ensures { IfOk result (λ o. o ≡ outcome_of program.now used (state_of program.now net.now)) }
 {
     let Gathered {
         lines,
@@ -248,7 +270,7 @@ pub(crate) fn outcome(
         waits,
     } = net.processes.gathered(alloc, program)?;
     let main = Path::main(alloc);
-    let variables = shown_all(alloc, program, net.processes.get(&main))?;
+    let variables = shown_all(alloc, program, net.processes.process(&main))?;
     Ok(Outcome {
         lines: Seq::from_vec(lines),
         variables: Seq::from_vec(variables),

@@ -1,26 +1,43 @@
-//! What a process does with its event: to itself, and to the channels.
+//! What a process does with its event: to itself, to the channels, and to the kept ports.
 
-ghost use Rattle.std.specs.Prelude.{◌≡◌, ℕ, true, false, List, [], ◌+◌, length, map, IfOk, OnOk, OnErr, Option, Some, None, option_to_list};
+ghost use Rattle.std.specs.Prelude.{◌≡◌, ◌+◌, ◌∷◌, ◌++◌, List, None, [], map, length, IfOk, OnOk};
+ghost use Rattle.std.specs.List.{flat_map};
 ghost use Rattle.std.specs.FinMap.{get, insert};
-ghost use Rattle.fm_base.specs.declared.port.PortValue.{PortValue};
-ghost use Rattle.fm_base.specs.Channels.{Pop, fresh, all_shed};
+ghost use Rattle.fm_base.specs.Channels.{Pop, all_shed, fresh, message_ports};
+ghost use Rattle.fm_base.specs.declared.port.PortValue.TheVariants.{Reader, Writer};
 ghost use Rattle.fm_chan.specs.Bodies.{chans_of};
-ghost use Rattle.fm_chan.specs.Events.{chan_at, after_op, after_send as sent_by};
-ghost use Rattle.fm_chan.specs.Received.{got_at};
+ghost use Rattle.fm_chan.specs.Events.{after_op, after_send as sent_by};
+ghost use Rattle.fm_chan.specs.Received.{got_at, waits_at};
+ghost use Rattle.fm_net.specs.Lawful.{ports_from};
 ghost use Rattle.fm_net.specs.Owned.{name_of};
+ghost use Rattle.fm_rules.specs.declared.program.Program as declared;
+ghost use Rattle.fm_mean.specs.Actions as action;
+ghost use Rattle.fm_mean.specs.Actions.{action_of, message_words as words_of};
 ghost use Rattle.fm_mean.specs.Process.{Proc};
-ghost use Rattle.fm_mean.specs.Actions.{action_of};
-ghost use Rattle.fm_mean.specs.Steps.{need_of, after_make, after_receive, after_close, after_start, after_end};
-ghost use Rattle.fm_plain.specs.Readings.{proc_of};
-ghost use Rattle.fm_plain.specs.Events.{IsEvent};
-ghost use Rattle.fm_plain.specs.Kept.{kept_of, kept_in};
-ghost use Rattle.fm_run.specs.Goes.{HasPort, is_served, message_in, Performs};
+ghost use Rattle.fm_mean.specs.Steps.{ended};
+ghost use Rattle.fm_frame.specs.Frames.{proc_of};
+ghost use Rattle.fm_frame.specs.LetGo.{let_go_ports};
+ghost use Rattle.fm_onward.specs.Goes.{after_begin, after_message};
+ghost use Rattle.fm_onward.specs.Joins.{after_join, frames_in, left_frames};
+ghost use Rattle.fm_passing.specs.Items.{message_of};
+ghost use Rattle.fm_plain.specs.Events.{event_by};
+ghost use Rattle.fm_run.specs.Goes.{CanJoin, CanPerform, Joins, Performs, joined_by, message_in};
+ghost use Rattle.fm_run.specs.Held.{AreKept, AreOnce, Carries, IsKept, MayDrop, Stay, StayBut};
 
-use fm_base::{ChanName, Line, Name, NoMemory, Path};
+use crate::messages::{message_from, unpacked};
+use crate::ports::Ports;
+use fm_base::{ChanName, Fault, Line, NoMemory, Path, PortValue, Seq};
 use fm_chan::{Channels, Got, Message, Port};
-use fm_mean::Program;
-use fm_plain::{Event, Kept, PlainProc};
+use fm_frame::{Leaving, LetGo, PlainProc};
+use fm_mean::{Actual, Span};
+use fm_onward::{
+    Ended, begin, end, fail, join, meet_end, put_ports, put_probe, store_message, take_message,
+};
+use fm_passing::{Item, message_words};
+use fm_plain::Event;
+use fm_rules::Program;
 use std::alloc::Global;
+use std::collections::VecDeque;
 
 /// What an event leaves to be done: the children to put at their places. And its cost.
 #[derive(Drop)]
@@ -31,64 +48,221 @@ pub(crate) struct Done {
     pub cost: u64,
 }
 
-fn discard_each(channels: &mut Channels, ports: Vec<Port>)
-    ensures { chans_of channels.new ≡ all_shed ports.items (chans_of channels.old) }
+fn alone(alloc: Global, cost: u64) -> Done
+    ensures children { result.children.items ≡ [] }
+    ensures cost { result.cost ≡ cost }
 {
-    'ports: for port in ports {
-        channels.discard(port);
+    Done {
+        children: Vec::new(alloc),
+        cost,
     }
 }
 
-// What stands in the variables is discarded.
-fn make(
-    alloc: Global,
-    path: &Path,
-    process: &mut PlainProc,
-    channels: &mut Channels,
-    inport: &Name,
-    outport: &Name,
-) -> Result<(), NoMemory>
-    requires { get (chans_of channels.old) (name_of path.now (proc_of process.old).next_channel) ≡ None }
-    ensures process { OnOk result (proc_of process.new ≡ (after_make (proc_of process.old) inport.now outport.now (name_of path.now (proc_of process.old).next_channel)).self) }
-    ensures channels { OnOk result (chans_of channels.new ≡ all_shed (after_make (proc_of process.old) inport.now outport.now (name_of path.now (proc_of process.old).next_channel)).drops (insert (chans_of channels.old) (name_of path.now (proc_of process.old).next_channel) (fresh 1))) }
+fn discard_one(channels: &mut Channels, ports: &mut Ports, value: PortValue)
+    requires { IsKept ports.old value }
+    ensures channels { chans_of channels.new ≡ all_shed (value ∷ []) (chans_of channels.old) }
+    ensures others { StayBut (value ∷ []) ports.old ports.new }
 {
-    let name = ChanName {
-        maker: path.copy(alloc)?,
-        number: process.next_channel(),
-    };
-    let ends = channels.make(alloc, name)?;
-    let displaced = process.put_channel(alloc, inport, outport, ends)?;
-    discard_each(channels, displaced);
+    match ports.take(value) {
+        Some(port) => channels.discard(port),
+        None => unreachable!(),
+    }
+}
+
+/// Discards the ports that a process lets go.
+pub(crate) fn discard_all(
+    alloc: Global,
+    program: &Program,
+    channels: &mut Channels,
+    ports: &mut Ports,
+    let_go: LetGo,
+)
+    requires kept { AreKept ports.old (let_go_ports program.now let_go) }
+    requires once { AreOnce (let_go_ports program.now let_go) }
+    ensures channels { chans_of channels.new ≡ all_shed (let_go_ports program.now let_go) (chans_of channels.old) }
+    ensures others { StayBut (let_go_ports program.now let_go) ports.old ports.new }
+{
+    let mut leaving = Leaving::new(alloc, let_go);
+    'ports: while let Some(value) = leaving.next(program) {
+        discard_one(channels, ports, value);
+    }
+}
+
+fn discard_both(
+    alloc: Global,
+    program: &Program,
+    channels: &mut Channels,
+    ports: &mut Ports,
+    first: LetGo,
+    second: LetGo,
+)
+    requires kept { AreKept ports.old (let_go_ports program.now first ++ let_go_ports program.now second) }
+    requires once { AreOnce (let_go_ports program.now first ++ let_go_ports program.now second) }
+    ensures channels { chans_of channels.new ≡ all_shed (let_go_ports program.now first ++ let_go_ports program.now second) (chans_of channels.old) }
+    ensures others { StayBut (let_go_ports program.now first ++ let_go_ports program.now second) ports.old ports.new }
+{
+    discard_all(alloc, program, channels, ports, first);
+    discard_all(alloc, program, channels, ports, second);
+}
+
+fn discard_each(
+    alloc: Global,
+    program: &Program,
+    channels: &mut Channels,
+    ports: &mut Ports,
+    let_go: Vec<LetGo>,
+)
+    requires kept { AreKept ports.old (flat_map (let_go_ports program.now) let_go.items) }
+    requires once { AreOnce (flat_map (let_go_ports program.now) let_go.items) }
+    ensures channels { chans_of channels.new ≡ all_shed (flat_map (let_go_ports program.now) let_go.items) (chans_of channels.old) }
+    ensures others { StayBut (flat_map (let_go_ports program.now) let_go.items) ports.old ports.new }
+{
+    let mut rest = VecDeque::from_vec(let_go);
+    'children: while let Some(one) = rest.pop_front() {
+        discard_all(alloc, program, channels, ports, one);
+    }
+}
+
+fn put_each(alloc: Global, ports: &mut Ports, all: Vec<Port>) -> Result<(), NoMemory>
+    ensures came { OnOk result (AreKept ports.new all.items) }
+    ensures others { OnOk result (Stay ports.old ports.new) }
+{
+    'ports: for port in all {
+        ports.put(alloc, port)?;
+    }
     Ok(())
 }
 
-fn send(
-    process: &PlainProc,
+// Makes the channel of this name, which has no writer.
+fn new_mute_channel(
+    alloc: Global,
     channels: &mut Channels,
-    outport: &Name,
+    ports: &mut Ports,
+    name: ChanName,
+) -> Result<(), NoMemory>
+    requires { get (chans_of channels.old) name ≡ None }
+    ensures channels { OnOk result (chans_of channels.new ≡ insert (chans_of channels.old) name (fresh 0)) }
+    ensures came { OnOk result (AreKept ports.new (ports_from name 0)) }
+    ensures others { OnOk result (Stay ports.old ports.new) }
+{
+    let ends = channels.make(alloc, name)?;
+    channels.close(ends.1);
+    ports.put(alloc, ends.0)
+}
+
+// Makes the channel of this name.
+fn new_channel(
+    alloc: Global,
+    channels: &mut Channels,
+    ports: &mut Ports,
+    name: ChanName,
+    writers: u32,
+) -> Result<(), NoMemory>
+    requires { get (chans_of channels.old) name ≡ None }
+    ensures channels { OnOk result (chans_of channels.new ≡ insert (chans_of channels.old) name (fresh writers)) }
+    ensures came { OnOk result (AreKept ports.new (ports_from name writers)) }
+    ensures others { OnOk result (Stay ports.old ports.new) }
+{
+    if writers == 0 {
+        return new_mute_channel(alloc, channels, ports, name);
+    }
+    let ends = channels.merge(alloc, name, writers)?;
+    ports.put(alloc, ends.0)?;
+    put_each(alloc, ports, ends.1)
+}
+
+// The values of the ports of a channel with so many writers.
+fn values(alloc: Global, name: &ChanName, writers: u32) -> Result<Vec<PortValue>, NoMemory>
+    ensures { IfOk result (λ v. v.items ≡ ports_from name.now writers) }
+{
+    let mut all = Vec::new(alloc);
+    all.push(PortValue::Reader(name.copy(alloc)?))?;
+    'writers: for writer in 0..writers {
+        all.push(PortValue::Writer(name.copy(alloc)?, writer))?;
+    }
+    Ok(all)
+}
+
+// The name of the channel that a process makes next.
+fn next_name(alloc: Global, path: &Path, process: &PlainProc) -> Result<ChanName, NoMemory>
+    ensures { IfOk result (λ c. (p : declared.Program) → c ≡ name_of path.now (proc_of p process.now).next_channel) }
+{
+    Ok(ChanName {
+        maker: path.copy(alloc)?,
+        number: process.next_channel,
+    })
+}
+
+// The ports of a new channel are put into their places. What stands there is discarded.
+fn make(
+    alloc: Global,
+    program: &Program,
+    path: &Path,
+    process: &mut PlainProc,
+    channels: &mut Channels,
+    ports: &mut Ports,
+    places: &[Span],
+    writers: u32,
+    cost: u64,
+    next: u32,
+) -> Result<Done, NoMemory>
+    requires event { action_of program.now (proc_of program.now process.old) ≡ action.Meets (action.Make places.now writers cost next) }
+    requires can { CanPerform program.now path.now (proc_of program.now process.old) (chans_of channels.old) [] ports.old }
+    ensures { IfOk result (λ done. Performs program.now path.now (proc_of program.now process.old) (chans_of channels.old) [] ports.old (proc_of program.now process.new) (map (proc_of program.now) done.children.items) (chans_of channels.new) ports.new done.cost) }
+{
+    let name = next_name(alloc, path, process)?;
+    let values = values(alloc, &name, writers)?;
+    new_channel(alloc, channels, ports, name, writers)?;
+    let let_go = put_ports(alloc, program, process, places, values, next)?;
+    discard_all(alloc, program, channels, ports, let_go);
+    Ok(alone(alloc, cost))
+}
+
+// What it costs to send or receive a message.
+fn message_cost(items: &[Item]) -> Result<u64, NoMemory>
+    ensures { IfOk result (λ cost. cost ≡ 1 + words_of (message_of items.now)) }
+{
+    message_words(items)?.checked_add(1).ok_or(NoMemory)
+}
+
+// A message may hold the very outport by which it is sent, so it goes by another port of that name.
+fn put_message(
+    alloc: Global,
+    channels: &mut Channels,
+    channel: ChanName,
     message: Message,
 ) -> Result<(), NoMemory>
-    requires { HasPort (proc_of process.now).ports outport.now true }
-    ensures { OnOk result ((port : PortValue) → get (proc_of process.now).ports outport.now ≡ Some port → (chans_of channels.new) ≡ sent_by port message (chans_of channels.old)) }
+    ensures { OnOk result (chans_of channels.new ≡ sent_by (Writer channel 0) message (chans_of channels.old)) }
 {
-    match process.port(outport) {
-        Some(port) => match channels.send(port, message) {
-            Ok(()) => Ok(()),
-            Err(_) => Err(NoMemory),
-        },
-        None => unreachable!(),
+    let mut others = Channels::new(alloc);
+    let (_, port) = others.make(alloc, channel)?;
+    match channels.send(&port, message) {
+        Ok(()) => Ok(()),
+        Err(_) => Err(NoMemory),
     }
 }
 
-fn take_message(process: &PlainProc, channels: &mut Channels, inport: &Name) -> Got
-    requires { HasPort (proc_of process.now).ports inport.now false }
-    ensures got { (port : PortValue) → get (proc_of process.now).ports inport.now ≡ Some port → result ≡ got_at [] (chan_at port (chans_of channels.old)) }
-    ensures channels { (port : PortValue) → get (proc_of process.now).ports inport.now ≡ Some port → (chans_of channels.new) ≡ after_op port (Pop []) (chans_of channels.old) }
+fn send(
+    alloc: Global,
+    program: &Program,
+    path: &Path,
+    process: &mut PlainProc,
+    channels: &mut Channels,
+    ports: &mut Ports,
+    channel: ChanName,
+    writer: u32,
+    items: Seq<Actual>,
+    next: u32,
+) -> Result<Done, NoMemory>
+    requires event { action_of program.now (proc_of program.now process.old) ≡ action.Meets (action.Send channel writer items next) }
+    requires can { CanPerform program.now path.now (proc_of program.now process.old) (chans_of channels.old) [] ports.old }
+    ensures { IfOk result (λ done. Performs program.now path.now (proc_of program.now process.old) (chans_of channels.old) [] ports.old (proc_of program.now process.new) (map (proc_of program.now) done.children.items) (chans_of channels.new) ports.new done.cost) }
 {
-    match process.port(inport) {
-        Some(port) => channels.receive(port, &[]),
-        None => unreachable!(),
-    }
+    let items = take_message(alloc, program, process, items, next)?;
+    let cost = message_cost(items.as_slice())?;
+    let message = message_from(alloc, ports, items)?;
+    put_message(alloc, channels, channel, message)?;
+    Ok(alone(alloc, cost))
 }
 
 fn message_in(got: Got) -> Option<Message>
@@ -102,111 +276,232 @@ fn message_in(got: Got) -> Option<Message>
     }
 }
 
-// The ports of the message are discarded: the language receives words.
-fn receive(
+// The oldest message of a channel, or none at its end.
+fn next_message(channels: &mut Channels, ports: &Ports, channel: &ChanName) -> Option<Message>
+    requires { IsKept ports.now (Reader channel.now) }
+    ensures message { result ≡ message_in (got_at [] (get (chans_of channels.old) channel.now)) }
+    ensures channels { chans_of channels.new ≡ after_op (Reader channel.now) (Pop []) (chans_of channels.old) }
+{
+    match ports.inport(channel) {
+        Some(port) => message_in(channels.receive(port, &[])),
+        None => unreachable!(),
+    }
+}
+
+// A message is stored. What stood in the places of its ports is discarded.
+fn store(
     alloc: Global,
+    program: &Program,
     process: &mut PlainProc,
     channels: &mut Channels,
-    message: Option<Message>,
-    line: Line,
-    item: &Name,
+    ports: &mut Ports,
+    places: &[Span],
+    iostat: Option<Span>,
+    message: Message,
+    next: u32,
 ) -> Result<u64, NoMemory>
-    ensures process { OnOk result (proc_of process.new ≡ (after_receive (proc_of process.old) line.0 item.now message).self) }
-    ensures channels { OnOk result (chans_of channels.new ≡ all_shed (after_receive (proc_of process.old) line.0 item.now message).drops (chans_of channels.old)) }
-    ensures cost { IfOk result (λ cost. cost ≡ (after_receive (proc_of process.old) line.0 item.now message).cost) }
+    requires { MayDrop ports.old (message_ports message) (after_message (proc_of program.now process.old) next places.now iostat message).drops }
+    ensures process { OnOk result (proc_of program.now process.new ≡ (after_message (proc_of program.now process.old) next places.now iostat message).self) }
+    ensures channels { OnOk result (chans_of channels.new ≡ all_shed (after_message (proc_of program.now process.old) next places.now iostat message).drops (chans_of channels.old)) }
+    ensures ports { OnOk result (Carries (message_ports message) (after_message (proc_of program.now process.old) next places.now iostat message).drops ports.old ports.new) }
+    ensures cost { IfOk result (λ cost. cost ≡ 1 + words_of message) }
 {
-    let cost = process.received(alloc, line, item, message.as_ref())?;
-    match message {
-        Some(message) => channels.discard_message(message),
-        None => {}
-    }
+    let items = unpacked(alloc, ports, message)?;
+    let cost = message_cost(items.as_slice())?;
+    let let_go = store_message(alloc, program, process, places, iostat, items, next)?;
+    discard_all(alloc, program, channels, ports, let_go);
     Ok(cost)
 }
 
-fn close(process: &mut PlainProc, channels: &mut Channels, outport: &Name) -> Result<(), NoMemory>
-    ensures process { OnOk result (proc_of process.new ≡ (after_close (proc_of process.old) outport.now).self) }
-    ensures channels { OnOk result (chans_of channels.new ≡ all_shed (after_close (proc_of process.old) outport.now).drops (chans_of channels.old)) }
+fn receive(
+    alloc: Global,
+    program: &Program,
+    path: &Path,
+    process: &mut PlainProc,
+    channels: &mut Channels,
+    ports: &mut Ports,
+    channel: ChanName,
+    line: Line,
+    places: &[Span],
+    iostat: Option<Span>,
+    at_end: Option<u32>,
+    next: u32,
+) -> Result<Done, NoMemory>
+    requires event { action_of program.now (proc_of program.now process.old) ≡ action.Meets (action.Receive channel line.0 places.now iostat at_end next) }
+    requires can { CanPerform program.now path.now (proc_of program.now process.old) (chans_of channels.old) [] ports.old }
+    ensures { IfOk result (λ done. Performs program.now path.now (proc_of program.now process.old) (chans_of channels.old) [] ports.old (proc_of program.now process.new) (map (proc_of program.now) done.children.items) (chans_of channels.new) ports.new done.cost) }
 {
-    match process.close(outport)? {
-        Some(port) => channels.discard(port),
-        None => {}
+    match next_message(channels, ports, &channel) {
+        Some(message) => {
+            let cost = store(
+                alloc, program, process, channels, ports, places, iostat, message, next,
+            )?;
+            Ok(alone(alloc, cost))
+        }
+        None => {
+            meet_end(program, process, line, iostat, at_end, next);
+            Ok(alone(alloc, 1))
+        }
     }
-    Ok(())
 }
 
-fn alone(alloc: Global, cost: u64) -> Done
-    ensures children { result.children.items ≡ [] }
-    ensures cost { result.cost ≡ cost }
+// Whether a receive would wait.
+fn waits(channels: &Channels, ports: &Ports, channel: &ChanName) -> bool
+    requires { IsKept ports.now (Reader channel.now) }
+    ensures { result ≡ waits_at (get (chans_of channels.now) channel.now) }
 {
-    Done {
-        children: Vec::new(alloc),
-        cost,
+    match ports.inport(channel) {
+        Some(port) => channels.probe(port),
+        None => unreachable!(),
     }
 }
 
-fn start(alloc: Global, process: &mut PlainProc) -> Result<Done, NoMemory>
-    ensures process { OnOk result (proc_of process.new ≡ (after_start (proc_of process.old)).self) }
-    ensures children { IfOk result (λ done. map proc_of done.children.items ≡ (after_start (proc_of process.old)).starts) }
-    ensures cost { IfOk result (λ done. done.cost ≡ (after_start (proc_of process.old)).cost) }
+fn probe(
+    alloc: Global,
+    program: &Program,
+    path: &Path,
+    process: &mut PlainProc,
+    channels: &Channels,
+    ports: &Ports,
+    channel: ChanName,
+    empty: Span,
+    next: u32,
+) -> Done
+    requires event { action_of program.now (proc_of program.now process.old) ≡ action.Meets (action.Probe channel empty next) }
+    requires can { CanPerform program.now path.now (proc_of program.now process.old) (chans_of channels.now) [] ports.now }
+    ensures { Performs program.now path.now (proc_of program.now process.old) (chans_of channels.now) [] ports.now (proc_of program.now process.new) (map (proc_of program.now) result.children.items) (chans_of channels.now) ports.now result.cost }
 {
-    let children = process.start(alloc)?;
+    let waits = waits(channels, ports, &channel);
+    put_probe(program, process, empty, waits, next);
+    alone(alloc, 1)
+}
+
+fn start(alloc: Global, program: &Program, process: &mut PlainProc) -> Result<Done, NoMemory>
+    ensures process { OnOk result (proc_of program.now process.new ≡ (after_begin (proc_of program.now process.old)).self) }
+    ensures children { IfOk result (λ done. map (proc_of program.now) done.children.items ≡ (after_begin (proc_of program.now process.old)).starts) }
+    ensures cost { IfOk result (λ done. done.cost ≡ 1 + length done.children.items) }
+{
+    let children = begin(alloc, process)?;
     let cost = 1 + children.len() as u64;
     Ok(Done { children, cost })
 }
 
-/// Does the event at which a process stands, as far as it touches the process and the channels. `kept`
-/// is what its children kept, where it joins them.
+// The ports of starts that didn't begin come last.
+fn finish(
+    alloc: Global,
+    program: &Program,
+    process: &mut PlainProc,
+    channels: &mut Channels,
+    ports: &mut Ports,
+) -> Result<(), NoMemory>
+    requires kept { AreKept ports.old (ended program.now (proc_of program.now process.old)).drops }
+    requires once { AreOnce (ended program.now (proc_of program.now process.old)).drops }
+    ensures process { OnOk result (proc_of program.now process.new ≡ (ended program.now (proc_of program.now process.old)).self) }
+    ensures channels { OnOk result (chans_of channels.new ≡ all_shed (ended program.now (proc_of program.now process.old)).drops (chans_of channels.old)) }
+    ensures others { OnOk result (StayBut (ended program.now (proc_of program.now process.old)).drops ports.old ports.new) }
+{
+    let gone = end(alloc, program, process)?;
+    discard_both(alloc, program, channels, ports, gone.0, gone.1);
+    Ok(())
+}
+
+/// Does the event at which a process stands, as far as it touches the process, the channels and the kept ports.
 pub(crate) fn perform(
     alloc: Global,
     program: &Program,
     path: &Path,
     process: &mut PlainProc,
     channels: &mut Channels,
-    event: Event<'_>,
-    kept: Vec<Kept>,
+    ports: &mut Ports,
+    event: Event,
 ) -> Result<Done, NoMemory>
-    requires event { IsEvent program.now (proc_of process.old) (action_of program.now (proc_of process.old)) event }
-    requires ready { is_served (chans_of channels.old) (need_of program.now (proc_of process.old)) ≡ true }
-    requires new { get (chans_of channels.old) (name_of path.now (proc_of process.old).next_channel) ≡ None }
-    ensures { IfOk result (λ done. (kids : List Proc) → map kept_of kids ≡ map kept_in kept.items →
-        Performs program.now path.now (proc_of process.old) (chans_of channels.old) kids (proc_of process.new) (map proc_of done.children.items) (chans_of channels.new) done.cost) }
+    requires event { action_of program.now (proc_of program.now process.old) ≡ action.Meets (event_by (proc_of program.now process.old).phase event) }
+    requires alone { joined_by event ≡ None }
+    requires can { CanPerform program.now path.now (proc_of program.now process.old) (chans_of channels.old) [] ports.old }
+    ensures { IfOk result (λ done. Performs program.now path.now (proc_of program.now process.old) (chans_of channels.old) [] ports.old (proc_of program.now process.new) (map (proc_of program.now) done.children.items) (chans_of channels.new) ports.new done.cost) }
 {
     match event {
-        Event::Fault(line, fault) => {
-            process.fail(line, fault);
+        Event::Fail(line, fault) => {
+            fail(process, line, fault);
             Ok(alone(alloc, 1))
         }
-        Event::Make(inport, outport) => {
-            make(alloc, path, process, channels, inport, outport)?;
-            Ok(alone(alloc, 1))
-        }
-        Event::Send(outport, message) => {
-            send(process, channels, outport, message)?;
-            process.sent()?;
-            Ok(alone(alloc, 2))
-        }
-        Event::Receive(inport, line, item) => {
-            let message = message_in(take_message(process, channels, inport));
-            let cost = receive(alloc, process, channels, message, line, item)?;
-            Ok(alone(alloc, cost))
-        }
-        Event::Close(outport) => {
-            close(process, channels, outport)?;
-            Ok(alone(alloc, 1))
-        }
-        Event::Start => {
-            let done = start(alloc, process)?;
-            Ok(done)
-        }
-        Event::Join(_, _) => {
-            let (ports, cost) = process.join(alloc, program, kept)?;
-            discard_each(channels, ports);
-            Ok(alone(alloc, cost))
-        }
+        Event::Make {
+            places,
+            writers,
+            cost,
+            next,
+        } => make(
+            alloc,
+            program,
+            path,
+            process,
+            channels,
+            ports,
+            places.as_slice(),
+            writers,
+            cost,
+            next,
+        ),
+        Event::Send {
+            channel,
+            writer,
+            items,
+            next,
+        } => send(
+            alloc, program, path, process, channels, ports, channel, writer, items, next,
+        ),
+        Event::Receive {
+            channel,
+            line,
+            items,
+            iostat,
+            at_end,
+            next,
+        } => receive(
+            alloc,
+            program,
+            path,
+            process,
+            channels,
+            ports,
+            channel,
+            line,
+            items.as_slice(),
+            iostat,
+            at_end,
+            next,
+        ),
+        Event::Probe {
+            channel,
+            empty,
+            next,
+        } => Ok(probe(
+            alloc, program, path, process, channels, ports, channel, empty, next,
+        )),
+        Event::Begin => start(alloc, program, process),
+        Event::Join { .. } => unreachable!(),
         Event::End => {
-            let ports = process.end(alloc, program)?;
-            discard_each(channels, ports);
+            finish(alloc, program, process, channels, ports)?;
             Ok(alone(alloc, 1))
         }
     }
+}
+
+/// Joins the process with children that left these frames.
+pub(crate) fn join_all(
+    alloc: Global,
+    program: &Program,
+    process: &mut PlainProc,
+    channels: &mut Channels,
+    ports: &mut Ports,
+    left: Vec<Ended>,
+    next: u32,
+) -> Result<u64, NoMemory>
+    requires { CanJoin program.now (proc_of program.now process.old) next left.items ports.old }
+    ensures { IfOk result (λ cost. (kids : List Proc) → map frames_in kids ≡ map (left_frames program.now) left.items →
+        Joins (proc_of program.now process.old) next kids ports.old (chans_of channels.old) (proc_of program.now process.new) (chans_of channels.new) ports.new cost) }
+{
+    let joined = join(alloc, program, process, left, next)?;
+    discard_each(alloc, program, channels, ports, joined.0);
+    Ok(joined.1)
 }

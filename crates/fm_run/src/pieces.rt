@@ -1,19 +1,28 @@
 //! Pieces of a run: several steps of one process.
 
-ghost use Rattle.std.specs.Prelude.{◌≡◌, ◌+◌, true, is_some, Some, IfOk};
+ghost use Rattle.std.specs.Prelude.{◌≡◌, ◌+◌, true, is_some, Some, IfOk, OnOk};
 ghost use Rattle.std.specs.FinMap.{get};
+ghost use Rattle.fm_base.specs.Channels.{all_shed};
+ghost use Rattle.fm_chan.specs.Bodies.{chans_of};
 ghost use Rattle.fm_sched.specs.Schedule.{IsReached};
+ghost use Rattle.fm_net.specs.Owned.{IsOwned};
+ghost use Rattle.fm_mean.specs.Actions as action;
+ghost use Rattle.fm_mean.specs.Actions.{action_of};
 ghost use Rattle.fm_mean.specs.Process.{Proc};
-ghost use Rattle.fm_mean.specs.Steps.{step, first};
+ghost use Rattle.fm_mean.specs.Steps.{step, first, language};
+ghost use Rattle.fm_frame.specs.LetGo.{let_go_ports};
+ghost use Rattle.fm_plain.specs.Events.{IsEvent, event_by};
+ghost use Rattle.fm_run.specs.Held.{AreKept, AreLookedAt, AreLookedAtBut, AreOnce, HeldAreKept, IsSound, StayBut};
 ghost use Rattle.fm_run.specs.Readings.{procs_of, state_of};
-ghost use Rattle.fm_run.specs.Pieces.{AdvancesAt, IsPiece};
+ghost use Rattle.fm_run.specs.Pieces.{AdvancesAt, IsPiece, Steps, StepsOrWaits};
 
+use crate::perform::discard_all;
 use crate::processes::{Net, Processes};
-use crate::ready::can_step;
 use crate::step::{Stepped, step};
 use fm_base::{NoMemory, Path};
-use fm_mean::Program;
-use fm_plain::{Advanced, Stop};
+use fm_frame::LetGo;
+use fm_plain::{Advanced, Event, Next, Stop, advance};
+use fm_rules::Program;
 use std::alloc::Global;
 
 /// The most local steps of a piece.
@@ -34,17 +43,18 @@ pub struct Piece {
 
 impl Processes {
     // Local steps of the process at a path.
-    fn advance<'p>(
+    fn advance(
         &mut self,
         alloc: Global,
-        program: &'p Program,
+        program: &Program,
         path: &Path,
-    ) -> Result<Advanced<'p>, NoMemory>
-        requires { is_some (get (procs_of self.old) path.now) ≡ true }
-        ensures { IfOk result (λ a. (x : Proc) → get (procs_of self.old) path.now ≡ Some x → AdvancesAt program.now SLICE path.now x a (procs_of self.old) (procs_of self.new)) }
+    ) -> Result<Advanced, NoMemory>
+        requires { is_some (get (procs_of program.now self.old) path.now) ≡ true }
+        ensures next { OnOk result (AreLookedAtBut program.now path.now self.old → AreLookedAtBut program.now path.now self.new) }
+        ensures advances { IfOk result (λ a. (x : Proc) → get (procs_of program.now self.old) path.now ≡ Some x → AdvancesAt program.now SLICE path.now x a (procs_of program.now self.old) (procs_of program.now self.new)) }
     {
         match self.by_path.get_mut(path) {
-            Some(process) => process.advance(alloc, program, SLICE),
+            Some(slot) => advance(alloc, program, &mut slot.process, SLICE),
             None => unreachable!(),
         }
     }
@@ -75,8 +85,122 @@ fn with_step(steps: u32, cost: u64, stepped: Stepped) -> Result<Piece, NoMemory>
     }
 }
 
+impl Net {
+    // Makes the step of the process at a path, which stands at this event, behind so many other steps.
+    fn event_piece(
+        &mut self,
+        alloc: Global,
+        program: &Program,
+        path: &Path,
+        steps: u32,
+        cost: u64,
+        event: Event,
+    ) -> Result<Piece, NoMemory>
+        requires owned { IsOwned (language program.now) (state_of program.now self.old) }
+        requires held { HeldAreKept program.now self.old.ports (procs_of program.now self.old.processes) }
+        requires can { is_some (step program.now (state_of program.now self.old) path.now) ≡ true }
+        requires event { (x : Proc) → get (procs_of program.now self.old.processes) path.now ≡ Some x → action_of program.now x ≡ action.Meets (event_by x.phase event) }
+        requires next { AreLookedAtBut program.now path.now self.old.processes }
+        ensures sound { OnOk result (IsSound program.now self.new) }
+        ensures steps { IfOk result (λ r. Steps program.now (state_of program.now self.old) path.now steps cost r (state_of program.now self.new)) }
+    {
+        let stepped = step(alloc, self, program, path, event)?;
+        self.processes.look(alloc, program, path)?;
+        with_step(steps, cost, stepped)
+    }
+
+    // Makes the step of the process at a path, which stands at this event, or leaves it at the event.
+    fn event_or_wait(
+        &mut self,
+        alloc: Global,
+        program: &Program,
+        path: &Path,
+        steps: u32,
+        cost: u64,
+        event: Event,
+    ) -> Result<Piece, NoMemory>
+        requires owned { IsOwned (language program.now) (state_of program.now self.old) }
+        requires held { HeldAreKept program.now self.old.ports (procs_of program.now self.old.processes) }
+        requires there { is_some (get (procs_of program.now self.old.processes) path.now) ≡ true }
+        requires event { (x : Proc) → get (procs_of program.now self.old.processes) path.now ≡ Some x → IsEvent x.phase (action_of program.now x) event }
+        requires next { AreLookedAtBut program.now path.now self.old.processes }
+        ensures sound { OnOk result (IsSound program.now self.new) }
+        ensures steps { IfOk result (λ r. StepsOrWaits program.now (state_of program.now self.old) path.now steps cost r (state_of program.now self.new)) }
+    {
+        if self.is_served(alloc, program, path, &event)? {
+            return self.event_piece(alloc, program, path, steps, cost, event);
+        }
+        self.processes.keep_next(path, Next::Meets(event));
+        Ok(local_piece(steps, cost))
+    }
+
+    // Discards what the last step of a process let go.
+    fn discard_piece(
+        &mut self,
+        alloc: Global,
+        program: &Program,
+        path: &Path,
+        steps: u32,
+        cost: u64,
+        let_go: LetGo,
+        paid: u64,
+    ) -> Result<Piece, NoMemory>
+        requires kept { AreKept self.old.ports (let_go_ports program.now let_go) }
+        requires once { AreOnce (let_go_ports program.now let_go) }
+        ensures processes { OnOk result (procs_of program.now self.new.processes ≡ procs_of program.now self.old.processes) }
+        ensures channels { OnOk result (chans_of self.new.channels ≡ all_shed (let_go_ports program.now let_go) (chans_of self.old.channels)) }
+        ensures ports { OnOk result (StayBut (let_go_ports program.now let_go) self.old.ports self.new.ports) }
+        ensures next { OnOk result (AreLookedAtBut program.now path.now self.old.processes → AreLookedAt program.now self.new.processes) }
+        ensures piece { IfOk result (λ r. r ≡ record { steps = steps + 1; cost = cost + paid; block = 0; started = 0 }) }
+    {
+        discard_all(alloc, program, &mut self.channels, &mut self.ports, let_go);
+        self.processes.look(alloc, program, path)?;
+        with_step(
+            steps,
+            cost,
+            Stepped {
+                block: 0,
+                started: 0,
+                cost: paid,
+            },
+        )
+    }
+
+    // Makes a piece of the process at a path, which isn't known to stand at an event.
+    fn local_piece(
+        &mut self,
+        alloc: Global,
+        program: &Program,
+        path: &Path,
+    ) -> Result<Piece, NoMemory>
+        requires reached { IsReached (step program.now) (first program.now) (state_of program.now self.old) }
+        requires held { HeldAreKept program.now self.old.ports (procs_of program.now self.old.processes) }
+        requires can { is_some (step program.now (state_of program.now self.old) path.now) ≡ true }
+        requires next { AreLookedAtBut program.now path.now self.old.processes }
+        ensures sound { OnOk result (IsSound program.now self.new) }
+        ensures piece { IfOk result (λ r. IsPiece program.now SLICE (state_of program.now self.old) path.now r (state_of program.now self.new)) }
+    {
+        let Advanced { stop, steps, cost } = self.processes.advance(alloc, program, path)?;
+        match stop {
+            Stop::More => {
+                self.processes.look(alloc, program, path)?;
+                Ok(local_piece(steps, cost))
+            }
+            Stop::Rest => {
+                self.processes.look(alloc, program, path)?;
+                Ok(local_piece(steps, cost))
+            }
+            Stop::Event(event) => self.event_or_wait(alloc, program, path, steps, cost, event),
+            Stop::LetsGo(let_go, paid) => {
+                self.discard_piece(alloc, program, path, steps, cost, let_go, paid)
+            }
+            Stop::Short => Err(NoMemory),
+        }
+    }
+}
+
 /// Makes a piece of the process at a path, which can step: local steps, as many as `SLICE` at most, and
-/// then, where an event stopped it before, that event, if it can do it.
+/// then, where an event stopped it before, that event, if it can do it; or a step that lets ports go.
 ///
 /// After want of memory the net isn't to be used any more.
 pub fn make_piece(
@@ -85,20 +209,15 @@ pub fn make_piece(
     program: &Program,
     path: &Path,
 ) -> Result<Piece, NoMemory>
-    requires reached { IsReached (step program.now) (first program.now) (state_of net.old) }
-    requires can { is_some (step program.now (state_of net.old) path.now) ≡ true }
-    ensures { IfOk result (λ r. IsPiece program.now SLICE (state_of net.old) path.now r (state_of net.new)) }
+    requires reached { IsReached (step program.now) (first program.now) (state_of program.now net.old) }
+    requires sound { IsSound program.now net.old }
+    requires can { is_some (step program.now (state_of program.now net.old) path.now) ≡ true }
+    ensures sound { OnOk result (IsSound program.now net.new) }
+    ensures piece { IfOk result (λ r. IsPiece program.now SLICE (state_of program.now net.old) path.now r (state_of program.now net.new)) }
 {
-    let Advanced { stop, steps, cost } = net.processes.advance(alloc, program, path)?;
-    match stop {
-        Stop::More => Ok(local_piece(steps, cost)),
-        Stop::Rest => Ok(local_piece(steps, cost)),
-        Stop::Event(event) => {
-            if !can_step(alloc, net, program, path)? {
-                return Ok(local_piece(steps, cost));
-            }
-            let stepped = step(alloc, net, program, path, event)?;
-            with_step(steps, cost, stepped)
-        }
+    match net.processes.take_next(path) {
+        Next::Meets(event) => net.event_piece(alloc, program, path, 0, 0, event),
+        Next::Steps => net.local_piece(alloc, program, path),
+        Next::Rests => net.local_piece(alloc, program, path),
     }
 }

@@ -4,17 +4,20 @@ ghost use Rattle.std.specs.Prelude.{◌≡◌, ℕ, ◌<◌, ◌≤◌, ◌+◌,
 ghost use Rattle.fm_mean.specs.Steps.{first};
 ghost use Rattle.fm_net.specs.Starts.{child_places};
 ghost use Rattle.fm_run.specs.Orders.{Among, places_of, can_at, chosen, ready_after};
-ghost use Rattle.fm_run.specs.Readings.{state_of};
+ghost use Rattle.fm_run.specs.Held.{AreLookedAt, IsSound};
+ghost use Rattle.fm_run.specs.Readings.{procs_of, state_of};
 ghost use Rattle.fm_run.specs.Runs.{IsFrontWithin, IsPlayedBy, IsPlayed, IsEntry, first_stand, stand_of};
 
 use crate::orders::{candidates, chosen, keep_able};
 use crate::pieces::{SLICE, make_piece};
-use crate::processes::{Net, Processes};
+use crate::ports::Ports;
+use crate::processes::{Net, Processes, Slot};
 use crate::ready::child_path;
 use fm_base::{NoMemory, Path, Turn};
 use fm_chan::Channels;
-use fm_mean::Program;
-use fm_plain::PlainProc;
+use fm_frame::PlainProc;
+use fm_plain::next_of;
+use fm_rules::Program;
 use std::alloc::Global;
 use std::sync::Arc;
 
@@ -33,14 +36,26 @@ pub(crate) struct Player {
     pub used: u64,
 }
 
-fn first_net(alloc: Global, program: &Program) -> Result<Net, NoMemory>
-    ensures { IfOk result (λ net. state_of net ≡ first program.now) }
+fn first_processes(alloc: Global, program: &Program) -> Result<Processes, NoMemory>
+    ensures processes { IfOk result (λ processes. procs_of program.now processes ≡ (first program.now).procs) }
+    ensures next { IfOk result (λ processes. AreLookedAt program.now processes) }
 {
+    let process = PlainProc::main(alloc, program)?;
+    let next = next_of(alloc, program, &process)?;
     let mut processes = Processes::new(alloc);
-    processes.insert(Path::main(alloc), PlainProc::main(alloc, program))?;
+    processes.insert(Path::main(alloc), Slot { process, next })?;
+    Ok(processes)
+}
+
+fn first_net(alloc: Global, program: &Program) -> Result<Net, NoMemory>
+    ensures state { IfOk result (λ net. state_of program.now net ≡ first program.now) }
+    ensures sound { IfOk result (λ net. IsSound program.now net) }
+{
+    let processes = first_processes(alloc, program)?;
     Ok(Net {
         processes,
         channels: Channels::new(alloc),
+        ports: Ports::new(alloc),
     })
 }
 
@@ -71,7 +86,7 @@ impl Player {
         ensures played { IfOk result (λ player. IsPlayed program.now player) }
         ensures used { IfOk result (λ player. player.used ≡ 0) }
         ensures history { IfOk result (λ player. player.history.items ≡ []) }
-        ensures stand { IfOk result (λ player. stand_of player ≡ first_stand program.now) }
+        ensures stand { IfOk result (λ player. stand_of program.now player ≡ first_stand program.now) }
     {
         let net = first_net(alloc, program)?;
         let paths = vec![in alloc; Arc::new(alloc, Path::main(alloc))?]?;
@@ -96,12 +111,14 @@ impl Player {
 
     // Makes a piece of a process, and keeps it.
     fn keep_piece(&mut self, alloc: Global, program: &Program, number: u32) -> Result<(), NoMemory>
-        requires kept { IsPlayedBy program.now self.old.history.items (places_of self.old.paths.items) (state_of self.old.net) self.old.used }
-        requires able { can_at program.now (state_of self.old.net) (places_of self.old.paths.items) number ≡ true }
-        ensures kept { OnOk result (IsPlayedBy program.now self.new.history.items (places_of self.new.paths.items) (state_of self.new.net) self.new.used) }
+        requires sound { IsSound program.now self.old.net }
+        requires kept { IsPlayedBy program.now self.old.history.items (places_of self.old.paths.items) (state_of program.now self.old.net) self.old.used }
+        requires able { can_at program.now (state_of program.now self.old.net) (places_of self.old.paths.items) number ≡ true }
+        ensures sound { OnOk result (IsSound program.now self.new.net) }
+        ensures kept { OnOk result (IsPlayedBy program.now self.new.history.items (places_of self.new.paths.items) (state_of program.now self.new.net) self.new.used) }
         ensures used { OnOk result (self.old.used < self.new.used) }
         ensures front { OnOk result ((turns : ℕ) → self.old.used ≤ turns → IsFrontWithin program.now turns self.new.history.items (places_of self.new.paths.items)) }
-        ensures entry { OnOk result (IsEntry program.now SLICE number (state_of self.old.net) (places_of self.old.paths.items) self.old.history.items (state_of self.new.net) (places_of self.new.paths.items) self.new.history.items) }
+        ensures entry { OnOk result (IsEntry program.now SLICE number (state_of program.now self.old.net) (places_of self.old.paths.items) self.old.history.items (state_of program.now self.new.net) (places_of self.new.paths.items) self.new.history.items) }
         ensures able { OnOk result (self.new.able.items ≡ self.old.able.items) }
     {
         let path = match self.paths.get(number as usize) {
@@ -128,8 +145,8 @@ impl Player {
         ensures played { OnOk result (IsPlayed program.now self.new) }
         ensures used { OnOk result (self.old.used < self.new.used) }
         ensures front { OnOk result ((turns : ℕ) → self.old.used ≤ turns → IsFrontWithin program.now turns self.new.history.items (places_of self.new.paths.items)) }
-        ensures entry { OnOk result (IsEntry program.now SLICE number (state_of self.old.net) (places_of self.old.paths.items) self.old.history.items (state_of self.new.net) (places_of self.new.paths.items) self.new.history.items) }
-        ensures able { OnOk result (self.new.able.items ≡ ready_after program.now (state_of self.new.net) (places_of self.new.paths.items) self.old.able.items number) }
+        ensures entry { OnOk result (IsEntry program.now SLICE number (state_of program.now self.old.net) (places_of self.old.paths.items) self.old.history.items (state_of program.now self.new.net) (places_of self.new.paths.items) self.new.history.items) }
+        ensures able { OnOk result (self.new.able.items ≡ ready_after program.now (state_of program.now self.new.net) (places_of self.new.paths.items) self.old.able.items number) }
     {
         self.keep_piece(alloc, program, number)?;
         let order = candidates(alloc, &self.able, number, self.paths.len())?;

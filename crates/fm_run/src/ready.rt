@@ -1,19 +1,29 @@
 //! Which processes can step.
 
-ghost use Rattle.std.specs.Prelude.{◌≡◌, ◌+◌, true, is_some, IfOk};
+ghost use Rattle.std.specs.Prelude.{◌≡◌, ◌+◌, ℕ, length, true, is_some, Some, Option, IfOk};
 ghost use Rattle.std.specs.FinMap.{get};
-ghost use Rattle.fm_base.specs.Channels.{Pop};
+ghost use Rattle.fm_base.specs.declared.port.PortValue.TheVariants.{Reader};
+ghost use Rattle.fm_chan.specs.Bodies.{chans_of};
+ghost use Rattle.fm_chan.specs.Received.{pops_at};
 ghost use Rattle.fm_net.specs.Machine.{child, gathered};
 ghost use Rattle.fm_net.specs.Owned.{IsOwned};
-ghost use Rattle.fm_mean.specs.Process.{has_ended as is_done};
-ghost use Rattle.fm_mean.specs.Report.{ended_at};
+ghost use Rattle.fm_rules.specs.declared.program.Program as declared;
+ghost use Rattle.fm_mean.specs.Actions as action;
+ghost use Rattle.fm_mean.specs.Actions.{action_of};
+ghost use Rattle.fm_mean.specs.Outcome.{ended_at};
+ghost use Rattle.fm_mean.specs.Process.{Proc, has_ended as is_done};
 ghost use Rattle.fm_mean.specs.Steps.{step, language};
+ghost use Rattle.fm_frame.specs.Frames.{phase_of};
+ghost use Rattle.fm_onward.specs.Joins.{kids_in};
+ghost use Rattle.fm_plain.specs.Events.{event_by};
+ghost use Rattle.fm_run.specs.Held.{HeldAreKept, IsKept, IsSound};
 ghost use Rattle.fm_run.specs.Readings.{procs_of, state_of};
 
 use crate::processes::{Net, Processes};
-use fm_base::{NoMemory, Path};
-use fm_mean::Program;
-use fm_plain::Blocker;
+use fm_base::{ChanName, NoMemory, Path};
+use fm_frame::{Phase, PlainProc};
+use fm_plain::{Event, Next};
+use fm_rules::Program;
 use std::alloc::Global;
 
 /// The path of the child at this place, from 0, among those of a block.
@@ -34,13 +44,25 @@ pub(crate) fn child_path(
     }
 }
 
+/// How many children a process waits for.
+pub(crate) fn kid_count(process: &PlainProc) -> usize
+    ensures { result ≡ length (kids_in (phase_of process.now.phase)) }
+{
+    match &process.phase {
+        Phase::Running => 0,
+        Phase::Joining(_, kids) => kids.len(),
+        Phase::Ended => 0,
+        Phase::Faulted(_, _) => 0,
+    }
+}
+
 impl Processes {
     /// Whether a process is there, and has ended.
     pub(crate) fn has_ended(&self, path: &Path) -> bool
-        ensures { result ≡ ended_at (get (procs_of self.now) path.now) }
+        ensures { (p : declared.Program) → result ≡ ended_at (get (procs_of p self.now) path.now) }
     {
         match self.get(path) {
-            Some(process) => process.has_ended(),
+            Some(slot) => slot.process.has_ended(),
             None => false,
         }
     }
@@ -53,7 +75,7 @@ impl Processes {
         block: u32,
         count: usize,
     ) -> Result<bool, NoMemory>
-        ensures { IfOk result (λ r. r ≡ is_some (gathered is_done (procs_of self.now) path.now block 1 count)) }
+        ensures { IfOk result (λ r. (p : declared.Program) → r ≡ is_some (gathered is_done (procs_of p self.now) path.now block 1 count)) }
     {
         'children: for place in 0..count {
             let child = child_path(alloc, path, block, place)?;
@@ -65,19 +87,69 @@ impl Processes {
     }
 }
 
+impl Net {
+    // Whether a message is there, or none comes any more.
+    fn is_ready(&self, channel: &ChanName) -> bool
+        requires { IsKept self.now.ports (Reader channel.now) }
+        ensures { result ≡ pops_at (get (chans_of self.now.channels) channel.now) }
+    {
+        match self.ports.inport(channel) {
+            Some(port) => self.channels.is_ready(port),
+            None => unreachable!(),
+        }
+    }
+
+    /// How many children the process at a path waits for.
+    pub(crate) fn kid_count(&self, path: &Path) -> usize
+        ensures { (p : declared.Program) (x : Proc) → get (procs_of p self.now.processes) path.now ≡ Some x → result ≡ length (kids_in x.phase) }
+    {
+        match self.processes.get(path) {
+            Some(slot) => kid_count(&slot.process),
+            None => 0,
+        }
+    }
+
+    /// Whether the process at a path, which stands at this event, can step.
+    pub(crate) fn is_served(
+        &self,
+        alloc: Global,
+        program: &Program,
+        path: &Path,
+        event: &Event,
+    ) -> Result<bool, NoMemory>
+        requires owned { IsOwned (language program.now) (state_of program.now self.now) }
+        requires held { HeldAreKept program.now self.now.ports (procs_of program.now self.now.processes) }
+        requires there { is_some (get (procs_of program.now self.now.processes) path.now) ≡ true }
+        requires event { (x : Proc) → get (procs_of program.now self.now.processes) path.now ≡ Some x → action_of program.now x ≡ action.Meets (event_by x.phase event.now) }
+        ensures { IfOk result (λ r. r ≡ is_some (step program.now (state_of program.now self.now) path.now)) }
+    {
+        match event {
+            Event::Receive { channel, .. } => Ok(self.is_ready(channel)),
+            Event::Join { block, .. } => {
+                let count = self.kid_count(path);
+                self.processes.have_ended(alloc, path, *block, count)
+            }
+            Event::Fail(_, _) => Ok(true),
+            Event::Make { .. } => Ok(true),
+            Event::Send { .. } => Ok(true),
+            Event::Probe { .. } => Ok(true),
+            Event::Begin => Ok(true),
+            Event::End => Ok(true),
+        }
+    }
+}
+
 /// Whether the process at a path can step.
 pub fn can_step(alloc: Global, net: &Net, program: &Program, path: &Path) -> Result<bool, NoMemory>
-    requires { IsOwned (language program.now) (state_of net.now) }
-    ensures { IfOk result (λ r. r ≡ is_some (step program.now (state_of net.now) path.now)) }
+    requires owned { IsOwned (language program.now) (state_of program.now net.now) }
+    requires sound { IsSound program.now net.now }
+    ensures { IfOk result (λ r. r ≡ is_some (step program.now (state_of program.now net.now) path.now)) }
 {
-    match net.processes.get(path) {
-        Some(process) => match process.blocker(program) {
-            Blocker::Rest => Ok(false),
-            Blocker::Free => Ok(true),
-            Blocker::Message(port) => Ok(net.channels.is_ready(port)),
-            Blocker::Children(block, count) => {
-                net.processes.have_ended(alloc, path, block, count)
-            }
+    match net.processes.by_path.get(path) {
+        Some(slot) => match &slot.next {
+            Next::Steps => Ok(true),
+            Next::Rests => Ok(false),
+            Next::Meets(event) => net.is_served(alloc, program, path, event),
         },
         None => Ok(false),
     }

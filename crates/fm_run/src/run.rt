@@ -1,7 +1,7 @@
 //! Runs a program.
 
 ghost use Rattle.std.specs.Prelude.{◌≡◌, ◌≤◌, ◌<◌, [], IfOk};
-ghost use Rattle.fm_mean.specs.Report.{outcome_of};
+ghost use Rattle.fm_mean.specs.Outcome.{outcome_of};
 ghost use Rattle.fm_run.specs.Readings.{state_of};
 ghost use Rattle.fm_run.specs.Runs.{Follows, IsPlayed, IsRun};
 
@@ -9,7 +9,8 @@ use crate::outcome::outcome;
 use crate::pieces::SLICE;
 use crate::player::Player;
 use fm_base::{NoMemory, Path, Turn};
-use fm_mean::{Outcome, Program};
+use fm_mean::Outcome;
+use fm_rules::Program;
 use std::alloc::Global;
 use std::sync::Arc;
 

@@ -1,7 +1,21 @@
-use Rattle.std.proofs.Common.{◌≡◌}
+use Rattle.std.proofs.Common.{◌≡◌, ◌≤◌, length}
+use Rattle.std.specs.List.{flat_map}
 use Rattle.fm_base.specs.Channels.{all_shed}
+use Rattle.fm_base.specs.declared.port.PortValue.{PortValue}
 use Rattle.fm_chan.specs.Bodies.{chans_of}
+use Rattle.fm_net.specs.Owned.{count}
+use Rattle.fm_frame.specs.LetGo.{let_go_ports}
+use Rattle.fm_run.specs.Held.{AreKept, AreOnce, StayBut}
 use Rattle.fm_run.proofs.perform.discard_each.Given as goal
 
-abbrev pub invariant-ports : goal.invariant-ports
-invariant-ports l = chans_of l.channels ≡ all_shed l.yielded (chans_of l.initial.channels)
+abbrev pub invariant-children : goal.invariant-children
+invariant-children l = record {
+  kept : AreKept l.ports (flat_map (let_go_ports l.program) l.rest.items);
+  once : AreOnce (flat_map (let_go_ports l.program) l.rest.items);
+  channels : all_shed (flat_map (let_go_ports l.program) l.rest.items) (chans_of l.channels) ≡ all_shed (flat_map (let_go_ports l.program) l.fn.let_go.items) (chans_of l.fn.channels);
+  others : StayBut (flat_map (let_go_ports l.program) l.fn.let_go.items) l.fn.ports l.ports;
+  among : (z : PortValue) → count z (flat_map (let_go_ports l.program) l.rest.items) ≤ count z (flat_map (let_go_ports l.program) l.fn.let_go.items);
+}
+
+abbrev pub decreases-children : goal.decreases-children
+decreases-children l = length l.rest.items

@@ -1,116 +1,79 @@
-use Rattle.std.proofs.Common.{ap, ◌∙◌}
-use Rattle.fm_base.specs.Channels.{all_shed}
+use Rattle.std.proofs.Common.{[], map, ap, sym, ◌∙◌, arith}
+use Rattle.std.proofs.lemmas.List.{length-map}
 use Rattle.fm_chan.specs.Bodies.{chans_of}
-use Rattle.fm_mean.specs.Actions.{formals_of}
-use Rattle.fm_mean.specs.Process.{is_joining}
-use Rattle.fm_mean.specs.Steps as mean
-use Rattle.fm_plain.specs.Readings.{proc_of}
-use Rattle.fm_run.specs.Goes.{message_in}
-use Rattle.fm_run.proofs.Performing.{told, port_told, inport_told, nobody, fails, makes, sends, receives, closes, starts, joins, ends}
+use Rattle.fm_mean.specs.Actions.{Make, Meets, Receive}
+use Rattle.fm_frame.specs.Frames.{proc_of}
+use Rattle.fm_plain.specs.Events.{event_by}
+use Rattle.fm_run.specs.Goes.{joined_by}
+use Rattle.fm_run.proofs.Results.{if_ok_three}
+use Rattle.fm_run.proofs.Performing.{begins, dropped_there, end_drops, ends, fails, nobody}
 use Rattle.fm_run.proofs.perform.perform.Goals as goal
 
-pub send-requires : goal.send-requires
-send-requires c = port_told c.args.program.now (proc_of c.args.process.now) _ c.in-Send.outport.now c.in-Send.message (told c.args.program.now (proc_of c.args.process.now) c.args.event _ c.requires.event c.in-Send.is)
-
-pub take_message-requires : goal.take_message-requires
-take_message-requires c = inport_told c.args.program.now (proc_of c.args.process.now) _ c.in-Receive.inport.now c.in-Receive.line.0 c.in-Receive.item.now (told c.args.program.now (proc_of c.args.process.now) c.args.event _ c.requires.event c.in-Receive.is)
-
-pub join-requires : goal.join-requires
-join-requires c =
-    let is = told c.args.program.now (proc_of c.args.process.now) c.args.event _ c.requires.event c.in-Join.is in
-    ap is_joining is.waits
-
-pub returns-in-Fault : goal.returns-in-Fault
-returns-in-Fault c = λ kids kept.
+pub returns-in-Fail : goal.returns-in-Fail
+returns-in-Fail c =
     let P = c.args.program.now in
     let p = c.args.path.now in
-    let x = proc_of c.args.process.now in
+    let x = proc_of P c.args.process.now in
     let m = chans_of c.args.channels.now in
-    let is = told P x c.args.event _ c.requires.event c.in-Fault.is in
-    nobody P p x m kids (proc_of c.fail.new.self) m 1 (fails P p x m kids c.in-Fault.line.0 c.in-Fault.fault is (proc_of c.fail.new.self) c.fail.ensures)
+    let ports = c.args.ports.now in
+    let does = c.requires.event ∙ ap (λ e. Meets (event_by x.phase e)) c.in-Fail.is in
+    nobody P p x m [] ports (proc_of P c.fail.new.process) m ports 1 (fails P p x m [] ports ports c.in-Fail.line.0 c.in-Fail.fault does c.requires.can (proc_of P c.fail.new.process) (c.fail.ensures P))
     c.alone.result.children.items c.alone.ensures.children c.alone.result.cost c.alone.ensures.cost
 
-pub returns-in_ok-make-in-Make : goal.returns-in_ok-make-in-Make
-returns-in_ok-make-in-Make c = λ kids kept.
-    let P = c.args.program.now in
-    let p = c.args.path.now in
-    let x = proc_of c.args.process.now in
-    let m = chans_of c.args.channels.now in
-    let is = told P x c.args.event _ c.requires.event c.in-Make.is in
-    nobody P p x m kids (proc_of c.make.new.process) (chans_of c.make.new.channels) 1
-    (makes P p x m kids c.in-Make.inport.now c.in-Make.outport.now is (proc_of c.make.new.process) c.in_ok-make-in-Make.ensures.process (chans_of c.make.new.channels) c.in_ok-make-in-Make.ensures.channels)
-    c.alone-in-Make.result.children.items c.alone-in-Make.ensures.children c.alone-in-Make.result.cost c.alone-in-Make.ensures.cost
+pub make-requires-clause-event : goal.make-requires-clause-event
+make-requires-clause-event c = c.requires.event ∙ ap (λ e. Meets (event_by (proc_of c.args.program.now c.args.process.now).phase e)) c.in-Make.is ∙ ap (λ ps. Meets (Make ps c.in-Make.writers c.in-Make.cost c.in-Make.next)) (sym c.as_slice.ensures)
 
-pub returns-in_ok-sent-in-Send : goal.returns-in_ok-sent-in-Send
-returns-in_ok-sent-in-Send c = λ kids kept.
-    let P = c.args.program.now in
-    let p = c.args.path.now in
-    let x = proc_of c.args.process.now in
-    let m = chans_of c.args.channels.now in
-    let is = told P x c.args.event _ c.requires.event c.in-Send.is in
-    nobody P p x m kids (proc_of c.sent.new.self) (chans_of c.send.new.channels) 2
-    (sends P p x m kids is.port c.in-Send.message is.does c.requires.ready (proc_of c.sent.new.self) c.in_ok-sent-in-Send.ensures.ok (chans_of c.send.new.channels) (c.in_ok-send-in-Send.ensures is.port is.there))
-    c.alone-in-Send.result.children.items c.alone-in-Send.ensures.children c.alone-in-Send.result.cost c.alone-in-Send.ensures.cost
+pub send-requires-clause-event : goal.send-requires-clause-event
+send-requires-clause-event c = c.requires.event ∙ ap (λ e. Meets (event_by (proc_of c.args.program.now c.args.process.now).phase e)) c.in-Send.is
 
-pub returns-in_ok-cost-in-Receive : goal.returns-in_ok-cost-in-Receive
-returns-in_ok-cost-in-Receive c = λ kids kept.
-    let P = c.args.program.now in
-    let p = c.args.path.now in
-    let x = proc_of c.args.process.now in
-    let m = chans_of c.args.channels.now in
-    let is = told P x c.args.event _ c.requires.event c.in-Receive.is in
-    let item = c.in-Receive.item.now in
-    let line = c.in-Receive.line.0 in
-    let o = c.message_in-message.result in
-    nobody P p x m kids (proc_of c.receive.new.process) (chans_of c.receive.new.channels) c.in_ok-cost-in-Receive.cost
-    (receives P p x m kids _ line item is.does c.requires.ready o (c.message_in-message.ensures ∙ ap message_in (c.take_message.ensures.got is.port is.there))
-    (proc_of c.receive.new.process) c.in_ok-cost-in-Receive.ensures.process
-    (chans_of c.receive.new.channels) (c.in_ok-cost-in-Receive.ensures.channels ∙ ap (λ n. all_shed (mean.after_receive x line item o).drops n) (c.take_message.ensures.channels is.port is.there))
-    c.in_ok-cost-in-Receive.cost c.in_ok-cost-in-Receive.ensures.cost)
-    c.alone-in-Receive.result.children.items c.alone-in-Receive.ensures.children c.alone-in-Receive.result.cost c.alone-in-Receive.ensures.cost
+pub receive-requires-clause-event : goal.receive-requires-clause-event
+receive-requires-clause-event c = c.requires.event ∙ ap (λ e. Meets (event_by (proc_of c.args.program.now c.args.process.now).phase e)) c.in-Receive.is ∙ ap (λ ps. Meets (Receive c.in-Receive.channel c.in-Receive.line.0 ps c.in-Receive.iostat c.in-Receive.at_end c.in-Receive.next)) (sym c.as_slice-in-Receive.ensures)
 
-pub returns-in_ok-close-in-Close : goal.returns-in_ok-close-in-Close
-returns-in_ok-close-in-Close c = λ kids kept.
-    let P = c.args.program.now in
-    let p = c.args.path.now in
-    let x = proc_of c.args.process.now in
-    let m = chans_of c.args.channels.now in
-    let is = told P x c.args.event _ c.requires.event c.in-Close.is in
-    nobody P p x m kids (proc_of c.close.new.process) (chans_of c.close.new.channels) 1
-    (closes P p x m kids c.in-Close.outport.now is (proc_of c.close.new.process) c.in_ok-close-in-Close.ensures.process (chans_of c.close.new.channels) c.in_ok-close-in-Close.ensures.channels)
-    c.alone-in-Close.result.children.items c.alone-in-Close.ensures.children c.alone-in-Close.result.cost c.alone-in-Close.ensures.cost
+pub probe-requires-clause-event : goal.probe-requires-clause-event
+probe-requires-clause-event c = c.requires.event ∙ ap (λ e. Meets (event_by (proc_of c.args.program.now c.args.process.now).phase e)) c.in-Probe.is
 
-pub returns-in_ok-done-in-Start : goal.returns-in_ok-done-in-Start
-returns-in_ok-done-in-Start c = λ kids kept.
+pub returns-in-Begin : goal.returns-in-Begin
+returns-in-Begin c =
     let P = c.args.program.now in
     let p = c.args.path.now in
-    let x = proc_of c.args.process.now in
+    let x = proc_of P c.args.process.now in
     let m = chans_of c.args.channels.now in
-    let is = told P x c.args.event _ c.requires.event c.in-Start.is in
-    starts P p x m kids is (proc_of c.start.new.process) c.in_ok-done-in-Start.ensures.process _ c.in_ok-done-in-Start.ensures.children
-    c.in_ok-done-in-Start.done.cost c.in_ok-done-in-Start.ensures.cost
+    let ports = c.args.ports.now in
+    let does = c.requires.event ∙ ap (λ e. Meets (event_by x.phase e)) c.in-Begin.is in
+    if_ok_three c.start.result c.start.ensures.process c.start.ensures.children c.start.ensures.cost (λ done self starts paid.
+    begins P p x m [] ports ports does c.requires.can (proc_of P c.start.new.process) self (map (proc_of P) done.children.items) starts done.cost (omega (arith, paid, length-map done.children.items (proc_of P))))
 
-pub returns-in_ok-ports-in-Join : goal.returns-in_ok-ports-in-Join
-returns-in_ok-ports-in-Join c = λ kids kept.
-    let P = c.args.program.now in
-    let p = c.args.path.now in
-    let x = proc_of c.args.process.now in
-    let m = chans_of c.args.channels.now in
-    let is = told P x c.args.event _ c.requires.event c.in-Join.is in
-    let back = c.in_ok-ports-in-Join.ensures _ is.calls kids is.does kept in
-    nobody P p x m kids (proc_of c.join.new.self) (chans_of c.discard_each.new.channels) c.in_ok-ports-in-Join.cost
-    (joins P p x m kids _ is.calls is.does (proc_of c.join.new.self) back.0 (chans_of c.discard_each.new.channels) (c.discard_each.ensures ∙ ap (λ ps. all_shed ps m) back.1) c.in_ok-ports-in-Join.cost back.2)
-    c.alone-in-Join.result.children.items c.alone-in-Join.ensures.children c.alone-in-Join.result.cost c.alone-in-Join.ensures.cost
+pub unreachable-requires : goal.unreachable-requires
+unreachable-requires c = cc (sym (ap joined_by c.in-Join.is) ∙ c.requires.alone)
 
-pub returns-in_ok-ports-in-End : goal.returns-in_ok-ports-in-End
-returns-in_ok-ports-in-End c = λ kids kept.
+pub finish-requires-clause-kept : goal.finish-requires-clause-kept
+finish-requires-clause-kept c =
     let P = c.args.program.now in
     let p = c.args.path.now in
-    let x = proc_of c.args.process.now in
+    let x = proc_of P c.args.process.now in
     let m = chans_of c.args.channels.now in
-    let is = told P x c.args.event _ c.requires.event c.in-End.is in
-    let fs = formals_of P x.unit in
-    let back = c.in_ok-ports-in-End.ensures in
-    nobody P p x m kids (proc_of c.end.new.self) (chans_of c.discard_each-in-End.new.channels) 1
-    (ends P p x m kids fs is (proc_of c.end.new.self) back.0 (chans_of c.discard_each-in-End.new.channels) (c.discard_each-in-End.ensures ∙ ap (λ ps. all_shed ps m) back.1))
+    let ports = c.args.ports.now in
+    let does = c.requires.event ∙ ap (λ e. Meets (event_by x.phase e)) c.in-End.is in
+    dropped_there _ ports (end_drops P p x m [] ports ports does c.requires.can)
+
+pub finish-requires-clause-once : goal.finish-requires-clause-once
+finish-requires-clause-once c =
+    let P = c.args.program.now in
+    let p = c.args.path.now in
+    let x = proc_of P c.args.process.now in
+    let m = chans_of c.args.channels.now in
+    let ports = c.args.ports.now in
+    let does = c.requires.event ∙ ap (λ e. Meets (event_by x.phase e)) c.in-End.is in
+    (end_drops P p x m [] ports ports does c.requires.can).once
+
+pub returns-in_ok-finish-in-End : goal.returns-in_ok-finish-in-End
+returns-in_ok-finish-in-End c =
+    let P = c.args.program.now in
+    let p = c.args.path.now in
+    let x = proc_of P c.args.process.now in
+    let m = chans_of c.args.channels.now in
+    let ports = c.args.ports.now in
+    let does = c.requires.event ∙ ap (λ e. Meets (event_by x.phase e)) c.in-End.is in
+    nobody P p x m [] ports (proc_of P c.finish.new.process) (chans_of c.finish.new.channels) c.finish.new.ports 1
+    (ends P p x m [] ports c.finish.new.ports does c.requires.can (proc_of P c.finish.new.process) c.in_ok-finish-in-End.ensures.process (chans_of c.finish.new.channels) c.in_ok-finish-in-End.ensures.channels c.in_ok-finish-in-End.ensures.others)
     c.alone-in-End.result.children.items c.alone-in-End.ensures.children c.alone-in-End.result.cost c.alone-in-End.ensures.cost

@@ -1,97 +1,167 @@
-use Rattle.std.proofs.Common.{◌≡◌, false, sym, refl, ◌∙◌, subst, rules, arith}
+use Rattle.std.proofs.Common.{◌≡◌, ◌+◌, ℕ, ap, ap₂, refl, sym, subst, ◌∙◌, arith}
+use Rattle.std.specs.Prelude.{is_some}
 use Rattle.std.specs.FinMap.{get}
 use Rattle.std.proofs.lemmas.Result.{IfOk-weaker}
-use Rattle.fm_plain.specs.declared.advance.Stop.{Stop}
-use Rattle.fm_plain.specs.Advance.{StopsAt}
+use Rattle.fm_net.specs.Machine.{Procs, State}
+use Rattle.fm_net.specs.Owned.{IsOwned}
+use Rattle.fm_net.specs.Starts.{starts_at}
+use Rattle.fm_sched.specs.Schedule.{IsReached}
+use Rattle.fm_mean.specs.Process.{Proc}
+use Rattle.fm_mean.specs.Steps.{first, language, step}
+use Rattle.fm_plain.specs.Looking.{IsNext}
 use Rattle.fm_run.specs.declared.pieces.Piece.{Piece}
 use Rattle.fm_run.specs.declared.pieces.TheConstants.{SLICE}
+use Rattle.fm_run.specs.Held.{HeldAreKept}
 use Rattle.fm_run.specs.Pieces.{IsPiece}
 use Rattle.fm_run.specs.Readings.{procs_of, state_of}
 use Rattle.fm_run.proofs.Able.{steps_there}
-use Rattle.fm_run.proofs.Parts.{owned_after, event_told}
-use Rattle.fm_run.proofs.Slices.{whole_piece, resting_piece, waiting_piece, few_before, event_piece}
+use Rattle.fm_run.proofs.Letting.{event_shared}
+use Rattle.fm_run.proofs.Slices.{one_piece}
+use Rattle.fm_run.proofs.Steps.{owned_reached}
 use Rattle.fm_run.proofs.pieces.make_piece.Goals as goal
 
-pub returns-in-More : goal.returns-in-More
-returns-in-More c =
+pub event_piece-requires-clause-owned : goal.event_piece-requires-clause-owned
+event_piece-requires-clause-owned c =
     let P = c.args.program.now in
-    let s = state_of c.args.net.now in
+    let s = state_of P c.args.net.now in
     let p = c.args.path.now in
     let who = steps_there P s p (get s.procs p) refl c.requires.can in
-    let at = c.in_ok-stop.ensures who.0 who.1 in
-    let a = c.in_ok-stop.field-0 in
-    let m = procs_of c.advance.new.self in
-    let stops = subst (λ (z : Stop). StopsAt P _ a.steps at.after z) c.in-More.is at.advanced.stops in
-    subst (λ (r : Piece). IsPiece P SLICE s p r (state_of (record { processes = c.advance.new.self; channels = c.args.net.now.channels }))) (sym c.local_piece.ensures)
-    (whole_piece P _ s p who.0 who.1 a m at stops (omega arith))
+    let same = c.take_next.ensures.processes P in
+    let state : record { procs = procs_of P c.take_next.new.self; chans = s.chans } ≡ s = ap (λ (n : Procs Proc). record { procs = n; chans = s.chans }) same in
+    subst (IsOwned (language P)) (sym state) (owned_reached P s c.requires.reached)
 
-pub returns-in-Rest : goal.returns-in-Rest
-returns-in-Rest c =
+pub event_piece-requires-clause-held : goal.event_piece-requires-clause-held
+event_piece-requires-clause-held c =
     let P = c.args.program.now in
-    let s = state_of c.args.net.now in
+    let s = state_of P c.args.net.now in
     let p = c.args.path.now in
     let who = steps_there P s p (get s.procs p) refl c.requires.can in
-    let at = c.in_ok-stop.ensures who.0 who.1 in
-    let a = c.in_ok-stop.field-0 in
-    let m = procs_of c.advance.new.self in
-    let stops = subst (λ (z : Stop). StopsAt P _ a.steps at.after z) c.in-Rest.is at.advanced.stops in
-    subst (λ (r : Piece). IsPiece P SLICE s p r (state_of (record { processes = c.advance.new.self; channels = c.args.net.now.channels }))) (sym c.local_piece-in-Rest.ensures)
-    (resting_piece P _ s p who.0 who.1 a m at stops.0 c.requires.can stops.1)
+    let same = c.take_next.ensures.processes P in
+    let state : record { procs = procs_of P c.take_next.new.self; chans = s.chans } ≡ s = ap (λ (n : Procs Proc). record { procs = n; chans = s.chans }) same in
+    subst (HeldAreKept P c.args.net.now.ports) (sym same) c.requires.sound.held
 
-pub can_step-requires : goal.can_step-requires
-can_step-requires c =
+pub event_piece-requires-clause-can : goal.event_piece-requires-clause-can
+event_piece-requires-clause-can c =
     let P = c.args.program.now in
-    let s = state_of c.args.net.now in
+    let s = state_of P c.args.net.now in
     let p = c.args.path.now in
     let who = steps_there P s p (get s.procs p) refl c.requires.can in
-    let at = c.in_ok-stop.ensures who.0 who.1 in
-    let a = c.in_ok-stop.field-0 in
-    let m = procs_of c.advance.new.self in
-    owned_after P _ s p who.0 who.1 a m at c.requires.reached
+    let same = c.take_next.ensures.processes P in
+    let state : record { procs = procs_of P c.take_next.new.self; chans = s.chans } ≡ s = ap (λ (n : Procs Proc). record { procs = n; chans = s.chans }) same in
+    ap (λ (t : State Proc). is_some (step P t p)) state ∙ c.requires.can
 
-pub step-requires-clause-owned : goal.step-requires-clause-owned
-step-requires-clause-owned c =
+pub event_piece-requires-clause-event : goal.event_piece-requires-clause-event
+event_piece-requires-clause-event c = λ x is.
     let P = c.args.program.now in
-    let s = state_of c.args.net.now in
+    let s = state_of P c.args.net.now in
     let p = c.args.path.now in
     let who = steps_there P s p (get s.procs p) refl c.requires.can in
-    let at = c.in_ok-stop.ensures who.0 who.1 in
-    let a = c.in_ok-stop.field-0 in
-    let m = procs_of c.advance.new.self in
-    owned_after P _ s p who.0 who.1 a m at c.requires.reached
+    let same = c.take_next.ensures.processes P in
+    let state : record { procs = procs_of P c.take_next.new.self; chans = s.chans } ≡ s = ap (λ (n : Procs Proc). record { procs = n; chans = s.chans }) same in
+    (subst (IsNext P x) c.in-Meets.is (c.take_next.ensures.told P x c.requires.sound.next (sym (ap (λ (n : Procs Proc). get n p) same) ∙ is))).0.0
 
-pub step-requires-clause-event : goal.step-requires-clause-event
-step-requires-clause-event c = λ y there.
-    let P = c.args.program.now in
-    let s = state_of c.args.net.now in
-    let p = c.args.path.now in
-    let who = steps_there P s p (get s.procs p) refl c.requires.can in
-    let at = c.in_ok-stop.ensures who.0 who.1 in
-    let a = c.in_ok-stop.field-0 in
-    let m = procs_of c.advance.new.self in
-    event_told P _ s p who.0 who.1 a m at c.in-Event.event c.in-Event.is y there
+pub event_piece-requires-clause-next : goal.event_piece-requires-clause-next
+event_piece-requires-clause-next c = c.take_next.ensures.next c.args.program.now c.requires.sound.next
 
-pub returns-then-not-branch : goal.returns-then-not-branch
-returns-then-not-branch c =
+pub returns-in-Meets-clause-piece : goal.returns-in-Meets-clause-piece
+returns-in-Meets-clause-piece c =
     let P = c.args.program.now in
-    let s = state_of c.args.net.now in
+    let s = state_of P c.args.net.now in
     let p = c.args.path.now in
     let who = steps_there P s p (get s.procs p) refl c.requires.can in
-    let at = c.in_ok-stop.ensures who.0 who.1 in
-    let a = c.in_ok-stop.field-0 in
-    let m = procs_of c.advance.new.self in
-    let waits : c.in_ok-can_step-in-Event.field-0 ≡ false = search rules in
-    subst (λ (r : Piece). IsPiece P SLICE s p r (state_of (record { processes = c.advance.new.self; channels = c.args.net.now.channels }))) (sym c.local_piece-then-not-branch.ensures)
-    (waiting_piece P _ s p who.0 who.1 a m at (few_before P _ s p who.0 who.1 a m at c.in-Event.event c.in-Event.is) c.requires.can (sym c.in_ok-can_step-in-Event.ensures ∙ waits))
+    let same = c.take_next.ensures.processes P in
+    let state : record { procs = procs_of P c.take_next.new.self; chans = s.chans } ≡ s = ap (λ (n : Procs Proc). record { procs = n; chans = s.chans }) same in
+    let x = who.0 in
+    let does = (subst (IsNext P x) c.in-Meets.is (c.take_next.ensures.told P x c.requires.sound.next who.1)).0.0 in
+    let none : (n : ℕ) → 0 + n ≡ n = λ n. omega arith in
+    IfOk-weaker c.event_piece.result _ _ (λ r made.
+    let is : r ≡ record { steps = 1; cost = made.paid; block = r.block; started = r.started } = ap₂ (λ (n k : ℕ). record { steps = n; cost = k; block = r.block; started = r.started }) made.steps_are (made.cost_is ∙ none made.paid) in
+    subst (λ (q : Piece). IsPiece P SLICE s p q (state_of P c.event_piece.new.self)) (sym is)
+    (one_piece P SLICE s (state_of P c.event_piece.new.self) p x who.1 (omega arith) (event_shared P x _ does) made.paid r.block r.started
+    (ap (λ (t : State Proc). step P t p) (sym state) ∙ made.leads) (ap (λ (t : State Proc). starts_at (language P) t p) (sym state) ∙ made.starts))) c.event_piece.ensures.steps
 
-pub returns-in_ok-stepped-in-Event : goal.returns-in_ok-stepped-in-Event
-returns-in_ok-stepped-in-Event c =
+pub local_piece-requires-clause-reached : goal.local_piece-requires-clause-reached
+local_piece-requires-clause-reached c =
     let P = c.args.program.now in
-    let s = state_of c.args.net.now in
+    let s = state_of P c.args.net.now in
     let p = c.args.path.now in
     let who = steps_there P s p (get s.procs p) refl c.requires.can in
-    let at = c.in_ok-stop.ensures who.0 who.1 in
-    let a = c.in_ok-stop.field-0 in
-    let m = procs_of c.advance.new.self in
-    let made = event_piece P _ s p who.0 who.1 a m at c.in-Event.event c.in-Event.is (state_of c.step.new.net) c.in_ok-stepped-in-Event.stepped.cost c.in_ok-stepped-in-Event.stepped.block c.in_ok-stepped-in-Event.stepped.started c.in_ok-stepped-in-Event.ensures.step c.in_ok-stepped-in-Event.ensures.starts in
-    IfOk-weaker c.with_step.result _ _ (λ r is. subst (λ (q : Piece). IsPiece P SLICE s p q (state_of c.step.new.net)) (sym is) made) c.with_step.ensures
+    let same = c.take_next.ensures.processes P in
+    let state : record { procs = procs_of P c.take_next.new.self; chans = s.chans } ≡ s = ap (λ (n : Procs Proc). record { procs = n; chans = s.chans }) same in
+    subst (λ (t : State Proc). IsReached (step P) (first P) t) (sym state) c.requires.reached
+
+pub local_piece-requires-clause-held : goal.local_piece-requires-clause-held
+local_piece-requires-clause-held c =
+    let P = c.args.program.now in
+    let s = state_of P c.args.net.now in
+    let p = c.args.path.now in
+    let who = steps_there P s p (get s.procs p) refl c.requires.can in
+    let same = c.take_next.ensures.processes P in
+    let state : record { procs = procs_of P c.take_next.new.self; chans = s.chans } ≡ s = ap (λ (n : Procs Proc). record { procs = n; chans = s.chans }) same in
+    subst (HeldAreKept P c.args.net.now.ports) (sym same) c.requires.sound.held
+
+pub local_piece-requires-clause-can : goal.local_piece-requires-clause-can
+local_piece-requires-clause-can c =
+    let P = c.args.program.now in
+    let s = state_of P c.args.net.now in
+    let p = c.args.path.now in
+    let who = steps_there P s p (get s.procs p) refl c.requires.can in
+    let same = c.take_next.ensures.processes P in
+    let state : record { procs = procs_of P c.take_next.new.self; chans = s.chans } ≡ s = ap (λ (n : Procs Proc). record { procs = n; chans = s.chans }) same in
+    ap (λ (t : State Proc). is_some (step P t p)) state ∙ c.requires.can
+
+pub local_piece-requires-clause-next : goal.local_piece-requires-clause-next
+local_piece-requires-clause-next c = c.take_next.ensures.next c.args.program.now c.requires.sound.next
+
+pub returns-in-Steps-clause-piece : goal.returns-in-Steps-clause-piece
+returns-in-Steps-clause-piece c =
+    let P = c.args.program.now in
+    let s = state_of P c.args.net.now in
+    let p = c.args.path.now in
+    let who = steps_there P s p (get s.procs p) refl c.requires.can in
+    let same = c.take_next.ensures.processes P in
+    let state : record { procs = procs_of P c.take_next.new.self; chans = s.chans } ≡ s = ap (λ (n : Procs Proc). record { procs = n; chans = s.chans }) same in
+    IfOk-weaker c.local_piece.result _ _ (λ r made. subst (λ (t : State Proc). IsPiece P SLICE t p r (state_of P c.local_piece.new.self)) state made) c.local_piece.ensures.piece
+
+pub local_piece-requires-in-Rests-clause-reached : goal.local_piece-requires-in-Rests-clause-reached
+local_piece-requires-in-Rests-clause-reached c =
+    let P = c.args.program.now in
+    let s = state_of P c.args.net.now in
+    let p = c.args.path.now in
+    let who = steps_there P s p (get s.procs p) refl c.requires.can in
+    let same = c.take_next.ensures.processes P in
+    let state : record { procs = procs_of P c.take_next.new.self; chans = s.chans } ≡ s = ap (λ (n : Procs Proc). record { procs = n; chans = s.chans }) same in
+    subst (λ (t : State Proc). IsReached (step P) (first P) t) (sym state) c.requires.reached
+
+pub local_piece-requires-in-Rests-clause-held : goal.local_piece-requires-in-Rests-clause-held
+local_piece-requires-in-Rests-clause-held c =
+    let P = c.args.program.now in
+    let s = state_of P c.args.net.now in
+    let p = c.args.path.now in
+    let who = steps_there P s p (get s.procs p) refl c.requires.can in
+    let same = c.take_next.ensures.processes P in
+    let state : record { procs = procs_of P c.take_next.new.self; chans = s.chans } ≡ s = ap (λ (n : Procs Proc). record { procs = n; chans = s.chans }) same in
+    subst (HeldAreKept P c.args.net.now.ports) (sym same) c.requires.sound.held
+
+pub local_piece-requires-in-Rests-clause-can : goal.local_piece-requires-in-Rests-clause-can
+local_piece-requires-in-Rests-clause-can c =
+    let P = c.args.program.now in
+    let s = state_of P c.args.net.now in
+    let p = c.args.path.now in
+    let who = steps_there P s p (get s.procs p) refl c.requires.can in
+    let same = c.take_next.ensures.processes P in
+    let state : record { procs = procs_of P c.take_next.new.self; chans = s.chans } ≡ s = ap (λ (n : Procs Proc). record { procs = n; chans = s.chans }) same in
+    ap (λ (t : State Proc). is_some (step P t p)) state ∙ c.requires.can
+
+pub local_piece-requires-in-Rests-clause-next : goal.local_piece-requires-in-Rests-clause-next
+local_piece-requires-in-Rests-clause-next c = c.take_next.ensures.next c.args.program.now c.requires.sound.next
+
+pub returns-in-Rests-clause-piece : goal.returns-in-Rests-clause-piece
+returns-in-Rests-clause-piece c =
+    let P = c.args.program.now in
+    let s = state_of P c.args.net.now in
+    let p = c.args.path.now in
+    let who = steps_there P s p (get s.procs p) refl c.requires.can in
+    let same = c.take_next.ensures.processes P in
+    let state : record { procs = procs_of P c.take_next.new.self; chans = s.chans } ≡ s = ap (λ (n : Procs Proc). record { procs = n; chans = s.chans }) same in
+    IfOk-weaker c.local_piece-in-Rests.result _ _ (λ r made. subst (λ (t : State Proc). IsPiece P SLICE t p r (state_of P c.local_piece-in-Rests.new.self)) state made) c.local_piece-in-Rests.ensures.piece

@@ -18,7 +18,7 @@ pieces-init c = record {
   played = c.in_ok-player.ensures.played;
   within = omega (arith, c.in_ok-player.ensures.used);
   front = front_none c.args.program.now c.args.turns c.in_ok-player.player.history.items (places_of c.in_ok-player.player.paths.items) c.in_ok-player.ensures.history;
-  followed = followed_first c.args.program.now _ c.args.choices.now c.in_ok-player.player.history.items (stand_of c.in_ok-player.player) c.in_ok-player.ensures.history c.in_ok-player.ensures.stand;
+  followed = followed_first c.args.program.now _ c.args.choices.now c.in_ok-player.player.history.items (stand_of c.args.program.now c.in_ok-player.player) c.in_ok-player.ensures.history c.in_ok-player.ensures.stand;
 }
 
 pub pieces-preserved : goal.pieces-preserved
@@ -27,8 +27,8 @@ pieces-preserved c = record {
   within = omega arith;
   front = c.in_ok-play.ensures.front c.args.turns c.pieces.invariant.within;
   followed =
-      followed_more c.args.program.now _ c.args.choices.now c.pieces.player.history.items (stand_of c.pieces.player) c.pieces.invariant.followed c.in-Some.number (sym c.in-Some.ensures)
-      c.play.new.self.history.items (stand_of c.play.new.self) c.in_ok-play.ensures.entry c.in_ok-play.ensures.able;
+      followed_more c.args.program.now _ c.args.choices.now c.pieces.player.history.items (stand_of c.args.program.now c.pieces.player) c.pieces.invariant.followed c.in-Some.number (sym c.in-Some.ensures)
+      c.play.new.self.history.items (stand_of c.args.program.now c.play.new.self) c.in_ok-play.ensures.entry c.in_ok-play.ensures.able;
 }
 
 pub play-requires-clause-able : goal.play-requires-clause-able
@@ -40,6 +40,9 @@ returns-clause-follows c = subst (λ (ts : List Turn). Follows c.args.program.no
 pub returns-then-player-turns-clause-follows : goal.returns-then-player-turns-clause-follows
 returns-then-player-turns-clause-follows c =
     let followed =
-    followed_more c.args.program.now SLICE c.args.choices.now c.pieces.player.history.items (stand_of c.pieces.player) c.pieces.invariant.followed c.in-Some.number (sym c.in-Some.ensures)
-    c.play.new.self.history.items (stand_of c.play.new.self) c.in_ok-play.ensures.entry c.in_ok-play.ensures.able in
+    followed_more c.args.program.now SLICE c.args.choices.now c.pieces.player.history.items (stand_of c.args.program.now c.pieces.player) c.pieces.invariant.followed c.in-Some.number (sym c.in-Some.ensures)
+    c.play.new.self.history.items (stand_of c.args.program.now c.play.new.self) c.in_ok-play.ensures.entry c.in_ok-play.ensures.able in
     subst (λ (ts : List Turn). Follows c.args.program.now SLICE c.args.choices.now ts) (ap (λ v. v.items) (sym c.spent.ensures.history)) followed.follows
+
+pub outcome-requires : goal.outcome-requires
+outcome-requires c = c.pieces.invariant.played.sound.next

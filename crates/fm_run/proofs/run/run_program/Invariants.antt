@@ -10,7 +10,7 @@ invariant-pieces l = record {
   played : IsPlayed l.program l.player;
   within : l.player.used ≤ l.turns;
   front : IsFrontWithin l.program l.turns l.player.history.items (places_of l.player.paths.items);
-  followed : IsFollowed l.program SLICE l.choices l.player.history.items (stand_of l.player);
+  followed : IsFollowed l.program SLICE l.choices l.player.history.items (stand_of l.program l.player);
 }
 
 abbrev pub decreases-pieces : goal.decreases-pieces

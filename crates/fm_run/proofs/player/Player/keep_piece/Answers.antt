@@ -25,17 +25,17 @@ returns-clause-kept c =
     let more : places_of c.append.new.self.items ≡ places_of old.paths.items ++ child_places p r.block 1 r.started =
     ap places_of c.in_ok-append.ensures.items ∙ map-append place_in old.paths.items c.in_ok-children.children.items
     ∙ ap (λ (ps : List Place). places_of old.paths.items ++ ps) (c.in_ok-children.ensures ∙ ap (λ (q : Place). child_places q r.block 1 r.started) (c.deref-3.ensures ∙ sym c.deref-2.ensures)) in
-    kept_more c.args.program.now old.history.items (places_of old.paths.items) (state_of old.net) old.used c.requires.kept n p who _ r (state_of c.make_piece.new.net) c.in_ok-piece.ensures
+    kept_more c.args.program.now old.history.items (places_of old.paths.items) (state_of c.args.program.now old.net) old.used c.requires.kept n p who _ r (state_of c.args.program.now c.make_piece.new.net) c.in_ok-piece.ensures.piece
     c.push.new.self.items c.in_ok-push.ensures.items (places_of c.append.new.self.items) more c.in_ok-self.field-0 c.in_ok-self.ensures
 
 pub returns-clause-front : goal.returns-clause-front
 returns-clause-front c =
     let old = c.args.self.now in
-    front_more c.args.program.now old.history.items (places_of old.paths.items) (state_of old.net) old.used c.requires.kept _ (places_of c.in_ok-children.children.items)
+    front_more c.args.program.now old.history.items (places_of old.paths.items) (state_of c.args.program.now old.net) old.used c.requires.kept _ (places_of c.in_ok-children.children.items)
     c.push.new.self.items c.in_ok-push.ensures.items (places_of c.append.new.self.items) (ap places_of c.in_ok-append.ensures.items ∙ map-append place_in old.paths.items c.in_ok-children.children.items)
 
 pub returns-clause-used : goal.returns-clause-used
-returns-clause-used c = omega (arith, c.in_ok-self.ensures, piece_costs c.args.program.now _ (state_of c.args.self.now.net) (state_of c.make_piece.new.net) _ c.in_ok-piece.piece c.in_ok-piece.ensures)
+returns-clause-used c = omega (arith, c.in_ok-self.ensures, piece_costs c.args.program.now _ (state_of c.args.program.now c.args.self.now.net) (state_of c.args.program.now c.make_piece.new.net) _ c.in_ok-piece.piece c.in_ok-piece.ensures.piece)
 
 pub returns-clause-entry : goal.returns-clause-entry
 returns-clause-entry c =
@@ -50,5 +50,5 @@ returns-clause-entry c =
     let more : places_of c.append.new.self.items ≡ places_of old.paths.items ++ child_places p r.block 1 r.started =
     ap places_of c.in_ok-append.ensures.items ∙ map-append place_in old.paths.items c.in_ok-children.children.items
     ∙ ap (λ (ps : List Place). places_of old.paths.items ++ ps) (c.in_ok-children.ensures ∙ ap (λ (q : Place). child_places q r.block 1 r.started) (c.deref-3.ensures ∙ sym c.deref-2.ensures)) in
-    entry_made c.args.program.now _ n (state_of old.net) (places_of old.paths.items) old.history.items (state_of c.make_piece.new.net) (places_of c.append.new.self.items) c.push.new.self.items p r who c.in_ok-piece.ensures
+    entry_made c.args.program.now _ n (state_of c.args.program.now old.net) (places_of old.paths.items) old.history.items (state_of c.args.program.now c.make_piece.new.net) (places_of c.append.new.self.items) c.push.new.self.items p r who c.in_ok-piece.ensures.piece
     c.in_ok-push.ensures.items more

@@ -4,5 +4,5 @@ use Rattle.fm_mean.specs.Steps.{language}
 use Rattle.fm_run.proofs.Playing.{first_owned}
 use Rattle.fm_run.proofs.player.Player.new.Goals as goal
 
-pub keep_able-requires : goal.keep_able-requires
-keep_able-requires c = subst (IsOwned (language c.args.program.now)) (sym c.in_ok-net.ensures) (first_owned c.args.program.now)
+pub keep_able-requires-clause-owned : goal.keep_able-requires-clause-owned
+keep_able-requires-clause-owned c = subst (IsOwned (language c.args.program.now)) (sym c.in_ok-net.ensures.state) (first_owned c.args.program.now)

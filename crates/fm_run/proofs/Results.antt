@@ -1,0 +1,18 @@
+-- Several facts of one result.
+use Rattle.std.specs.Prelude.{Result, Ok, Err, IfOk, OnOk}
+
+pub on_ok_both : {T E : Type 0} {A B C D : Type 0} (r : Result T E) → OnOk r A → OnOk r B → OnOk r C → (A → B → C → D) → OnOk r D
+on_ok_both (Ok x) a b c f = f a b c
+on_ok_both (Err e) a b c f = tt
+
+pub if_ok_both : {T E : Type 0} {A B : Type 0} {C D : T → Type 0} (r : Result T E) → OnOk r A → OnOk r B → IfOk r C → ((x : T) → A → B → C x → D x) → IfOk r D
+if_ok_both (Ok x) a b c f = f x a b c
+if_ok_both (Err e) a b c f = tt
+
+pub on_ok_two : {T E : Type 0} {A B D : Type 0} (r : Result T E) → OnOk r A → OnOk r B → (A → B → D) → OnOk r D
+on_ok_two (Ok x) a b f = f a b
+on_ok_two (Err e) a b f = tt
+
+pub if_ok_three : {T E : Type 0} {A : Type 0} {B C D : T → Type 0} (r : Result T E) → OnOk r A → IfOk r B → IfOk r C → ((x : T) → A → B x → C x → D x) → IfOk r D
+if_ok_three (Ok x) a b c f = f x a b c
+if_ok_three (Err e) a b c f = tt

@@ -1,0 +1,40 @@
+use Rattle.std.proofs.Common.{◌≡◌, inl, inr, true, false, ap, sym, subst, rules, ◌∙◌}
+use Rattle.std.proofs.lemmas.Result.{IfOk-weaker}
+use Rattle.fm_chan.specs.Bodies.{chans_of}
+use Rattle.fm_run.specs.Held.{HeldAreKept}
+use Rattle.fm_run.specs.Readings.{state_of}
+use Rattle.fm_run.proofs.Nexts.{next_waits}
+use Rattle.fm_run.proofs.processes.Net.event_or_wait.Goals as goal
+
+pub is_served-requires-clause-event : goal.is_served-requires-clause-event
+is_served-requires-clause-event c = λ x is. (c.requires.event x is).0
+
+pub event_piece-requires-clause-event : goal.event_piece-requires-clause-event
+event_piece-requires-clause-event c = λ x is. (c.requires.event x is).0
+
+pub event_piece-requires-clause-can : goal.event_piece-requires-clause-can
+event_piece-requires-clause-can c =
+    let can : c.in_ok-is_served.field-0 ≡ true = search rules in
+    sym c.in_ok-is_served.ensures ∙ can
+
+pub returns-then-branch-clause-steps : goal.returns-then-branch-clause-steps
+returns-then-branch-clause-steps c = IfOk-weaker c.event_piece.result _ _ (λ r steps. inl steps) c.event_piece.ensures.steps
+
+pub returns-clause-sound : goal.returns-clause-sound
+returns-clause-sound c =
+    let P = c.args.program.now in
+    let waits : c.in_ok-is_served.field-0 ≡ false = search rules in
+    record {
+      held = subst (HeldAreKept P c.args.self.now.ports) (sym (c.keep_next.ensures.processes P)) c.requires.held;
+      next = c.keep_next.ensures.next P (λ x is. next_waits P (state_of P c.args.self.now) c.args.path.now x is c.args.event c.requires.owned (c.requires.event x is) (sym c.in_ok-is_served.ensures ∙ waits)) c.requires.next;
+    }
+
+pub returns-clause-steps : goal.returns-clause-steps
+returns-clause-steps c =
+    let P = c.args.program.now in
+    let waits : c.in_ok-is_served.field-0 ≡ false = search rules in
+    inr (record {
+      waits = sym c.in_ok-is_served.ensures ∙ waits;
+      stays = ap (λ m. record { procs = m; chans = chans_of c.args.self.now.channels }) (c.keep_next.ensures.processes P);
+      piece = c.local_piece.ensures;
+    })

@@ -1,0 +1,17 @@
+use Rattle.std.proofs.Common.{◌≡◌, Some, sym, ◌∙◌}
+use Rattle.fm_run.specs.Readings.{proc_in}
+use Rattle.fm_run.proofs.Nexts.{told_same}
+use Rattle.fm_run.proofs.Maps.{looked_absent, there}
+use Rattle.fm_run.proofs.processes.Processes.look.Goals as goal
+
+pub returns-in-None-clause-next : goal.returns-in-None-clause-next
+returns-in-None-clause-next c = λ but. looked_absent c.args.program.now c.args.path.now c.args.self.now c.in-None.ensures but
+
+pub returns-clause-next : goal.returns-clause-next
+returns-clause-next c = λ but.
+    let P = c.args.program.now in
+    let at = there P c.args.self.now c.args.path.now (Some c.in-Some.slot.now) c.in-Some.ensures in
+    c.keep_next.ensures.next P (λ x is. let same : proc_in P c.in-Some.slot.now ≡ x = cc (sym at ∙ is) in told_same P _ x _ same c.in_ok-next-in-Some.ensures) but
+
+pub returns-clause-processes : goal.returns-clause-processes
+returns-clause-processes c = c.keep_next.ensures.processes c.args.program.now
