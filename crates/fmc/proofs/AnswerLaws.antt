@@ -5,7 +5,7 @@ use Rattle.std.proofs.lemmas.Bool.{false≢true}
 use Rattle.fm_base.specs.declared.schedule.Turn.{Turn}
 use Rattle.fm_base.specs.declared.rule.Refusal.{Refusal}
 use Rattle.fm_base.specs.Rules.{refusal_text}
-use Rattle.fm_base.specs.Verdict.{IsClean, IsLeast, IsRefusal}
+use Rattle.fm_base.specs.Verdict.{IsClean, IsRefusal}
 use Rattle.fm_base.specs.declared.rule.CheckFail.{CheckFail}
 use Rattle.fm_base.specs.declared.name.Line.{Line}
 use Rattle.fm_cards.specs.Cards.{cards_of}
@@ -18,14 +18,14 @@ use Rattle.fm_unit.specs.Units.{units_of}
 use Rattle.fm_names.specs.Names.{names_of}
 use Rattle.fm_det.specs.Race.{IsRaceVerdict}
 use Rattle.fm_net.specs.Machine.{Place}
-use Rattle.fm_mean.specs.declared.program.Program.{Program}
 use Rattle.fm_mean.specs.declared.outcome.FaultAt.{FaultAt}
 use Rattle.fm_mean.specs.Steps.{step, first}
-use Rattle.fm_mean.proofs.Programs.{settles}
-use Rattle.fm_mean.specs.Report.{outcome_of, report_text}
+use Rattle.fm_mean.specs.Outcome.{outcome_of}
+use Rattle.fm_mean.specs.Report.{report_text}
+use Rattle.fm_mean.proofs.Laws.{settles}
+use Rattle.fm_rules.specs.declared.program.Program.{Program}
 use Rattle.fm_front.specs.Verdict.{IsBroken, IsBrokenForm, AreStatementsOf}
-use Rattle.fm_front.specs.Program.{IsProgramOf, IsBuilt}
-use Rattle.fm_front.specs.Laws.{ProgramOrRefusal}
+use Rattle.fm_front.specs.Program.{IsCheckedOf}
 use Rattle.fm_run.specs.Orders.{places_of}
 use Rattle.fm_run.specs.Runs.{IsRun, EndsSo}
 use Rattle.fm_run.specs.declared.run.Ending.{Ending}
@@ -38,15 +38,20 @@ use Rattle.fmc.specs.declared.answer.Exit.TheVariants.{Done, Faulted, Deadlocked
 use Rattle.fmc.specs.declared.answer.Reply.{Reply}
 use Rattle.fmc.specs.Exits.{is_end, is_decided}
 use Rattle.fmc.specs.Listing.{listed_text}
-use Rattle.fmc.specs.Answer.{Says, IsListOf, SaysRun, SaysTold, IsTold, TellsList, TellsDeterminism, IsFirstRaceOf, determinism_text, SaysOf, IsHistoryOf, IsEnded, IsUnplayed, IsNoHistory, HasHistory, IsAccepted, IsRefusedFor, IsCompleted, IsRefusedExit, IsTooLongExit, IsPlayedExit, source_limit, exit_by, exit_of, state_after, cost_of}
+use Rattle.fmc.specs.Answer.{Says, IsListOf, SaysTold, TellsList, TellsDeterminism, IsFirstRaceOf, determinism_text, SaysOf, IsHistoryOf, IsEnded, IsUnplayed, IsRefused, IsNoHistory, HasHistory, IsAccepted, IsRefusedFor, IsCompleted, IsRefusedExit, IsTooLongExit, IsPlayedExit, source_limit, exit_by, exit_of, state_after, cost_of}
 use Rattle.fmc.specs.Reply.{bytes_of, places_in, IsReply, exit_in, text_in}
 
 -- Replies from what the parts give.
 
-pub refusal_says : (c : Command) (b : List ℕ) (v : Refusal) (r : Reply) → length b ≤ source_limit → IsRefusedFor c b v → r.ran.exit ≡ Refused → IsUnplayed r.ran.history.items (places_in r.ran) (bytes_of r.text) (refusal_text v) → IsReply c b r
-refusal_says (command.Run turns vars) b v r le h e u = subst (λ (x : Exit). Says (command.Run turns vars) b x r.ran.history.items (places_in r.ran) (bytes_of r.text)) (sym e) (record { within = le; refusal = v; refused = h; unplayed = u })
-refusal_says command.Check b v r le h e u = subst (λ (x : Exit). Says command.Check b x r.ran.history.items (places_in r.ran) (bytes_of r.text)) (sym e) (record { within = le; refusal = v; refused = h; unplayed = u })
-refusal_says command.List b v r le h e u = subst (λ (x : Exit). Says command.List b x r.ran.history.items (places_in r.ran) (bytes_of r.text)) (sym e) (record { within = le; refusal = v; refused = h; unplayed = u })
+refusal_by : (c : Command) (b : List ℕ) (h : List Turn) (ps : List Place) (t : List ℕ) → IsRefused b h ps t → Says c b Refused h ps t
+refusal_by (command.Run turns vars) b h ps t k = k
+refusal_by command.Check b h ps t k = k
+refusal_by command.List b h ps t k = k
+
+pub refusal_says : (c : Command) (b : List ℕ) (v : Refusal) (r : Reply) → length b ≤ source_limit → IsRefusedFor b v → r.ran.exit ≡ Refused → IsUnplayed r.ran.history.items (places_in r.ran) (bytes_of r.text) (refusal_text v) → IsReply c b r
+refusal_says c b v r le h e u =
+    subst (λ (x : Exit). Says c b x r.ran.history.items (places_in r.ran) (bytes_of r.text)) (sym e)
+    (refusal_by c b r.ran.history.items (places_in r.ran) (bytes_of r.text) (record { within = le; refusal = v; refused = h; unplayed = u }))
 
 pub listed_says : (b : List ℕ) (ss : List Placed) (r : Reply) → length b ≤ source_limit → IsClean (IsBroken b) → AreStatementsOf (cards_of b) ss → r.ran.exit ≡ Done → IsUnplayed r.ran.history.items (places_in r.ran) (bytes_of r.text) (listed_text ss) → IsReply command.List b r
 listed_says b ss r le h k e u =
@@ -114,7 +119,7 @@ run_by b program turns vars history places cs (ending.Ended o) le kept h =
       in_turns = h.1;
       exit_is = ap exit_of h.2;
       text_is = ap (report_text vars) h.2;
-      one_outcome = settles program cs (kept.legal, h.0);
+      one_outcome = λ det. settles program det cs (kept.legal, h.0);
     })
 run_by b program turns vars history places cs ending.Spent le kept h =
     record {
@@ -124,15 +129,15 @@ run_by b program turns vars history places cs ending.Spent le kept h =
       kept = kept;
       over = h;
       text_is = refl;
-      spent_for_all = λ others ends. spent_too program turns cs others kept.legal h (settles program others ends);
+      spent_for_all = λ det others ends. spent_too program turns cs others kept.legal h (settles program det others ends);
     }
 
-history_of : (b : List ℕ) (program : Program) (turns : ℕ) (r : run.Run) → IsProgramOf b program → IsBuilt b → (k : IsRun program turns r) → IsHistoryOf b program turns r.history.items (places_of r.paths.items) k.choices
-history_of b program turns r lawful built k = record { lawful = lawful; built = built; kept = k.kept; starts = k.places; legal = k.legal; some_steps = k.some_steps; front_within = k.front_within }
+history_of : (b : List ℕ) (program : Program) (turns : ℕ) (r : run.Run) → IsCheckedOf b program → (k : IsRun program turns r) → IsHistoryOf b program turns r.history.items (places_of r.paths.items) k.choices
+history_of b program turns r lawful k = record { lawful = lawful; kept = k.kept; starts = k.places; legal = k.legal; some_steps = k.some_steps; front_within = k.front_within }
 
-pub run_says : (b : List ℕ) (program : Program) (turns : ℕ) (vars : Bool) (r : run.Run) → length b ≤ source_limit → IsProgramOf b program → IsBuilt b → IsRun program turns r
+pub run_says : (b : List ℕ) (program : Program) (turns : ℕ) (vars : Bool) (r : run.Run) → length b ≤ source_limit → IsCheckedOf b program → IsRun program turns r
     → Says (command.Run turns vars) b (exit_in r.ending) r.history.items (places_of r.paths.items) (text_in turns vars r.ending)
-run_says b program turns vars r le lawful built k = run_by b program turns vars r.history.items (places_of r.paths.items) k.choices r.ending le (history_of b program turns r lawful built k) k.ends
+run_says b program turns vars r le lawful k = run_by b program turns vars r.history.items (places_of r.paths.items) k.choices r.ending le (history_of b program turns r lawful k) k.ends
 
 played_by : (fs : List FaultAt) (b : Bool) → IsPlayedExit (exit_by fs b)
 played_by [] true = inl (inl refl)
@@ -169,9 +174,9 @@ run_history turns vars b Malformed h ps t k = absurd k
 run_history turns vars b Illegal h ps t k = absurd k
 run_history turns vars b Unfinished h ps t k = absurd k
 
--- of a command that runs nothing, and refuses for the least rule that is broken
-module _ (Tells : List Placed → List ℕ → Type 0) (command : Command) (b : List ℕ) (least : (v : Refusal) → IsRefusedFor command b v → IsLeast (IsBroken b) v) where
-  told_history : (exit : Exit) (h : List Turn) (ps : List Place) (t : List ℕ) → SaysTold Tells command b exit h ps t → IsNoHistory h ps
+-- of a command that runs nothing
+module _ (Tells : List Placed → List ℕ → Type 0) (b : List ℕ) where
+  told_history : (exit : Exit) (h : List Turn) (ps : List Place) (t : List ℕ) → SaysTold Tells b exit h ps t → IsNoHistory h ps
   told_history Done h ps t k = no_history h ps t _ k.unplayed
   told_history Faulted h ps t k = absurd k
   told_history Deadlocked h ps t k = absurd k
@@ -186,11 +191,11 @@ module _ (Tells : List Placed → List ℕ → Type 0) (command : Command) (b : 
   told_history Illegal h ps t k = absurd k
   told_history Unfinished h ps t k = absurd k
 
-  told_completed : (exit : Exit) (h : List Turn) (ps : List Place) (t : List ℕ) → SaysTold Tells command b exit h ps t → (exit ≡ ReadFault → ⊥) → length b ≤ source_limit → IsClean (IsBroken b) → (exit ≡ Done) ⊎ (exit ≡ NoMemory)
+  told_completed : (exit : Exit) (h : List Turn) (ps : List Place) (t : List ℕ) → SaysTold Tells b exit h ps t → (exit ≡ ReadFault → ⊥) → length b ≤ source_limit → IsClean (IsBroken b) → (exit ≡ Done) ⊎ (exit ≡ NoMemory)
   told_completed Done h ps t k r le v = inl refl
   told_completed Faulted h ps t k r le v = absurd k
   told_completed Deadlocked h ps t k r le v = absurd k
-  told_completed Refused h ps t k r le v = absurd (v k.refusal (least k.refusal k.refused).broken)
+  told_completed Refused h ps t k r le v = absurd (v k.refusal k.refused.broken)
   told_completed Spent h ps t k r le v = absurd k
   told_completed Usage h ps t k r le v = absurd k
   told_completed ReadFault h ps t k r le v = absurd (r refl)
@@ -201,8 +206,8 @@ module _ (Tells : List Placed → List ℕ → Type 0) (command : Command) (b : 
   told_completed Illegal h ps t k r le v = absurd k
   told_completed Unfinished h ps t k r le v = absurd k
 
-  told_refused : (exit : Exit) (h : List Turn) (ps : List Place) (t : List ℕ) → SaysTold Tells command b exit h ps t → (exit ≡ ReadFault → ⊥) → length b ≤ source_limit → (v : Refusal) → IsRefusedFor command b v → IsRefusedExit exit
-  told_refused Done h ps t k r le v w = absurd (k.clean v (least v w).broken)
+  told_refused : (exit : Exit) (h : List Turn) (ps : List Place) (t : List ℕ) → SaysTold Tells b exit h ps t → (exit ≡ ReadFault → ⊥) → length b ≤ source_limit → (v : Refusal) → IsRefusedFor b v → IsRefusedExit exit
+  told_refused Done h ps t k r le v w = absurd (k.clean v w.broken)
   told_refused Faulted h ps t k r le v w = absurd k
   told_refused Deadlocked h ps t k r le v w = absurd k
   told_refused Refused h ps t k r le v w = inl refl
@@ -216,7 +221,7 @@ module _ (Tells : List Placed → List ℕ → Type 0) (command : Command) (b : 
   told_refused Illegal h ps t k r le v w = absurd k
   told_refused Unfinished h ps t k r le v w = absurd k
 
-  told_long : (exit : Exit) (h : List Turn) (ps : List Place) (t : List ℕ) → SaysTold Tells command b exit h ps t → (exit ≡ ReadFault → ⊥) → source_limit < length b → IsTooLongExit exit
+  told_long : (exit : Exit) (h : List Turn) (ps : List Place) (t : List ℕ) → SaysTold Tells b exit h ps t → (exit ≡ ReadFault → ⊥) → source_limit < length b → IsTooLongExit exit
   told_long Done h ps t k r l = absurd (omega (arith, k.within))
   told_long Faulted h ps t k r l = absurd k
   told_long Deadlocked h ps t k r l = absurd k
@@ -234,48 +239,49 @@ module _ (Tells : List Placed → List ℕ → Type 0) (command : Command) (b : 
 pub says_history : (o : Option Command) (b : List ℕ) (exit : Exit) (h : List Turn) (ps : List Place) (t : List ℕ) → SaysOf o b exit h ps t → HasHistory o b h ps
 says_history None b exit h ps t k = no_history h ps t _ k.1
 says_history (Some (command.Run turns vars)) b exit h ps t k = run_history turns vars b exit h ps t k
-says_history (Some command.Check) b exit h ps t k = told_history TellsDeterminism command.Check b (λ v w. w) exit h ps t k
-says_history (Some command.List) b exit h ps t k = told_history TellsList command.List b (λ v w. w) exit h ps t k
+says_history (Some command.Check) b exit h ps t k = told_history TellsDeterminism b exit h ps t k
+says_history (Some command.List) b exit h ps t k = told_history TellsList b exit h ps t k
 
-run_completed : ProgramOrRefusal → (turns : ℕ) (vars : Bool) (b : List ℕ) (exit : Exit) (h : List Turn) (ps : List Place) (t : List ℕ) → Says (command.Run turns vars) b exit h ps t → (exit ≡ ReadFault → ⊥) → length b ≤ source_limit → IsAccepted (command.Run turns vars) b → IsCompleted (command.Run turns vars) exit
-run_completed one turns vars b Done h ps t k r le v = inl (inl refl)
-run_completed one turns vars b Faulted h ps t k r le v = inl (inr (inl refl))
-run_completed one turns vars b Deadlocked h ps t k r le v = inl (inr (inr refl))
-run_completed one turns vars b Refused h ps t k r le v = absurd (one b v.0 k.refusal v.1 v.2 k.refused)
-run_completed one turns vars b Spent h ps t k r le v = inr (inl refl)
-run_completed one turns vars b Usage h ps t k r le v = absurd k
-run_completed one turns vars b ReadFault h ps t k r le v = absurd (r refl)
-run_completed one turns vars b WriteFault h ps t k r le v = absurd k
-run_completed one turns vars b NoMemory h ps t k r le v = inr (inr refl)
-run_completed one turns vars b TooLong h ps t k r le v = absurd (omega (arith, k.0))
-run_completed one turns vars b Malformed h ps t k r le v = absurd k
-run_completed one turns vars b Illegal h ps t k r le v = absurd k
-run_completed one turns vars b Unfinished h ps t k r le v = absurd k
+run_completed : (turns : ℕ) (vars : Bool) (b : List ℕ) (exit : Exit) (h : List Turn) (ps : List Place) (t : List ℕ) → Says (command.Run turns vars) b exit h ps t → (exit ≡ ReadFault → ⊥) → length b ≤ source_limit → IsAccepted b → IsCompleted (command.Run turns vars) exit
+run_completed turns vars b Done h ps t k r le v = inl (inl refl)
+run_completed turns vars b Faulted h ps t k r le v = inl (inr (inl refl))
+run_completed turns vars b Deadlocked h ps t k r le v = inl (inr (inr refl))
+run_completed turns vars b Refused h ps t k r le v = absurd (v k.refusal k.refused.broken)
+run_completed turns vars b Spent h ps t k r le v = inr (inl refl)
+run_completed turns vars b Usage h ps t k r le v = absurd k
+run_completed turns vars b ReadFault h ps t k r le v = absurd (r refl)
+run_completed turns vars b WriteFault h ps t k r le v = absurd k
+run_completed turns vars b NoMemory h ps t k r le v = inr (inr refl)
+run_completed turns vars b TooLong h ps t k r le v = absurd (omega (arith, k.0))
+run_completed turns vars b Malformed h ps t k r le v = absurd k
+run_completed turns vars b Illegal h ps t k r le v = absurd k
+run_completed turns vars b Unfinished h ps t k r le v = absurd k
 
-pub completed : ProgramOrRefusal → (c : Command) (b : List ℕ) (exit : Exit) (h : List Turn) (ps : List Place) (t : List ℕ) → Says c b exit h ps t → (exit ≡ ReadFault → ⊥) → length b ≤ source_limit → IsAccepted c b → IsCompleted c exit
-completed one (command.Run turns vars) b exit h ps t k r le v = run_completed one turns vars b exit h ps t k r le v
-completed one command.Check b exit h ps t k r le v = told_completed TellsDeterminism command.Check b (λ q w. w) exit h ps t k r le v
-completed one command.List b exit h ps t k r le v = told_completed TellsList command.List b (λ q w. w) exit h ps t k r le v
+pub completed : (c : Command) (b : List ℕ) (exit : Exit) (h : List Turn) (ps : List Place) (t : List ℕ) → Says c b exit h ps t → (exit ≡ ReadFault → ⊥) → length b ≤ source_limit → IsAccepted b → IsCompleted c exit
+completed (command.Run turns vars) b exit h ps t k r le v = run_completed turns vars b exit h ps t k r le v
+completed command.Check b exit h ps t k r le v = told_completed TellsDeterminism b exit h ps t k r le v
+completed command.List b exit h ps t k r le v = told_completed TellsList b exit h ps t k r le v
 
-run_refused : ProgramOrRefusal → (turns : ℕ) (vars : Bool) (b : List ℕ) (exit : Exit) (h : List Turn) (ps : List Place) (t : List ℕ) → Says (command.Run turns vars) b exit h ps t → (exit ≡ ReadFault → ⊥) → length b ≤ source_limit → (v : Refusal) → IsRefusedFor (command.Run turns vars) b v → IsRefusedExit exit
-run_refused one turns vars b Done h ps t k r le v w = absurd (one b k.program v k.kept.lawful k.kept.built w)
-run_refused one turns vars b Faulted h ps t k r le v w = absurd (one b k.program v k.kept.lawful k.kept.built w)
-run_refused one turns vars b Deadlocked h ps t k r le v w = absurd (one b k.program v k.kept.lawful k.kept.built w)
-run_refused one turns vars b Refused h ps t k r le v w = inl refl
-run_refused one turns vars b Spent h ps t k r le v w = absurd (one b k.program v k.kept.lawful k.kept.built w)
-run_refused one turns vars b Usage h ps t k r le v w = absurd k
-run_refused one turns vars b ReadFault h ps t k r le v w = absurd (r refl)
-run_refused one turns vars b WriteFault h ps t k r le v w = absurd k
-run_refused one turns vars b NoMemory h ps t k r le v w = inr refl
-run_refused one turns vars b TooLong h ps t k r le v w = absurd (omega (arith, k.0))
-run_refused one turns vars b Malformed h ps t k r le v w = absurd k
-run_refused one turns vars b Illegal h ps t k r le v w = absurd k
-run_refused one turns vars b Unfinished h ps t k r le v w = absurd k
+run_refused : (turns : ℕ) (vars : Bool) (b : List ℕ) (exit : Exit) (h : List Turn) (ps : List Place) (t : List ℕ) → Says (command.Run turns vars) b exit h ps t → (exit ≡ ReadFault → ⊥) → length b ≤ source_limit → (v : Refusal) → IsRefusedFor b v → IsRefusedExit exit
+run_refused turns vars b Done h ps t k r le v w = absurd (k.kept.lawful.clean v w.broken)
+run_refused turns vars b Faulted h ps t k r le v w = absurd (k.kept.lawful.clean v w.broken)
+run_refused turns vars b Deadlocked h ps t k r le v w = absurd (k.kept.lawful.clean v w.broken)
+run_refused turns vars b Refused h ps t k r le v w = inl refl
+run_refused turns vars b Spent h ps t k r le v w = absurd (k.kept.lawful.clean v w.broken)
+run_refused turns vars b Usage h ps t k r le v w = absurd k
+run_refused turns vars b ReadFault h ps t k r le v w = absurd (r refl)
+run_refused turns vars b WriteFault h ps t k r le v w = absurd k
+run_refused turns vars b NoMemory h ps t k r le v w = inr refl
+run_refused turns vars b TooLong h ps t k r le v w = absurd (omega (arith, k.0))
+run_refused turns vars b Malformed h ps t k r le v w = absurd k
+run_refused turns vars b Illegal h ps t k r le v w = absurd k
+run_refused turns vars b Unfinished h ps t k r le v w = absurd k
 
-pub refused_by : ProgramOrRefusal → (c : Command) (b : List ℕ) (exit : Exit) (h : List Turn) (ps : List Place) (t : List ℕ) → Says c b exit h ps t → (exit ≡ ReadFault → ⊥) → length b ≤ source_limit → (v : Refusal) → IsRefusedFor c b v → IsRefusedExit exit
-refused_by one (command.Run turns vars) b exit h ps t k r le v w = run_refused one turns vars b exit h ps t k r le v w
-refused_by one command.Check b exit h ps t k r le v w = told_refused TellsDeterminism command.Check b (λ q x. x) exit h ps t k r le v w
-refused_by one command.List b exit h ps t k r le v w = told_refused TellsList command.List b (λ q x. x) exit h ps t k r le v w
+pub refused_of : (o : Option Command) (b : List ℕ) (exit : Exit) (h : List Turn) (ps : List Place) (t : List ℕ) → SaysOf o b exit h ps t → is_none o ≡ false → (exit ≡ ReadFault → ⊥) → length b ≤ source_limit → (v : Refusal) → IsRefusedFor b v → IsRefusedExit exit
+refused_of None b exit h ps t k c r le v w = absurd (false≢true (sym c))
+refused_of (Some (command.Run turns vars)) b exit h ps t k c r le v w = run_refused turns vars b exit h ps t k r le v w
+refused_of (Some command.Check) b exit h ps t k c r le v w = told_refused TellsDeterminism b exit h ps t k r le v w
+refused_of (Some command.List) b exit h ps t k c r le v w = told_refused TellsList b exit h ps t k r le v w
 
 run_long : (turns : ℕ) (vars : Bool) (b : List ℕ) (exit : Exit) (h : List Turn) (ps : List Place) (t : List ℕ) → Says (command.Run turns vars) b exit h ps t → (exit ≡ ReadFault → ⊥) → source_limit < length b → IsTooLongExit exit
 run_long turns vars b Done h ps t k r l = absurd (omega (arith, k.within))
@@ -295,8 +301,8 @@ run_long turns vars b Unfinished h ps t k r l = absurd k
 pub too_long_by : (o : Option Command) (b : List ℕ) (exit : Exit) (h : List Turn) (ps : List Place) (t : List ℕ) → SaysOf o b exit h ps t → is_none o ≡ false → (exit ≡ ReadFault → ⊥) → source_limit < length b → IsTooLongExit exit
 too_long_by None b exit h ps t k c r l = absurd (false≢true (sym c))
 too_long_by (Some (command.Run turns vars)) b exit h ps t k c r l = run_long turns vars b exit h ps t k r l
-too_long_by (Some command.Check) b exit h ps t k c r l = told_long TellsDeterminism command.Check b (λ v w. w) exit h ps t k r l
-too_long_by (Some command.List) b exit h ps t k c r l = told_long TellsList command.List b (λ v w. w) exit h ps t k r l
+too_long_by (Some command.Check) b exit h ps t k c r l = told_long TellsDeterminism b exit h ps t k r l
+too_long_by (Some command.List) b exit h ps t k c r l = told_long TellsList b exit h ps t k r l
 
 -- the same of what the words say
 pub said_of : (o : Option Command) (c : Command) (b : List ℕ) (exit : Exit) (h : List Turn) (ps : List Place) (t : List ℕ) → o ≡ Some c → SaysOf o b exit h ps t → Says c b exit h ps t

@@ -5,7 +5,6 @@ use Rattle.std.specs.Fmt.{decimal}
 use Rattle.std.specs.Io.KnownBytes.{Appends, IsAtEnd}
 use Rattle.fm_base.specs.declared.name.Line.{Line}
 use Rattle.fm_base.specs.declared.schedule.Turn.{Turn}
-use Rattle.fm_base.specs.declared.rule.CheckFail.TheVariants as fail
 use Rattle.fm_base.specs.declared.rule.Refusal.{Refusal}
 use Rattle.fm_base.specs.Rules.{refusal_text}
 use Rattle.fm_base.specs.Verdict.{IsClean, IsLeast}
@@ -16,18 +15,20 @@ use Rattle.fm_sched.specs.Schedule.{play, used, IsLegal, IsEnding, Settles}
 use Rattle.fm_tree.specs.declared.program_unit.Placed.{Placed}
 use Rattle.fm_net.specs.Machine.{Place, State}
 use Rattle.fm_net.specs.Starts.{starts_of, choices_of}
-use Rattle.fm_mean.specs.declared.program.Program.{Program}
 use Rattle.fm_mean.specs.declared.outcome.FaultAt.{FaultAt}
 use Rattle.fm_mean.specs.declared.outcome.Outcome.{Outcome}
 use Rattle.fm_mean.specs.Process.{Proc}
+use Rattle.fm_mean.specs.Determinism.{IsDeterministic}
 use Rattle.fm_mean.specs.Steps.{language, step, first}
-use Rattle.fm_mean.specs.Report.{outcome_of, report_text}
+use Rattle.fm_mean.specs.Outcome.{outcome_of}
+use Rattle.fm_mean.specs.Report.{report_text}
 use Rattle.fm_symbols.specs.Context.{context_of}
 use Rattle.fm_unit.specs.Units.{units_of}
 use Rattle.fm_names.specs.Names.{names_of}
 use Rattle.fm_det.specs.Race.{IsRaceVerdict}
+use Rattle.fm_rules.specs.declared.program.Program.{Program}
 use Rattle.fm_front.specs.Verdict.{IsBroken, AreStatementsOf}
-use Rattle.fm_front.specs.Program.{IsProgramOf, IsBuilt, IsRefusalOf}
+use Rattle.fm_front.specs.Program.{IsCheckedOf}
 use Rattle.fm_run.specs.Runs.{HaveSteps, IsFrontWithin}
 use Rattle.fm_words.specs.Words.{command_of}
 use Rattle.fm_words.specs.declared.command.Command.{Command}
@@ -64,17 +65,16 @@ state_after program choices = play (step program) (first program) choices
 abbrev pub cost_of : Program → List Place → ℕ
 cost_of program choices = used (step program) (first program) choices
 
--- the kept schedule is one of the program of the source under these turns, with its processes in the order of starting
+-- the kept schedule is one of the checked program of the source under these turns, with its processes in the order of starting
 pub record IsHistoryOf (source : List ℕ) (program : Program) (turns : ℕ) (history : List Turn) (places choices : List Place) : Type 0 where
-  pub lawful : IsProgramOf source program
-  pub built : IsBuilt source
+  pub lawful : IsCheckedOf source program
   pub kept : choices_of history places ≡ Some choices
   pub starts : places ≡ starts_of (language program) (first program) choices
   pub legal : IsLegal (step program) (first program) choices
   pub some_steps : HaveSteps history
   pub front_within : IsFrontWithin program turns history places
 
--- the kept schedule ends the program within the turns, and exit and text are those of the state in which it and every other schedule ends
+-- the kept schedule ends the program within the turns, and exit and text are those of the state in which it ends
 pub record IsEnded (source : List ℕ) (turns : ℕ) (vars : Bool) (exit : Exit) (history : List Turn) (places : List Place) (text : List ℕ) : Type 0 where
   pub within : length source ≤ source_limit
   pub program : Program
@@ -84,8 +84,9 @@ pub record IsEnded (source : List ℕ) (turns : ℕ) (vars : Bool) (exit : Exit)
   pub in_turns : cost_of program choices ≤ turns
   pub exit_is : exit ≡ exit_of (outcome_of program (cost_of program choices) (state_after program choices))
   pub text_is : text ≡ report_text vars (outcome_of program (cost_of program choices) (state_after program choices))
-  -- so it is under every other schedule: it goes on to an end, and one that ends gives the same state at the same cost
-  pub one_outcome : Settles (step program) (first program) choices
+  -- where the program is deterministic, so it is under every other schedule: it goes on to an end, and one that ends gives
+  -- the same state at the same cost
+  pub one_outcome : IsDeterministic program → Settles (step program) (first program) choices
 
 -- the kept schedule costs more than the turns
 pub record IsSpent (source : List ℕ) (turns : ℕ) (history : List Turn) (places : List Place) (text : List ℕ) : Type 0 where
@@ -95,8 +96,8 @@ pub record IsSpent (source : List ℕ) (turns : ℕ) (history : List Turn) (plac
   pub kept : IsHistoryOf source program turns history places choices
   pub over : turns < cost_of program choices
   pub text_is : text ≡ spent_text turns
-  -- so does every schedule that ends
-  pub spent_for_all : (others : List Place) → IsEnding (step program) (first program) others → turns < cost_of program others
+  -- where the program is deterministic, so does every schedule that ends
+  pub spent_for_all : IsDeterministic program → (others : List Place) → IsEnding (step program) (first program) others → turns < cost_of program others
 
 -- nothing was played, and this is the text
 pub record IsUnplayed (history : List Turn) (places : List Place) (text told : List ℕ) : Type 0 where
@@ -149,22 +150,18 @@ HasHistory (Some (command.Run turns vars)) source history places =
 HasHistory (Some command.Check) source history places = IsNoHistory history places
 HasHistory (Some command.List) source history places = IsNoHistory history places
 
--- the command refuses the source for this: each for the least rule that is broken, a run besides for a statement that isn't built
-abbrev pub IsRefusedFor : Command → List ℕ → Refusal → Type 0
-IsRefusedFor (command.Run turns vars) source v = IsRefusalOf source (fail.Refused v)
-IsRefusedFor command.Check source v = IsLeast (IsBroken source) v
-IsRefusedFor command.List source v = IsLeast (IsBroken source) v
+-- the source is refused for this: the least rule that it breaks
+abbrev pub IsRefusedFor : List ℕ → Refusal → Type 0
+IsRefusedFor source v = IsLeast (IsBroken source) v
 
--- the command does its work on the source
-abbrev pub IsAccepted : Command → List ℕ → Type 0
-IsAccepted (command.Run turns vars) source = (program : Program) × IsProgramOf source program × IsBuilt source
-IsAccepted command.Check source = IsClean (IsBroken source)
-IsAccepted command.List source = IsClean (IsBroken source)
+-- the source breaks no rule: each command does its work on it
+abbrev pub IsAccepted : List ℕ → Type 0
+IsAccepted source = IsClean (IsBroken source)
 
-pub record IsRefused (command : Command) (source : List ℕ) (history : List Turn) (places : List Place) (text : List ℕ) : Type 0 where
+pub record IsRefused (source : List ℕ) (history : List Turn) (places : List Place) (text : List ℕ) : Type 0 where
   pub within : length source ≤ source_limit
   pub refusal : Refusal
-  pub refused : IsRefusedFor command source refusal
+  pub refused : IsRefusedFor source refusal
   pub unplayed : IsUnplayed history places text (refusal_text refusal)
 
 -- what a run says by its exit
@@ -172,7 +169,7 @@ abbrev pub SaysRun : (turns : ℕ) → (vars : Bool) → List ℕ → Exit → L
 SaysRun turns vars b Done h ps t = IsEnded b turns vars Done h ps t
 SaysRun turns vars b Faulted h ps t = IsEnded b turns vars Faulted h ps t
 SaysRun turns vars b Deadlocked h ps t = IsEnded b turns vars Deadlocked h ps t
-SaysRun turns vars b Refused h ps t = IsRefused (command.Run turns vars) b h ps t
+SaysRun turns vars b Refused h ps t = IsRefused b h ps t
 SaysRun turns vars b Spent h ps t = IsSpent b turns h ps t
 SaysRun turns vars b Usage h ps t = ⊥
 SaysRun turns vars b ReadFault h ps t = IsUnplayed h ps t (codes "read fault\n")
@@ -184,26 +181,26 @@ SaysRun turns vars b Illegal h ps t = ⊥
 SaysRun turns vars b Unfinished h ps t = ⊥
 
 -- what a command says that runs nothing and tells this of a source
-abbrev pub SaysTold : (List Placed → List ℕ → Type 0) → Command → List ℕ → Exit → List Turn → List Place → List ℕ → Type 0
-SaysTold Tells c b Done h ps t = IsTold Tells b h ps t
-SaysTold Tells c b Faulted h ps t = ⊥
-SaysTold Tells c b Deadlocked h ps t = ⊥
-SaysTold Tells c b Refused h ps t = IsRefused c b h ps t
-SaysTold Tells c b Spent h ps t = ⊥
-SaysTold Tells c b Usage h ps t = ⊥
-SaysTold Tells c b ReadFault h ps t = IsUnplayed h ps t (codes "read fault\n")
-SaysTold Tells c b WriteFault h ps t = ⊥
-SaysTold Tells c b NoMemory h ps t = IsUnplayed h ps t (codes "no memory\n")
-SaysTold Tells c b TooLong h ps t = (source_limit < length b) × IsUnplayed h ps t (codes "source too long\n")
-SaysTold Tells c b Malformed h ps t = ⊥
-SaysTold Tells c b Illegal h ps t = ⊥
-SaysTold Tells c b Unfinished h ps t = ⊥
+abbrev pub SaysTold : (List Placed → List ℕ → Type 0) → List ℕ → Exit → List Turn → List Place → List ℕ → Type 0
+SaysTold Tells b Done h ps t = IsTold Tells b h ps t
+SaysTold Tells b Faulted h ps t = ⊥
+SaysTold Tells b Deadlocked h ps t = ⊥
+SaysTold Tells b Refused h ps t = IsRefused b h ps t
+SaysTold Tells b Spent h ps t = ⊥
+SaysTold Tells b Usage h ps t = ⊥
+SaysTold Tells b ReadFault h ps t = IsUnplayed h ps t (codes "read fault\n")
+SaysTold Tells b WriteFault h ps t = ⊥
+SaysTold Tells b NoMemory h ps t = IsUnplayed h ps t (codes "no memory\n")
+SaysTold Tells b TooLong h ps t = (source_limit < length b) × IsUnplayed h ps t (codes "source too long\n")
+SaysTold Tells b Malformed h ps t = ⊥
+SaysTold Tells b Illegal h ps t = ⊥
+SaysTold Tells b Unfinished h ps t = ⊥
 
 -- the exit, with schedule and text, is one of the command for these bytes
 abbrev pub Says : Command → List ℕ → Exit → List Turn → List Place → List ℕ → Type 0
 Says (command.Run turns vars) b exit h ps t = SaysRun turns vars b exit h ps t
-Says command.Check b exit h ps t = SaysTold TellsDeterminism command.Check b exit h ps t
-Says command.List b exit h ps t = SaysTold TellsList command.List b exit h ps t
+Says command.Check b exit h ps t = SaysTold TellsDeterminism b exit h ps t
+Says command.List b exit h ps t = SaysTold TellsList b exit h ps t
 
 -- and of words that are no command
 abbrev pub SaysOf : Option Command → List ℕ → Exit → List Turn → List Place → List ℕ → Type 0

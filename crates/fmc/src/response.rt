@@ -5,7 +5,6 @@ ghost use Rattle.fm_base.specs.Rules.{refusal_text};
 ghost use Rattle.fm_base.specs.Verdict.{IsClean, IsRefusal};
 ghost use Rattle.fm_cards.specs.Cards.{cards_of};
 ghost use Rattle.fm_rules.specs.Program.{AreShaped};
-ghost use Rattle.fm_front.specs.Program.{IsRefusalOf};
 ghost use Rattle.fm_front.specs.Verdict.{AreStatementsOf, IsBroken, IsBrokenForm};
 ghost use Rattle.fmc.specs.Listing.{listed_text};
 ghost use Rattle.fm_words.specs.declared.command.Command.TheVariants as command;
@@ -16,7 +15,7 @@ ghost use Rattle.fmc.specs.Reply.{bytes_of, places_in, IsReply, exit_in, text_in
 use crate::answer::{Exit, Ran, Reply, Text};
 use crate::listing::list_text;
 use fm_base::{CheckFail, Line, NoMemory, Refusal};
-use fm_front::{check_statements, front, runnable, statements};
+use fm_front::{check_statements, front, statements};
 use fm_mean::Outcome;
 use fm_report::report;
 use fm_run::{Ending, Run, run_program};
@@ -87,7 +86,7 @@ fn text_in(alloc: Global, ending: &Ending, turns: u64, vars: bool) -> Result<Vec
     }
 }
 
-/// The program of a source of these bytes, run under these choices.
+/// The program of a source of these bytes, run under these choices. Refused by the least rule that the source breaks.
 pub fn run_source(
     alloc: Global,
     bytes: &[u8],
@@ -98,9 +97,9 @@ pub fn run_source(
     requires { length bytes.now ≤ source_limit }
     ensures says { IfOk result (λ r. Says (command.Run turns vars) bytes.now r.0.exit r.0.history.items (places_in r.0) r.1.items) }
     ensures exit { IfOk result (λ r. IsPlayedExit r.0.exit) }
-    ensures refused { IfErr result (IsRefusalOf bytes.now) }
+    ensures refused { IfErr result (IsRefusal (IsBroken bytes.now)) }
 {
-    let program = runnable(alloc, bytes)?;
+    let program = front(alloc, bytes)?;
     let Run {
         history,
         paths,

@@ -3,10 +3,11 @@
 ghost use Rattle.std.specs.Prelude.{◌≡◌, ◌≢◌, ◌≤◌, ◌<◌, ◌⊎◌, ℕ, true, false, List, map, length, IfSome, IfOk, IfErr, Some, None, is_none, is_some};
 ghost use Rattle.std.specs.Io.KnownBytes.{Appends, IsAtEnd};
 ghost use Rattle.fm_base.specs.declared.rule.Refusal.{Refusal};
+ghost use Rattle.fm_base.specs.Verdict.{IsRefusal};
 ghost use Rattle.fm_io.specs.Causes.{Rose};
 ghost use Rattle.fm_io.specs.Streams.{WritesFront};
 ghost use Rattle.fm_front.specs.Laws.{OneVerdict};
-ghost use Rattle.fm_front.specs.Program.{IsRefusalOf};
+ghost use Rattle.fm_front.specs.Verdict.{IsBroken};
 ghost use Rattle.fm_words.specs.Words.{command_of};
 ghost use Rattle.fm_words.specs.declared.command.Command.{Command};
 ghost use Rattle.fm_words.specs.declared.command.Command.TheVariants as command;
@@ -17,7 +18,6 @@ ghost use Rattle.fmc.specs.Reply.{bytes_of, places_in};
 use crate::answer::{Exit, Ran, Reply, Text};
 use crate::response::{reply, run_source, unplayed_reply};
 use fm_base::CheckFail;
-use fm_front::one_program;
 use fm_io::{ReadFail, Sink, Source, WriteFail, read_all, write_all};
 use fm_words::{Command, command_of};
 use std::alloc::Global;
@@ -114,13 +114,12 @@ pub fn fmc<S: Source, K: Sink>(alloc: Global, words: &[&str], source: &mut S, si
 
     // Nothing but the bytes and the memory decides, where nothing fails.
     ensures complete { (command : Command) → command_of (map (λ w. w.now) words.now) ≡ Some command → ¬ Rose (S.faults source.old) (S.faults source.new) → ¬ Rose (K.faults sink.old) (K.faults sink.new)
-        → IfSome (S.left source.old) (λ b. length b ≤ source_limit → IsAccepted command b → IsCompleted command result.exit) }
-    ensures refused { (command : Command) → command_of (map (λ w. w.now) words.now) ≡ Some command → ¬ Rose (S.faults source.old) (S.faults source.new) → ¬ Rose (K.faults sink.old) (K.faults sink.new)
-        → IfSome (S.left source.old) (λ b. length b ≤ source_limit → (v : Refusal) → IsRefusedFor command b v → IsRefusedExit result.exit) }
+        → IfSome (S.left source.old) (λ b. length b ≤ source_limit → IsAccepted b → IsCompleted command result.exit) }
+    ensures refused { IsCommand (map (λ w. w.now) words.now) → ¬ Rose (S.faults source.old) (S.faults source.new) → ¬ Rose (K.faults sink.old) (K.faults sink.new)
+        → IfSome (S.left source.old) (λ b. length b ≤ source_limit → (v : Refusal) → IsRefusedFor b v → IsRefusedExit result.exit) }
     ensures too_long { IsCommand (map (λ w. w.now) words.now) → ¬ Rose (S.faults source.old) (S.faults source.new) → ¬ Rose (K.faults sink.old) (K.faults sink.new)
         → IfSome (S.left source.old) (λ b. source_limit < length b → IsTooLongExit result.exit) }
 {
-    one_program();
     let reply = respond(alloc, words, source);
     finish(sink, reply)
 }
@@ -141,7 +140,7 @@ pub fn play_choices(
     requires few_turns { turns ≤ 1_000_000_000 }
     ensures answers { IfOk result (λ r. Says (command.Run turns vars) source.now r.0.exit r.0.history.items (places_in r.0) r.1.items) }
     ensures exit { IfOk result (λ r. IsPlayedExit r.0.exit) }
-    ensures refused { IfErr result (IsRefusalOf source.now) }
+    ensures refused { IfErr result (IsRefusal (IsBroken source.now)) }
 {
     run_source(alloc, source, choices, turns, vars)
 }

@@ -2,7 +2,7 @@ use Rattle.std.proofs.Common.{sym, subst, map}
 use Rattle.fm_words.specs.Words.{command_of}
 use Rattle.fmc.specs.Answer.{IsCompleted, IsRefusedExit, IsTooLongExit}
 use Rattle.fmc.specs.Reply.{bytes_of, places_in}
-use Rattle.fmc.proofs.AnswerLaws.{when_told, said_of, says_history, completed, refused_by, too_long_by}
+use Rattle.fmc.proofs.AnswerLaws.{when_told, said_of, says_history, completed, refused_of, too_long_by}
 use Rattle.fmc.proofs.top.fmc.Goals as goal
 
 pub returns-clause-history : goal.returns-clause-history
@@ -18,19 +18,17 @@ returns-clause-complete g c = λ command is no_read no_write.
     let same = (c.finish.ensures.whole (λ e. no_write (c.finish.ensures.cut e).0)).0 in
     when_told (g.S.Source.left c.args.source.now) _ _
     (λ b says le v. subst (IsCompleted command) (sym same)
-    (completed c.one_program.ensures.either command b r.ran.exit r.ran.history.items (places_in r.ran) (bytes_of r.text)
+    (completed command b r.ran.exit r.ran.history.items (places_in r.ran) (bytes_of r.text)
     (said_of (command_of (map (λ w. w.now) c.args.words.now)) command b r.ran.exit r.ran.history.items (places_in r.ran) (bytes_of r.text) is says)
     (λ e. no_read (c.respond-reply.ensures.read_fault e)) le v)) c.respond-reply.ensures.reply
 
 pub returns-clause-refused : goal.returns-clause-refused
-returns-clause-refused g c = λ command is no_read no_write.
+returns-clause-refused g c = λ command no_read no_write.
     let r = c.respond-reply.result in
     let same = (c.finish.ensures.whole (λ e. no_write (c.finish.ensures.cut e).0)).0 in
     when_told (g.S.Source.left c.args.source.now) _ _
     (λ b says le v w. subst IsRefusedExit (sym same)
-    (refused_by c.one_program.ensures.either command b r.ran.exit r.ran.history.items (places_in r.ran) (bytes_of r.text)
-    (said_of (command_of (map (λ w. w.now) c.args.words.now)) command b r.ran.exit r.ran.history.items (places_in r.ran) (bytes_of r.text) is says)
-    (λ e. no_read (c.respond-reply.ensures.read_fault e)) le v w)) c.respond-reply.ensures.reply
+    (refused_of (command_of (map (λ w. w.now) c.args.words.now)) b r.ran.exit r.ran.history.items (places_in r.ran) (bytes_of r.text) says command (λ e. no_read (c.respond-reply.ensures.read_fault e)) le v w)) c.respond-reply.ensures.reply
 
 pub returns-clause-too_long : goal.returns-clause-too_long
 returns-clause-too_long g c = λ command no_read no_write.
