@@ -2,19 +2,21 @@
 #![tactic(auto)]
 
 #[cfg(test)]
+mod answers;
+#[cfg(test)]
 mod base;
 #[cfg(test)]
 mod channels;
 #[cfg(test)]
-mod faults;
+mod examples;
 #[cfg(test)]
-mod front;
+mod faults;
 #[cfg(test)]
 mod io;
 #[cfg(test)]
-mod programs;
+mod language;
 #[cfg(test)]
-mod report;
+mod programs;
 #[cfg(test)]
 mod rules;
 #[cfg(test)]

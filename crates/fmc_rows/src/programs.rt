@@ -1,19 +1,11 @@
 //! Programs, and the whole texts and exits that they are answered with.
 
-use fm_io::{MemSink, MemSource};
-use fmc::{Exit, Ran, fmc, play_choices};
+use crate::answers::{answer, play};
+use fmc::Exit;
 use std::alloc::Global;
 use std::test::Fail;
 
 const USAGE: &[u8] = b"usage: fmc run or trace or replay or check or list or make N or demo N\n";
-
-/// What is answered, and what was written.
-pub fn answer(alloc: Global, words: &[&str], source: &[u8]) -> Result<(Ran, Vec<u8>), Fail> {
-    let mut source = MemSource::new(Vec::from_slice(alloc, source)?, 4096, Vec::new(alloc));
-    let mut sink = MemSink::new(alloc, 4096, 65_536, Vec::new(alloc))?;
-    let ran = fmc(alloc, words, &mut source, &mut sink);
-    Ok((ran, Vec::from_slice(alloc, sink.bytes())?))
-}
 
 /// A source, and the exit and the text for it.
 struct Row {
@@ -209,8 +201,8 @@ const RUNS: [Row; 26] = [
     },
     Row {
         source: b"      PROGRAM P\n   10 PRINT *, 1\n      END\n",
-        exit: Exit::Refused,
-        text: b"line 2: E10 no statement of the grammar\n",
+        exit: Exit::Done,
+        text: b" 1\n",
     },
     Row {
         source: b"      PRINT *, 1\n      END\n",
@@ -448,9 +440,7 @@ fn choices_of_the_caller(rt: HostRuntime) -> Result<(), Fail> {
         &[1, 0, 1, 0, 1, 0, 1, 0, 1, 0, 1, 0, 1, 0, 1, 0],
     ];
     for choices in schedules {
-        let (ran, text) = play_choices(rt.alloc(), PAIR, choices, 1_000, true).map_err(
-            |_| "no memory",
-        )?;
+        let (ran, text) = play(rt.alloc(), PAIR, choices)?;
         assert_eq!(rt; text.as_slice(), PAIR_TEXT);
         assert_eq!(rt; ran.exit, Exit::Done);
     }
@@ -459,7 +449,7 @@ fn choices_of_the_caller(rt: HostRuntime) -> Result<(), Fail> {
 
 /// The number of the process that made the fourth piece of PAIR under these choices.
 fn fourth(alloc: Global, choices: &[u64]) -> Result<u32, Fail> {
-    let (ran, _) = play_choices(alloc, PAIR, choices, 1_000, true).map_err(|_| "no memory")?;
+    let (ran, _) = play(alloc, PAIR, choices)?;
     match ran.history.get(3) {
         Some(turn) => Ok(turn.number),
         None => Ok(0),

@@ -1,7 +1,7 @@
 //! The rules of the language: for each the least program that breaks it, and a lawful one close to it.
 //! docs/RULES.md shows these programs.
 
-use crate::programs::answer;
+use crate::answers::answer;
 use fmc::Exit;
 use std::test::Fail;
 

@@ -1,0 +1,48 @@
+//! Calls of the program over sources and sinks in memory.
+
+use fm_io::{MemSink, MemSource};
+use fmc::{Ran, fmc, play_choices};
+use std::alloc::Global;
+use std::test::Fail;
+
+/// How a source gives its bytes and a sink takes them: the most bytes of a piece, and the calls that fail, from 1.
+pub struct Streams {
+    pub read: usize,
+    pub read_fails: &'static [u64],
+    pub write: usize,
+    pub write_fails: &'static [u64],
+}
+
+/// Whole pieces, and nothing fails.
+const SURE: Streams = Streams {
+    read: 65_536,
+    read_fails: &[],
+    write: 65_536,
+    write_fails: &[],
+};
+
+/// What is answered over these streams, and what was written.
+pub fn answer_over(
+    alloc: Global,
+    streams: &Streams,
+    words: &[&str],
+    source: Vec<u8>,
+) -> Result<(Ran, Vec<u8>), Fail> {
+    let read_fails = Vec::from_slice(alloc, streams.read_fails)?;
+    let write_fails = Vec::from_slice(alloc, streams.write_fails)?;
+    let mut source = MemSource::new(source, streams.read, read_fails);
+    let mut sink = MemSink::new(alloc, streams.write, 65_536, write_fails)?;
+    let ran = fmc(alloc, words, &mut source, &mut sink);
+    Ok((ran, Vec::from_slice(alloc, sink.bytes())?))
+}
+
+/// What is answered, and what was written.
+pub fn answer(alloc: Global, words: &[&str], source: &[u8]) -> Result<(Ran, Vec<u8>), Fail> {
+    answer_over(alloc, &SURE, words, Vec::from_slice(alloc, source)?)
+}
+
+/// What a source comes to under these choices, with the variables.
+pub fn play(alloc: Global, source: &[u8], choices: &[u64]) -> Result<(Ran, Vec<u8>), Fail> {
+    let (ran, text) = play_choices(alloc, source, choices, 1_000, true).map_err(|_| "refused")?;
+    Ok((ran, text))
+}
