@@ -10,10 +10,10 @@ use Rattle.std.proofs.lemmas.Int.Digits.{digits_value-lt}
 use Rattle.std.proofs.Math.Nat.{pow-le-pow_right}
 use Rattle.fm_words.specs.Words.{is_numeral, number_of}
 
-digit : (c : ℕ) → is_ascii_digit c ≡ true → (digit_value c ≡ c - 48) × (48 ≤ c) × (c < 58)
+pub digit : (c : ℕ) → is_ascii_digit c ≡ true → (digit_value c ≡ c - 48) × (48 ≤ c) × (c < 58)
 digit c e = grind (arith, nat_tests)
 
-both_true : (a b : Bool) → (a && b) ≡ true → (a ≡ true) × (b ≡ true)
+pub both_true : (a b : Bool) → (a && b) ≡ true → (a ≡ true) × (b ≡ true)
 both_true true b e = (refl, e)
 both_true false b e = cc
 
@@ -25,12 +25,12 @@ all_digits (d ∷ ds) e =
     (omega (arith, q.0, q.1, q.2), all_digits ds p.1)
 
 -- 1 to 18 digits
-record IsShort (ds : List ℕ) : Type 0 where
-  some : 0 < length ds
-  few : length ds ≤ 18
-  digits : list_all is_ascii_digit ds ≡ true
+pub record IsShort (ds : List ℕ) : Type 0 where
+  pub some : 0 < length ds
+  pub few : length ds ≤ 18
+  pub digits : list_all is_ascii_digit ds ≡ true
 
-short : (ds : List ℕ) → is_numeral ds ≡ true → IsShort ds
+pub short : (ds : List ℕ) → is_numeral ds ≡ true → IsShort ds
 short ds e =
     let p = both_true (nat_lt 0 (length ds) && nat_le (length ds) 18) (list_all is_ascii_digit ds) e in
     let q = both_true (nat_lt 0 (length ds)) (nat_le (length ds) 18) p.0 in

@@ -1,2 +1,4 @@
 pub mod Words
 pub mod Held
+pub mod Fails
+pub mod Values

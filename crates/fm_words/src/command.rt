@@ -1,19 +1,24 @@
 //! The command that words are.
 
-ghost use Rattle.std.specs.Prelude.{◌≡◌, ◌++◌, map, option_and_then};
-ghost use Rattle.fm_words.specs.Words.{settings_of, run_with, alone, command_of};
-ghost use Rattle.fm_words.specs.Held.{options_of};
+ghost use Rattle.std.specs.Prelude.{◌≡◌, Some, map, is_none, MatchResult};
+ghost use Rattle.fm_words.specs.Words.{run_with, demo_with, alone, run_of, make_of, demo_of, command_of};
+ghost use Rattle.fm_words.specs.Fails.{is_usage, IsCause};
 
-use crate::option::next_option;
-use crate::settings::{Settings, no_settings, run_command, settings_with};
+use crate::option::number;
+use crate::settings::{Settings, options_of};
+use crate::setup::setup_of;
+use crate::values::{demo_values, make_values, run_values};
+use fm_base::Setup;
+use std::alloc::{AllocError, Global};
+use thiserror::Error;
 
 /// What the words ask for.
 #[derive(Clone, Copy, Debug, PartialEq, Eq)]
 pub enum Command {
     /// Checks a program, runs it and writes its report.
     Run {
-        /// The bound on the cost of the run, in turns: 1 to 1,000,000,000.
-        turns: u64,
+        /// How the run is set up.
+        setup: Setup,
         /// Whether the report has the variables of main, and the cost.
         vars: bool,
     },
@@ -21,49 +26,167 @@ pub enum Command {
     Check,
     /// Checks a program and lists it.
     List,
+    /// Writes a generated program.
+    Make {
+        /// The number of the program, below 10 to the 18.
+        number: u64,
+    },
+    /// Runs a generated program and writes a summary.
+    Demo {
+        /// The number of the program, below 10 to the 18.
+        number: u64,
+        /// How the run is set up.
+        setup: Setup,
+    },
 }
 
-// `run` with these options and those that the words spell. An option that stands twice ends it, so
-// it goes three deep at most.
-fn run_further(settings: Settings, words: &[&str]) -> Option<Command>
-    ensures { result ≡ option_and_then (λ ss. run_with (options_of settings ++ ss)) (settings_of (map (λ w. w.now) words.now)) }
+/// Why words give no command.
+#[derive(Clone, Copy, Debug, Drop, PartialEq, Eq, Error)]
+pub enum WordsFail {
+    /// The words aren't in the command set.
+    #[error("the words are no command")]
+    Usage,
+    /// Memory was asked for and not found.
+    #[error("no memory was found")]
+    NoMemory,
+}
+
+impl From<AllocError> for WordsFail {
+    ghost use Rattle.std.specs.Prelude.{◌≡◌};
+    ghost use Rattle.fm_words.specs.declared.command.WordsFail.TheVariants as fails;
+
+    ghost from_gives = { λ _ e. e ≡ fails.NoMemory };
+
+    fn from(_error: AllocError) -> WordsFail {
+        WordsFail::NoMemory
+    }
+}
+
+// The words were tested before, so no cause but memory is left.
+impl From<clap::Error> for WordsFail {
+    ghost use Rattle.std.specs.Prelude.{◌≡◌};
+    ghost use Rattle.fm_words.specs.declared.command.WordsFail.TheVariants as fails;
+
+    ghost from_gives = { λ _ e. e ≡ fails.NoMemory };
+
+    fn from(_error: clap::Error) -> WordsFail {
+        WordsFail::NoMemory
+    }
+}
+
+fn run_with(settings: Settings) -> Option<Command>
+    ensures { result ≡ run_with settings }
 {
-    let Some((word, others)) = words.split_first() else {
-        return Some(run_command(settings));
-    };
-    let (setting, behind) = next_option(word, others)?;
-    run_further(settings_with(settings, setting)?, behind)
+    Some(Command::Run {
+        setup: setup_of(settings)?,
+        vars: settings.vars,
+    })
 }
 
-fn run_words(words: &[&str]) -> Option<Command>
-    ensures { result ≡ option_and_then run_with (settings_of (map (λ w. w.now) words.now)) }
+fn demo_with(number: u64, settings: Settings) -> Option<Command>
+    ensures { result ≡ demo_with number settings }
 {
-    run_further(no_settings(), words)
+    if settings.vars {
+        return None;
+    }
+    Some(Command::Demo {
+        number,
+        setup: setup_of(settings)?,
+    })
 }
 
-fn alone(command: Command, words: &[&str]) -> Option<Command>
-    ensures { result ≡ alone command (map (λ w. w.now) words.now) }
+fn alone(command: Command, words: &[&str]) -> Result<Command, WordsFail>
+    ensures { MatchResult result (λ c. alone command (map (λ w. w.now) words.now) ≡ Some c) (λ e. is_usage e ≡ is_none (alone command (map (λ w. w.now) words.now))) }
 {
     if words.is_empty() {
-        Some(command)
+        Ok(command)
+    } else {
+        Err(WordsFail::Usage)
+    }
+}
+
+fn make_of(words: &[&str]) -> Option<Command>
+    ensures { result ≡ make_of (map (λ w. w.now) words.now) }
+{
+    let (word, behind) = words.split_first()?;
+    if behind.is_empty() {
+        Some(Command::Make {
+            number: number(word)?,
+        })
     } else {
         None
     }
 }
 
-/// The command that the words are, or none where they aren't in the command set. Linear in the
-/// number of words.
-pub fn command_of(words: &[&str]) -> Option<Command>
-    ensures { result ≡ command_of (map (λ w. w.now) words.now) }
+fn demo_of(words: &[&str]) -> Option<Command>
+    ensures { result ≡ demo_of (map (λ w. w.now) words.now) }
 {
-    let (first, rest) = words.split_first()?;
+    let (word, behind) = words.split_first()?;
+    let number = number(word)?;
+    demo_with(number, options_of(behind)?)
+}
+
+fn run_of(words: &[&str]) -> Option<Command>
+    ensures { result ≡ run_of (map (λ w. w.now) words.now) }
+{
+    run_with(options_of(words)?)
+}
+
+fn run(alloc: Global, words: &[&str]) -> Result<Command, WordsFail>
+    ensures { MatchResult result (λ c. run_of (map (λ w. w.now) words.now) ≡ Some c) (λ e. is_usage e ≡ is_none (run_of (map (λ w. w.now) words.now))) }
+{
+    if run_of(words).is_none() {
+        return Err(WordsFail::Usage);
+    }
+    match run_with(run_values(alloc, words)?) {
+        Some(command) => Ok(command),
+        None => unreachable!(),
+    }
+}
+
+fn make(alloc: Global, words: &[&str]) -> Result<Command, WordsFail>
+    ensures { MatchResult result (λ c. make_of (map (λ w. w.now) words.now) ≡ Some c) (λ e. is_usage e ≡ is_none (make_of (map (λ w. w.now) words.now))) }
+{
+    if make_of(words).is_none() {
+        return Err(WordsFail::Usage);
+    }
+    let number = make_values(alloc, words)?;
+    Ok(Command::Make { number })
+}
+
+fn demo(alloc: Global, words: &[&str]) -> Result<Command, WordsFail>
+    ensures { MatchResult result (λ c. demo_of (map (λ w. w.now) words.now) ≡ Some c) (λ e. is_usage e ≡ is_none (demo_of (map (λ w. w.now) words.now))) }
+{
+    if demo_of(words).is_none() {
+        return Err(WordsFail::Usage);
+    }
+    let (number, settings) = demo_values(alloc, words)?;
+    match demo_with(number, settings) {
+        Some(command) => Ok(command),
+        None => unreachable!(),
+    }
+}
+
+/// The command that the words after the program's name are. `Usage` comes exactly where they aren't
+/// in the command set, and `NoMemory` never comes for words that aren't. Linear in the number of
+/// words.
+pub fn words(alloc: Global, words: &[&str]) -> Result<Command, WordsFail>
+    ensures { MatchResult result (λ c. command_of (map (λ w. w.now) words.now) ≡ Some c) (IsCause (map (λ w. w.now) words.now)) }
+{
+    let Some((first, behind)) = words.split_first() else {
+        return Err(WordsFail::Usage);
+    };
     if *first == "run" {
-        run_words(rest)
+        run(alloc, behind)
     } else if *first == "check" {
-        alone(Command::Check, rest)
+        alone(Command::Check, behind)
     } else if *first == "list" {
-        alone(Command::List, rest)
+        alone(Command::List, behind)
+    } else if *first == "make" {
+        make(alloc, behind)
+    } else if *first == "demo" {
+        demo(alloc, behind)
     } else {
-        None
+        Err(WordsFail::Usage)
     }
 }

@@ -4,5 +4,7 @@
 mod command;
 mod option;
 mod settings;
+mod setup;
+mod values;
 
-pub use command::{Command, command_of};
+pub use command::{Command, WordsFail, words};

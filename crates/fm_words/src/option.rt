@@ -1,21 +1,39 @@
-//! The options of `run`.
+//! Options and their values.
 
-ghost use Rattle.std.specs.Prelude.{◌≡◌, ◌∷◌, ◌≤◌, map, length, None, Some, MatchOption};
+ghost use Rattle.std.specs.Prelude.{◌≡◌, ◌∷◌, ◌≤◌, map, length, None, Some, option_map, MatchOption};
 ghost use Rattle.std.specs.Char.{is_ascii_digit};
 ghost use Rattle.std.specs.List.{list_all};
-ghost use Rattle.fm_words.specs.Words.{is_numeral, number_of, is_bound, turns_of, setting_of, first_and_others, settings_of};
+ghost use Rattle.fm_words.specs.Words.{is_numeral, number_of, plan_of, name_of, name_and_value, setting_with, setting_of, first_and_others, settings_of};
 
-/// The most turns that a run may be given.
-const MOST_TURNS: u64 = 1_000_000_000;
+use fm_base::Plan;
 
 /// The most digits of a number.
 const MOST_DIGITS: usize = 18;
 
-/// An option of `run`.
+/// An option that takes a value.
+#[derive(Clone, Copy, Debug, PartialEq, Eq)]
+pub enum OptionName {
+    /// `--turns`
+    Turns,
+    /// `--workers`
+    Workers,
+    /// `--slice`
+    Slice,
+    /// `--plan`
+    Plan,
+}
+
+/// An option as it was written, its number in range or not.
 #[derive(Clone, Copy, Debug, PartialEq, Eq)]
 pub enum Setting {
-    /// The bound on the cost of the run, in turns: 1 to 1,000,000,000.
+    /// The bound on the cost of the run, in turns.
     Turns(u64),
+    /// How many workers there are.
+    Workers(u64),
+    /// The most steps of a piece.
+    Slice(u64),
+    /// How nodes are mapped to workers.
+    PlanIs(Plan),
     /// The report has the variables of main, and the cost.
     Vars,
 }
@@ -33,7 +51,8 @@ fn is_numeral(word: &str) -> bool
     0 < digits.len() && digits.len() <= MOST_DIGITS && all_digits(digits)
 }
 
-fn number(word: &str) -> Option<u64>
+/// The number that a word of 1 to 18 digits writes.
+pub fn number(word: &str) -> Option<u64>
     ensures { result ≡ number_of word.now }
 {
     if is_numeral(word) {
@@ -43,38 +62,80 @@ fn number(word: &str) -> Option<u64>
     }
 }
 
-fn is_bound(turns: u64) -> bool
-    ensures { result ≡ is_bound turns }
+/// The plan that a word names.
+pub fn plan_of(word: &str) -> Option<Plan>
+    ensures { result ≡ plan_of word.now }
 {
-    1 <= turns && turns <= MOST_TURNS
+    if word == "cyclic" {
+        Some(Plan::Cyclic)
+    } else if word == "block" {
+        Some(Plan::Block)
+    } else {
+        None
+    }
 }
 
-/// The bound that a word writes.
-pub fn turns_of(word: &str) -> Option<u64>
-    ensures { result ≡ turns_of word.now }
+fn setting_with(name: OptionName, value: &str) -> Option<Setting>
+    ensures { result ≡ setting_with name value.now }
 {
-    let turns = number(word)?;
-    if is_bound(turns) { Some(turns) } else { None }
+    match name {
+        OptionName::Turns => Some(Setting::Turns(number(value)?)),
+        OptionName::Workers => Some(Setting::Workers(number(value)?)),
+        OptionName::Slice => Some(Setting::Slice(number(value)?)),
+        OptionName::Plan => Some(Setting::PlanIs(plan_of(value)?)),
+    }
+}
+
+fn name_of(word: &str) -> Option<OptionName>
+    ensures { result ≡ name_of word.now }
+{
+    if word == "--turns" {
+        Some(OptionName::Turns)
+    } else if word == "--workers" {
+        Some(OptionName::Workers)
+    } else if word == "--slice" {
+        Some(OptionName::Slice)
+    } else if word == "--plan" {
+        Some(OptionName::Plan)
+    } else {
+        None
+    }
+}
+
+fn name_and_value(word: &str) -> Option<(OptionName, &str)>
+    ensures { option_map (λ p. (p.0, p.1.now)) result ≡ name_and_value word.now }
+{
+    if let Some(value) = word.strip_prefix("--turns=") {
+        Some((OptionName::Turns, value))
+    } else if let Some(value) = word.strip_prefix("--workers=") {
+        Some((OptionName::Workers, value))
+    } else if let Some(value) = word.strip_prefix("--slice=") {
+        Some((OptionName::Slice, value))
+    } else if let Some(value) = word.strip_prefix("--plan=") {
+        Some((OptionName::Plan, value))
+    } else {
+        None
+    }
 }
 
 /// The option of one word.
-pub fn setting_of(word: &str) -> Option<Setting>
+fn setting_of(word: &str) -> Option<Setting>
     ensures { result ≡ setting_of word.now }
 {
     if word == "--vars" {
         return Some(Setting::Vars);
     }
-    let digits = word.strip_prefix("--turns=")?;
-    Some(Setting::Turns(turns_of(digits)?))
+    let (name, value) = name_and_value(word)?;
+    setting_with(name, value)
 }
 
 /// The option that begins with a word, and the words behind it.
 pub fn next_option<'a, 'b>(word: &str, behind: &'a [&'b str]) -> Option<(Setting, &'a [&'b str])>
     ensures { MatchOption result (settings_of (word.now ∷ map (λ w. w.now) behind.now) ≡ None) (λ r. (settings_of (word.now ∷ map (λ w. w.now) behind.now) ≡ first_and_others (Some r.0) (settings_of (map (λ w. w.now) r.1.now))) × (length r.1.now ≤ length behind.now)) }
 {
-    if word == "--turns" {
-        let (bound, behind) = behind.split_first()?;
-        return Some((Setting::Turns(turns_of(bound)?), behind));
+    if let Some(name) = name_of(word) {
+        let (value, behind) = behind.split_first()?;
+        return Some((setting_with(name, value)?, behind));
     }
     Some((setting_of(word)?, behind))
 }

@@ -1,0 +1,123 @@
+//! The values of accepted words, as `clap` reads them.
+
+ghost use Rattle.std.specs.Prelude.{◌≡◌, true, false, Some, map, codes, option_and_then, is_some, IfOk, IfErr};
+ghost use Rattle.clap.specs.Words.{app_of, first_value, found_of, one_text, rows_of};
+ghost use Rattle.fm_words.specs.Words.{number_of, plan_of, options_of, demo_with, make_of, demo_of};
+ghost use Rattle.fm_words.specs.Values.{with_options, run_found, make_found, demo_found};
+ghost use Rattle.fm_words.specs.declared.command.Command.TheVariants as command;
+
+use crate::command::WordsFail;
+use crate::option::{number, plan_of};
+use crate::settings::Settings;
+use clap::{Arg, ArgAction, ArgMatches};
+use std::alloc::{AllocError, Global};
+
+fn with_options<'a>(
+    alloc: Global,
+    command: clap::Command<'a>,
+) -> Result<clap::Command<'a>, AllocError>
+    ensures { IfOk result (λ c. app_of c ≡ with_options (app_of command.entry)) }
+{
+    let vars = Arg::new(alloc, "vars")
+        .long("vars")
+        .action(ArgAction::SetTrue);
+    command
+        .arg(Arg::new(alloc, "turns").long("turns"))?
+        .arg(Arg::new(alloc, "workers").long("workers"))?
+        .arg(Arg::new(alloc, "slice").long("slice"))?
+        .arg(Arg::new(alloc, "plan").long("plan"))?
+        .arg(vars)
+}
+
+fn run_matches<'a>(alloc: Global, words: &'a [&'a str]) -> Result<ArgMatches<'a>, WordsFail>
+    ensures rows { IfOk result (λ m. rows_of (found_of m) ≡ run_found (map (λ w. w.now) words.entry.now)) }
+    ensures memory { IfErr result (λ e. e ≡ WordsFail.NoMemory) }
+{
+    let bare = clap::Command::new(alloc, "run").no_binary_name(true);
+    let command = with_options(alloc, bare)?;
+    Ok(command.try_get_matches_from(words)?)
+}
+
+fn make_matches<'a>(alloc: Global, words: &'a [&'a str]) -> Result<ArgMatches<'a>, WordsFail>
+    ensures rows { IfOk result (λ m. rows_of (found_of m) ≡ make_found (map (λ w. w.now) words.entry.now)) }
+    ensures memory { IfErr result (λ e. e ≡ WordsFail.NoMemory) }
+{
+    let bare = clap::Command::new(alloc, "make").no_binary_name(true);
+    let command = bare.arg(Arg::new(alloc, "number"))?;
+    Ok(command.try_get_matches_from(words)?)
+}
+
+fn demo_matches<'a>(alloc: Global, words: &'a [&'a str]) -> Result<ArgMatches<'a>, WordsFail>
+    ensures rows { IfOk result (λ m. rows_of (found_of m) ≡ demo_found (map (λ w. w.now) words.entry.now)) }
+    ensures memory { IfErr result (λ e. e ≡ WordsFail.NoMemory) }
+{
+    let bare = clap::Command::new(alloc, "demo").no_binary_name(true);
+    let numbered = bare.arg(Arg::new(alloc, "number"))?;
+    let command = with_options(alloc, numbered)?;
+    Ok(command.try_get_matches_from(words)?)
+}
+
+fn number_in(matches: &ArgMatches<'_>, id: &str) -> Option<u64>
+    ensures { result ≡ option_and_then number_of (first_value (found_of matches.now) id.now) }
+{
+    number(matches.get_str(id)?)
+}
+
+fn plan_in(matches: &ArgMatches<'_>, id: &str) -> Option<fm_base::Plan>
+    ensures { result ≡ option_and_then plan_of (first_value (found_of matches.now) id.now) }
+{
+    plan_of(matches.get_str(id)?)
+}
+
+fn settings_in(matches: &ArgMatches<'_>) -> Settings
+    ensures turns { result.turns ≡ option_and_then number_of (first_value (found_of matches.now) (codes "turns")) }
+    ensures workers { result.workers ≡ option_and_then number_of (first_value (found_of matches.now) (codes "workers")) }
+    ensures slice { result.slice ≡ option_and_then number_of (first_value (found_of matches.now) (codes "slice")) }
+    ensures plan { result.plan ≡ option_and_then plan_of (first_value (found_of matches.now) (codes "plan")) }
+    ensures vars { one_text (found_of matches.now) (codes "vars") ≡ Some (codes "true") → result.vars ≡ true }
+    ensures no_vars { one_text (found_of matches.now) (codes "vars") ≡ Some (codes "false") → result.vars ≡ false }
+{
+    Settings {
+        turns: number_in(matches, "turns"),
+        workers: number_in(matches, "workers"),
+        slice: number_in(matches, "slice"),
+        plan: plan_in(matches, "plan"),
+        vars: matches.get_flag("vars"),
+    }
+}
+
+/// What the options of an accepted `run` ask for.
+pub fn run_values(alloc: Global, words: &[&str]) -> Result<Settings, WordsFail>
+    requires { is_some (options_of (map (λ w. w.now) words.now)) ≡ true }
+    ensures values { IfOk result (λ s. options_of (map (λ w. w.now) words.now) ≡ Some s) }
+    ensures memory { IfErr result (λ e. e ≡ WordsFail.NoMemory) }
+{
+    let matches = run_matches(alloc, words)?;
+    Ok(settings_in(&matches))
+}
+
+/// The number of an accepted `make`.
+pub fn make_values(alloc: Global, words: &[&str]) -> Result<u64, WordsFail>
+    requires { is_some (make_of (map (λ w. w.now) words.now)) ≡ true }
+    ensures values { IfOk result (λ n. make_of (map (λ w. w.now) words.now) ≡ Some (command.Make n)) }
+    ensures memory { IfErr result (λ e. e ≡ WordsFail.NoMemory) }
+{
+    let matches = make_matches(alloc, words)?;
+    match number_in(&matches, "number") {
+        Some(number) => Ok(number),
+        None => unreachable!(),
+    }
+}
+
+/// The number of an accepted `demo`, and what its options ask for.
+pub fn demo_values(alloc: Global, words: &[&str]) -> Result<(u64, Settings), WordsFail>
+    requires { is_some (demo_of (map (λ w. w.now) words.now)) ≡ true }
+    ensures values { IfOk result (λ r. demo_of (map (λ w. w.now) words.now) ≡ demo_with r.0 r.1) }
+    ensures memory { IfErr result (λ e. e ≡ WordsFail.NoMemory) }
+{
+    let matches = demo_matches(alloc, words)?;
+    match number_in(&matches, "number") {
+        Some(number) => Ok((number, settings_in(&matches))),
+        None => unreachable!(),
+    }
+}
