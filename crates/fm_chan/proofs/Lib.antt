@@ -4,3 +4,5 @@ pub mod Numbers
 pub mod Receiving
 pub mod Fitting
 pub mod Writers
+pub mod Waits
+pub mod Waking

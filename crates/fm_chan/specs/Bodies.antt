@@ -1,22 +1,9 @@
--- What stands behind the channels' names, as plain data.
+-- The channels of a run, as plain data.
 -- Source: this profile.
-use Rattle.std.specs.Prelude.{List, [], is_some, Option, Some, None}
-use Rattle.fm_base.specs.PathOrder.{channel_cmp}
-use Rattle.fm_base.specs.Channels.{Message, Chan, Chans}
-use Rattle.fm_maps.specs.Map.{map_of, map_values}
-use Rattle.fm_chan.specs.declared.body.Body.{Body}
-use Rattle.fm_chan.specs.declared.body.Inport.{Inport}
+use Rattle.fm_base.specs.Channels.{Chans}
 use Rattle.fm_chan.specs.declared.channels.Channels.{Channels}
-
--- what waits at the inport
-abbrev pub waiting : Option Inport → List Message
-waiting None = []
-waiting (Some i) = i.queue.items
-
--- the channel of a body
-abbrev pub chan_of : Body → Chan
-chan_of b = record { queue = waiting b.inport; writers = b.writers.keys; lives = is_some b.inport }
+use Rattle.fm_chan.specs.Kept.{chans_in}
 
 -- the channels by their names
 unfoldable pub chans_of : Channels → Chans
-chans_of s = map_values chan_of (map_of channel_cmp s.bodies)
+chans_of s = chans_in s.bodies

@@ -7,6 +7,8 @@ use Rattle.fm_base.specs.declared.port.PortValue.{PortValue}
 use Rattle.fm_base.specs.declared.port.PortValue.TheVariants.{Writer, Reader}
 use Rattle.fm_base.specs.Channels.{Message, message_ports, Chan, Chans, ChannelOp, Push, channel_of, changed, spills_at, all_shed, numbers_from}
 use Rattle.fm_maps.specs.Changes.{adjust}
+use Rattle.fm_chan.specs.declared.body.Put.{Put}
+use Rattle.fm_chan.specs.declared.body.Put.TheVariants.{Done, Spilt}
 
 -- an outport sends, an inport receives
 abbrev pub is_outport : PortValue → Bool
@@ -32,13 +34,17 @@ abbrev pub after_op : PortValue → ChannelOp → Chans → Chans
 after_op x a m = adjust m (channel_of x) (changed a)
 
 -- the ports in what comes back from a channel whose inport is gone
-abbrev pub ports_back : Option Message → List PortValue
-ports_back None = []
-ports_back (Some m) = message_ports m
+abbrev pub ports_back : Put → List PortValue
+ports_back (Done reader) = []
+ports_back (Spilt m) = message_ports m
 
 -- the channels after a send by the port, with what is discarded by it
 abbrev pub after_send : PortValue → Message → Chans → Chans
 after_send x m cs = all_shed (spills_at (Push (writer_of x) m) (chan_at x cs)) (after_op x (Push (writer_of x) m) cs)
+
+-- and after a send to the channel of this name
+abbrev pub after_send_to : ChanName → Message → Chans → Chans
+after_send_to c m cs = all_shed (spills_at (Push 0 m) (map.get cs c)) (adjust cs c (changed (Push 0 m)))
 
 -- the outports of a channel with so many writers
 abbrev pub outports : ChanName → (writers : ℕ) → List PortValue

@@ -1,6 +1,9 @@
 pub mod Items
 pub mod Events
 pub mod Rest
+pub mod Kept
 pub mod Bodies
 pub mod Rooms
 pub mod Received
+pub mod Readers
+pub mod Woken

@@ -1,8 +1,9 @@
 //! What stands behind a channel's name.
 
-ghost use Rattle.std.specs.Prelude.{◌≡◌, [], ◌++◌, Some, IfOk, OnOk, OnErr, IfErr, IsOk};
-ghost use Rattle.fm_base.specs.Channels.{numbers_from, fresh, Push, Pop, changed, gives, exceeds, spills, fits_limits, can_pop, without, discarded, freed};
-ghost use Rattle.fm_chan.specs.Bodies.{chan_of};
+ghost use Rattle.std.specs.Prelude.{◌≡◌, ◌+◌, [], ◌++◌, Some, None, false, IfOk, OnOk, OnErr, IfErr, IsOk};
+ghost use Rattle.fm_base.specs.Channels.{numbers_from, fresh, Push, Pop, changed, gives, exceeds, spills, fits_limits, can_pop, without, discarded, freed, queue_ports};
+ghost use Rattle.fm_chan.specs.Kept.{chan_of};
+ghost use Rattle.fm_chan.specs.Readers.{IsReadyAt, IsClosedAt, WakesHere, count_of, woken_by};
 ghost use Rattle.fm_chan.specs.Rooms.{IsRoomy};
 ghost use Rattle.fm_chan.specs.Events.{ports_back};
 ghost use Rattle.fm_chan.specs.Received.{got_from};
@@ -32,6 +33,17 @@ pub struct Body {
     pub inport: Option<Inport>,
     /// The numbers of the open writers.
     pub writers: BTreeSet<u32>,
+    /// The number of the process that waits for a message or the end of the channel.
+    pub reader: Option<u32>,
+}
+
+/// What came of a message that was put last.
+#[derive(Drop)]
+pub enum Put {
+    /// It is done with. This reader waited for it.
+    Done(Option<u32>),
+    /// The inport is gone, and it comes back.
+    Spilt(Message),
 }
 
 fn numbers(alloc: Global, count: u32) -> Result<BTreeSet<u32>, NoMemory>
@@ -63,7 +75,8 @@ fn fits(limits: &[Option<u32>], message: &Message) -> bool
 impl Body {
     /// A channel that was just made, with so many writers.
     pub fn new(alloc: Global, writers: u32) -> Result<Body, NoMemory>
-        ensures { IfOk result (λ b. chan_of b ≡ fresh writers) }
+        ensures chan { IfOk result (λ b. chan_of b ≡ fresh writers) }
+        ensures reader { IfOk result (λ b. b.reader ≡ None) }
     {
         let writers = numbers(alloc, writers)?;
         let room = Box::new(alloc, Chain::End)?;
@@ -71,21 +84,34 @@ impl Body {
         Ok(Body {
             inport: Some(Inport { queue, room }),
             writers,
+            reader: None,
         })
     }
 
+    /// Notes that a process waits here, and answers the number of the one that was noted before.
+    pub fn note(&mut self, number: u32) -> Option<u32>
+        ensures chan { chan_of self.new ≡ chan_of self.old }
+        ensures before { result ≡ self.old.reader }
+        ensures reader { self.new.reader ≡ Some number }
+        ensures room { IsRoomy self.old → IsRoomy self.new }
+    {
+        self.reader.replace(number)
+    }
+
     /// Puts a message last, or gives it back where the inport is gone.
-    pub fn put_last(&mut self, message: Message) -> Result<Option<Message>, (Message, NoMemory)>
+    pub fn put_last(&mut self, message: Message) -> Result<Put, (Message, NoMemory)>
         ensures ok { OnOk result (chan_of self.new ≡ changed (Push 0 message) (chan_of self.old)) }
-        ensures spilt { IfOk result (λ o. ports_back o ≡ spills (Push 0 message) (chan_of self.old)) }
+        ensures spilt { IfOk result (λ put. ports_back put ≡ spills (Push 0 message) (chan_of self.old)) }
+        ensures readers { WakesHere IsReadyAt self.old self.new (woken_by result) }
+        ensures noted { count_of self.new.reader + count_of (woken_by result) ≡ count_of self.old.reader }
         ensures back { IfErr result (λ e. e.0 ≡ message) }
         ensures err { OnErr result (chan_of self.new ≡ chan_of self.old) }
         ensures reserved { IsRoomy self.old → IsOk result }
     {
         match &mut self.inport {
-            None => Ok(Some(message)),
+            None => Ok(Put::Spilt(message)),
             Some(inport) => match inport.queue.push_back(message) {
-                Ok(()) => Ok(None),
+                Ok(()) => Ok(Put::Done(self.reader.take())),
                 Err(full) => Err((full.value, NoMemory)),
             },
         }
@@ -94,6 +120,7 @@ impl Body {
     /// Makes room for one more message.
     pub fn reserve(&mut self) -> Result<(), NoMemory>
         ensures chan { chan_of self.new ≡ chan_of self.old }
+        ensures reader { self.new.reader ≡ self.old.reader }
         ensures ok { OnOk result (IsRoomy self.new) }
         ensures room { IsRoomy self.old → IsRoomy self.new }
     {
@@ -132,6 +159,7 @@ impl Body {
     fn take_first(&mut self) -> Option<Message>
         ensures first { result ≡ gives (Pop []) (chan_of self.old) }
         ensures rest { chan_of self.new ≡ changed (Pop []) (chan_of self.old) }
+        ensures reader { self.new.reader ≡ self.old.reader }
         ensures room { IsRoomy self.old → IsRoomy self.new }
     {
         match &mut self.inport {
@@ -144,6 +172,7 @@ impl Body {
     pub fn receive(&mut self, limits: &[Option<u32>]) -> Got
         ensures got { result ≡ got_from limits.now (chan_of self.old) }
         ensures rest { chan_of self.new ≡ changed (Pop limits.now) (chan_of self.old) }
+        ensures reader { self.new.reader ≡ self.old.reader }
         ensures room { IsRoomy self.old → IsRoomy self.new }
     {
         if !self.is_ready() {
@@ -158,18 +187,47 @@ impl Body {
         }
     }
 
+    // Closes a writer, and answers the reader that waited for the last one to close.
+    fn close(&mut self, number: u32) -> Option<u32>
+        ensures body { chan_of self.new ≡ record (chan_of self.old) { writers = without number self.old.writers.keys } }
+        ensures readers { WakesHere IsClosedAt self.old self.new result }
+        ensures noted { count_of self.new.reader + count_of result ≡ count_of self.old.reader }
+        ensures room { IsRoomy self.old → IsRoomy self.new }
+    {
+        close_writer(&mut self.writers, number);
+        if self.writers.len() == 0 {
+            return self.reader.take();
+        }
+        None
+    }
+
+    // Takes what waits at the inport to what is to be discarded.
+    fn leave(&mut self, discarding: &mut Discarding)
+        ensures body { chan_of self.new ≡ record (chan_of self.old) { queue = []; lives = false } }
+        ensures ports { left_ports discarding.new ≡ queue_ports (chan_of self.old).queue ++ left_ports discarding.old }
+        ensures readers { WakesHere IsClosedAt self.old self.new None }
+        ensures noted { self.new.reader ≡ self.old.reader }
+        ensures room { IsRoomy self.new }
+    {
+        if let Some(inport) = self.inport.take() {
+            discarding.enter(inport.queue, inport.room);
+        }
+    }
+
     /// Closes the writer of an outport, or takes what waits at an inport to what is to be discarded.
-    pub fn shut(&mut self, port: &Port, discarding: &mut Discarding)
+    /// Answers the reader that waited for the last writer to close.
+    pub fn shut(&mut self, port: &Port, discarding: &mut Discarding) -> Option<u32>
         ensures body { chan_of self.new ≡ discarded port.now (chan_of self.old) }
         ensures ports { left_ports discarding.new ≡ freed port.now (Some (chan_of self.old)) ++ left_ports discarding.old }
+        ensures readers { WakesHere IsClosedAt self.old self.new result }
+        ensures noted { count_of self.new.reader + count_of result ≡ count_of self.old.reader }
         ensures room { IsRoomy self.old → IsRoomy self.new }
     {
         match port.plain() {
-            PortValue::Writer(_, number) => close_writer(&mut self.writers, *number),
+            PortValue::Writer(_, number) => self.close(*number),
             PortValue::Reader(_) => {
-                if let Some(inport) = self.inport.take() {
-                    discarding.enter(inport.queue, inport.room);
-                }
+                self.leave(discarding);
+                None
             }
         }
     }

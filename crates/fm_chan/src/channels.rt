@@ -1,16 +1,12 @@
 //! The channels of a run.
 
-ghost use Rattle.std.specs.Prelude.{◌≡◌, ◌≤◌, true, false, None, [], ◌∷◌, ◌++◌, IfOk, OnOk, OnErr, IfErr, IsOk};
-ghost use Rattle.std.specs.FinMap as map;
-ghost use Rattle.fm_base.specs.Channels.{fresh, channel_of, Push, Pop, freed, shut, message_ports, all_shed, spills_at};
+ghost use Rattle.std.specs.Prelude.{◌≡◌, ◌≤◌, ◌+◌, true, false, None, Some, [], ◌∷◌, ◌++◌, IfOk, OnOk, OnErr, IfErr, IfNone, IsOk, option_to_list, vec_len, vec_capacity};
 ghost use Rattle.fm_base.specs.declared.port.PortValue.TheVariants.{Writer, Reader};
-ghost use Rattle.fm_chan.specs.Bodies.{chans_of};
-ghost use Rattle.fm_chan.specs.Rooms.{HasRoom, KeepsRoom, KeepsOthersRoom};
-ghost use Rattle.fm_chan.specs.Events.{is_outport, writer_number, chan_at, after_op, after_send, ports_back, outports};
-ghost use Rattle.fm_chan.specs.Received.{got_at, brings, pops_at, waits_at};
-ghost use Rattle.fm_chan.specs.Rest.{left_ports};
+ghost use Rattle.fm_chan.specs.Events.{outports};
+ghost use Rattle.fm_chan.specs.Readers.{HasRoomToWake, count_of};
 
-use crate::body::Body;
+use crate::body::{Body, Put};
+use crate::by_name::{Bodies, note, put, receive, reserve, shut};
 use crate::discarding::Discarding;
 use crate::message::{Got, Message};
 use crate::port::Port;
@@ -19,14 +15,21 @@ use fm_maps::Map;
 use std::alloc::Global;
 
 /// The channels, by their names. Contracts see a finite map of them (`chans_of`), and beside it which
-/// channels have room for one more message (`HasRoom`).
+/// channels have room for one more message (`HasRoom`), which process waits at a channel
+/// (`waiting_reader`), and which were woken (`woken_of`).
 ///
 /// Each call finds its channel in logarithmic time, whatever waits in it. A port whose channel isn't
 /// here is passed over: a send loses its message, a receive waits, a discard changes nothing.
+///
+/// A process that waits for a message may note its number at its inport's channel (`wait`). The call
+/// that makes a receive ready there, be it a send or whatever closes the last writer, wakes it: its
+/// number is to be taken out then (`next_woken`). Room for it was made before, so that takes no memory.
 #[derive(Drop)]
 pub struct Channels {
     alloc: Global,
-    bodies: Map<ChanName, Body>,
+    bodies: Bodies,
+    woken: Vec<u32>,
+    ghost room: { HasRoomToWake bodies woken },
 }
 
 fn outports(alloc: Global, name: &ChanName, writers: u32) -> Result<Vec<Port>, NoMemory>
@@ -41,14 +44,43 @@ fn outports(alloc: Global, name: &ChanName, writers: u32) -> Result<Vec<Port>, N
     Ok(ports)
 }
 
+// Adds a reader to those that were woken.
+fn wake(woken: &mut Vec<u32>, reader: Option<u32>)
+    requires { vec_len woken.old + count_of reader ≤ vec_capacity woken.old }
+    ensures items { woken.new.items ≡ woken.old.items ++ option_to_list reader }
+    ensures len { vec_len woken.new ≡ vec_len woken.old + count_of reader }
+    ensures capacity { vec_capacity woken.old ≤ vec_capacity woken.new }
+{
+    match reader {
+        Some(number) => match woken.push(number) {
+            Ok(()) => {}
+            Err(_) => unreachable!(),
+        },
+        None => {}
+    }
+}
+
 impl Channels {
+    ghost use Rattle.std.specs.Prelude.{◌≢◌, ℕ};
+    ghost use Rattle.std.specs.FinMap as map;
+    ghost use Rattle.fm_base.specs.declared.path.ChanName as declared;
+    ghost use Rattle.fm_base.specs.Channels.{fresh, channel_of, Push, Pop, freed, shut, message_ports, all_shed};
+    ghost use Rattle.fm_chan.specs.Bodies.{chans_of};
+    ghost use Rattle.fm_chan.specs.Rooms.{HasRoom, KeepsRoom, KeepsOthersRoom};
+    ghost use Rattle.fm_chan.specs.Events.{is_outport, writer_number, chan_at, after_op, after_send, after_send_to};
+    ghost use Rattle.fm_chan.specs.Received.{got_at, brings, pops_at, waits_at};
+    ghost use Rattle.fm_chan.specs.Rest.{left_ports};
+    ghost use Rattle.fm_chan.specs.Woken.{waiting_reader, woken_of, Wakes, WakesAtEnd, WakesAll};
+
     /// No channels. Takes no memory.
     pub fn new(alloc: Global) -> Channels
-        ensures { chans_of result ≡ map.empty }
+        ensures channels { chans_of result ≡ map.empty }
+        ensures woken { woken_of result ≡ [] }
     {
         Channels {
             alloc,
             bodies: Map::new(alloc),
+            woken: Vec::new(alloc),
         }
     }
 
@@ -81,9 +113,11 @@ impl Channels {
     }
 
     fn add(&mut self, alloc: Global, name: ChanName, writers: u32) -> Result<(), NoMemory>
+        requires { map.get (chans_of self.old) name ≡ None }
         ensures ok { OnOk result (chans_of self.new ≡ map.insert (chans_of self.old) name (fresh writers)) }
         ensures err { OnErr result (self.new ≡ self.old) }
         ensures room { KeepsOthersRoom name self.old self.new }
+        ensures waking { Wakes self.old self.new }
     {
         let body = Body::new(alloc, writers)?;
         self.bodies.insert(name, body)?;
@@ -99,6 +133,7 @@ impl Channels {
         ensures outport { IfOk result (λ ends. ends.1 ≡ Writer name 0) }
         ensures err { OnErr result (self.new ≡ self.old) }
         ensures room { KeepsOthersRoom name self.old self.new }
+        ensures waking { Wakes self.old self.new }
     {
         let inport = Port::new(PortValue::Reader(name.copy(alloc)?));
         let outport = Port::new(PortValue::Writer(name.copy(alloc)?, 0));
@@ -121,6 +156,7 @@ impl Channels {
         ensures outports { IfOk result (λ ends. ends.1.items ≡ outports name writers) }
         ensures err { OnErr result (self.new ≡ self.old) }
         ensures room { KeepsOthersRoom name self.old self.new }
+        ensures waking { Wakes self.old self.new }
     {
         let inport = Port::new(PortValue::Reader(name.copy(alloc)?));
         let outports = outports(alloc, &name, writers)?;
@@ -135,25 +171,9 @@ impl Channels {
         ensures channels { chans_of self.new ≡ chans_of self.old }
         ensures ok { OnOk result (HasRoom self.new (channel_of port.now)) }
         ensures room { KeepsRoom self.old self.new }
+        ensures waking { Wakes self.old self.new }
     {
-        match self.bodies.get_mut(port.channel()) {
-            Some(body) => body.reserve(),
-            None => Ok(()),
-        }
-    }
-
-    fn put(&mut self, port: &Port, message: Message) -> Result<Option<Message>, (Message, NoMemory)>
-        ensures ok { OnOk result (chans_of self.new ≡ after_op port.now (Push 0 message) (chans_of self.old)) }
-        ensures spilt { IfOk result (λ o. ports_back o ≡ spills_at (Push 0 message) (chan_at port.now (chans_of self.old))) }
-        ensures back { IfErr result (λ e. e.0 ≡ message) }
-        ensures err { OnErr result (chans_of self.new ≡ chans_of self.old) }
-        ensures reserved { HasRoom self.old (channel_of port.now) → IsOk result }
-        ensures room { KeepsOthersRoom (channel_of port.now) self.old self.new }
-    {
-        match self.bodies.get_mut(port.channel()) {
-            Some(body) => body.put_last(message),
-            None => Ok(None),
-        }
+        reserve(&mut self.bodies, port.channel())
     }
 
     /// Puts a message last. Where the inport is gone, the message is discarded with the ports in it.
@@ -166,12 +186,31 @@ impl Channels {
         ensures err { OnErr result (chans_of self.new ≡ chans_of self.old) }
         ensures reserved { HasRoom self.old (channel_of port.now) → IsOk result }
         ensures room { KeepsOthersRoom (channel_of port.now) self.old self.new }
+        ensures waking { Wakes self.old self.new }
     {
-        match self.put(port, message)? {
-            Some(spilt) => self.discard_all(Discarding::of_message(self.alloc, spilt)),
-            None => {}
+        self.send_to(port.channel(), message)
+    }
+
+    /// Puts a message last in the channel of this name. It is for who owns an outport of the channel and
+    /// can't show it, since it goes away with the message. The rest is as in `send`.
+    pub fn send_to(&mut self, name: &ChanName, message: Message) -> Result<(), (Message, NoMemory)>
+        ensures ok { OnOk result (chans_of self.new ≡ after_send_to name.now message (chans_of self.old)) }
+        ensures back { IfErr result (λ e. e.0 ≡ message) }
+        ensures err { OnErr result (chans_of self.new ≡ chans_of self.old) }
+        ensures reserved { HasRoom self.old name.now → IsOk result }
+        ensures room { KeepsOthersRoom name.now self.old self.new }
+        ensures waking { Wakes self.old self.new }
+    {
+        match put(&mut self.bodies, name, message)? {
+            Put::Done(reader) => {
+                wake(&mut self.woken, reader);
+                Ok(())
+            }
+            Put::Spilt(spilt) => {
+                self.discard_all(Discarding::of_message(self.alloc, spilt));
+                Ok(())
+            }
         }
-        Ok(())
     }
 
     /// The oldest message, which leaves the queue, where no item of it has more elements than its
@@ -183,27 +222,54 @@ impl Channels {
         ensures channels { chans_of self.new ≡ after_op port.now (Pop limits.now) (chans_of self.old) }
         ensures unchanged { brings result ≡ false → chans_of self.new ≡ chans_of self.old }
         ensures room { KeepsRoom self.old self.new }
+        ensures waking { Wakes self.old self.new }
     {
-        match self.bodies.get_mut(port.channel()) {
-            Some(body) => body.receive(limits),
-            None => Got::Wait,
-        }
+        receive(&mut self.bodies, port.channel(), limits)
+    }
+
+    /// Notes that the process of this number waits for a message of the channel of this name, in place
+    /// of one that was noted there before, which is woken. After want of memory nothing is noted.
+    pub fn wait(&mut self, name: &ChanName, number: u32) -> Result<(), NoMemory>
+        requires there { map.contains_key (chans_of self.old) name.now ≡ true }
+        requires waits { pops_at (map.get (chans_of self.old) name.now) ≡ false }
+        ensures channels { chans_of self.new ≡ chans_of self.old }
+        ensures ok { OnOk result (waiting_reader self.new name.now ≡ Some number) }
+        ensures err { OnErr result ((c : declared.ChanName) → waiting_reader self.new c ≡ waiting_reader self.old c) }
+        ensures others { (c : declared.ChanName) → c ≢ name.now → waiting_reader self.new c ≡ waiting_reader self.old c }
+        ensures room { KeepsRoom self.old self.new }
+        ensures waking { WakesAll self.old self.new }
+    {
+        self.woken.reserve(self.bodies.len() + 1)?;
+        let before = note(&mut self.bodies, name, number);
+        wake(&mut self.woken, before);
+        Ok(())
+    }
+
+    /// Takes out the number of a process that was woken, or none where there is none.
+    pub fn next_woken(&mut self) -> Option<u32>
+        ensures woken { woken_of self.old ≡ woken_of self.new ++ option_to_list result }
+        ensures none { IfNone result (woken_of self.old ≡ []) }
+        ensures channels { chans_of self.new ≡ chans_of self.old }
+        ensures readers { (c : declared.ChanName) → waiting_reader self.new c ≡ waiting_reader self.old c }
+        ensures room { KeepsRoom self.old self.new }
+    {
+        self.woken.pop()
     }
 
     fn shut(&mut self, port: Port, discarding: &mut Discarding)
         ensures channels { chans_of self.new ≡ shut port (chans_of self.old) }
         ensures ports { left_ports discarding.new ≡ freed port (chan_at port (chans_of self.old)) ++ left_ports discarding.old }
         ensures room { KeepsRoom self.old self.new }
+        ensures waking { WakesAtEnd self.old self.new }
     {
-        match self.bodies.get_mut(port.channel()) {
-            Some(body) => body.shut(&port, discarding),
-            None => {}
-        }
+        let reader = shut(&mut self.bodies, port, discarding);
+        wake(&mut self.woken, reader);
     }
 
     fn discard_all(&mut self, mut discarding: Discarding)
         ensures channels { chans_of self.new ≡ all_shed (left_ports discarding) (chans_of self.old) }
         ensures room { KeepsRoom self.old self.new }
+        ensures waking { WakesAtEnd self.old self.new }
     {
         'ports: while let Some(port) = discarding.next() {
             self.shut(port, &mut discarding);
@@ -215,6 +281,7 @@ impl Channels {
         requires { is_outport port ≡ true }
         ensures channels { chans_of self.new ≡ shut port (chans_of self.old) }
         ensures room { KeepsRoom self.old self.new }
+        ensures waking { Wakes self.old self.new }
     {
         let mut nothing = Discarding::new(self.alloc);
         self.shut(port, &mut nothing);
@@ -225,6 +292,7 @@ impl Channels {
     pub fn discard(&mut self, port: Port)
         ensures channels { chans_of self.new ≡ all_shed (port ∷ []) (chans_of self.old) }
         ensures room { KeepsRoom self.old self.new }
+        ensures waking { Wakes self.old self.new }
     {
         let mut discarding = Discarding::new(self.alloc);
         self.shut(port, &mut discarding);
@@ -235,6 +303,7 @@ impl Channels {
     pub fn discard_message(&mut self, message: Message)
         ensures channels { chans_of self.new ≡ all_shed (message_ports message) (chans_of self.old) }
         ensures room { KeepsRoom self.old self.new }
+        ensures waking { Wakes self.old self.new }
     {
         self.discard_all(Discarding::of_message(self.alloc, message));
     }

@@ -1,6 +1,8 @@
 use Rattle.std.proofs.Common.{◌∙◌}
-use Rattle.fm_chan.proofs.Maps.{contains-chans_of}
+use Rattle.fm_chan.specs.Bodies.{chans_of}
+use Rattle.fm_chan.proofs.Maps.{contains-chans_in}
 use Rattle.fm_chan.proofs.channels.Channels.contains.Goals as goal
 
 pub returns : goal.returns
-returns c = c.contains_key.ensures ∙ contains-chans_of c.args.self.now c.args.name.now
+unfolding chans_of
+returns c = c.contains_key.ensures ∙ contains-chans_in c.args.self.now.bodies c.args.name.now

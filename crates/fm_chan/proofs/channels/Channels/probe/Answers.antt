@@ -1,10 +1,13 @@
 use Rattle.std.proofs.Common.{Some, None, not, ap, sym, ◌∙◌}
+use Rattle.fm_chan.specs.Bodies.{chans_of}
 use Rattle.fm_chan.specs.Received.{waits_at}
-use Rattle.fm_chan.proofs.Maps.{chan_found}
+use Rattle.fm_chan.proofs.Maps.{found_of}
 use Rattle.fm_chan.proofs.channels.Channels.probe.Goals as goal
 
 pub returns-in-Some : goal.returns-in-Some
-returns-in-Some c = ap not c.is_ready.ensures ∙ ap waits_at (sym (chan_found c.args.self.now c.args.self.now c.channel.result.now c.args.port.now c.channel.ensures (Some c.in-Some.body.now) c.in-Some.ensures))
+unfolding chans_of
+returns-in-Some c = ap not c.is_ready.ensures ∙ ap waits_at (sym (found_of c.args.self.now.bodies c.channel.result.now c.args.port.now c.channel.ensures (Some c.in-Some.body.now) c.in-Some.ensures))
 
 pub returns-in-None : goal.returns-in-None
-returns-in-None c = ap waits_at (sym (chan_found c.args.self.now c.args.self.now c.channel.result.now c.args.port.now c.channel.ensures None c.in-None.ensures))
+unfolding chans_of
+returns-in-None c = ap waits_at (sym (found_of c.args.self.now.bodies c.channel.result.now c.args.port.now c.channel.ensures None c.in-None.ensures))

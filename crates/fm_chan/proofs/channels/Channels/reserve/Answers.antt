@@ -1,15 +1,22 @@
+use Rattle.std.proofs.Common.{refl, subst}
 use Rattle.std.proofs.lemmas.Result.{on_ok_weaker}
-use Rattle.fm_chan.proofs.Maps.{unchanged_at, room_is, keep_room, room_absent}
+use Rattle.fm_chan.specs.Bodies.{chans_of}
+use Rattle.fm_chan.specs.Readers.{IsReadyAt}
+use Rattle.fm_chan.specs.Rooms.{HasRoom, HasRoomIn}
+use Rattle.fm_chan.proofs.Waking.{none_woken}
 use Rattle.fm_chan.proofs.channels.Channels.reserve.Goals as goal
 
-pub returns-in-Some-clause-channels : goal.returns-in-Some-clause-channels
-returns-in-Some-clause-channels c = unchanged_at c.args.self.now (record { alloc = c.args.self.now.alloc; bodies = c.get_mut.follows.lender c.reserve.new.self }) c.channel.result.now c.args.port.now c.channel.ensures c.in-Some.body.now c.reserve.new.self c.in-Some.ensures.value (c.get_mut.follows.holds c.reserve.new.self) c.reserve.ensures.chan
+pub returns-clause-channels : goal.returns-clause-channels
+unfolding chans_of
+returns-clause-channels c = c.reserve.ensures.channels
 
-pub returns-in-Some-clause-ok : goal.returns-in-Some-clause-ok
-returns-in-Some-clause-ok c = on_ok_weaker c.reserve.result (room_is c.args.self.now (record { alloc = c.args.self.now.alloc; bodies = c.get_mut.follows.lender c.reserve.new.self }) c.channel.result.now c.args.port.now c.channel.ensures c.in-Some.body.now c.reserve.new.self c.in-Some.ensures.value (c.get_mut.follows.holds c.reserve.new.self)) c.reserve.ensures.ok
+pub returns-clause-ok : goal.returns-clause-ok
+unfolding HasRoom
+returns-clause-ok c = on_ok_weaker c.reserve.result (subst (HasRoomIn c.reserve.new.bodies) c.channel.ensures) c.reserve.ensures.ok
 
-pub returns-in-Some-clause-room : goal.returns-in-Some-clause-room
-returns-in-Some-clause-room c = keep_room c.args.self.now (record { alloc = c.args.self.now.alloc; bodies = c.get_mut.follows.lender c.reserve.new.self }) c.channel.result.now c.args.port.now c.channel.ensures c.in-Some.body.now c.reserve.new.self c.in-Some.ensures.value (c.get_mut.follows.holds c.reserve.new.self) c.reserve.ensures.room
+pub returns-clause-room : goal.returns-clause-room
+unfolding HasRoom
+returns-clause-room c = c.reserve.ensures.room
 
-pub returns-in-None-clause-ok : goal.returns-in-None-clause-ok
-returns-in-None-clause-ok c = room_absent c.args.self.now (record { alloc = c.args.self.now.alloc; bodies = c.get_mut.follows.lender-at-none }) c.channel.result.now c.args.port.now c.channel.ensures c.get_mut.follows.holds-at-none c.in-None.ensures.value
+pub returns-clause-waking : goal.returns-clause-waking
+returns-clause-waking c = none_woken IsReadyAt _ _ c.reserve.ensures.readers refl

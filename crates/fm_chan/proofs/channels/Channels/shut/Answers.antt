@@ -1,17 +1,20 @@
-use Rattle.fm_chan.proofs.Maps.{shut_there, freed_there, keep_room, shut_absent, freed_absent}
+use Rattle.fm_chan.specs.Bodies.{chans_of}
+use Rattle.fm_chan.specs.Rooms.{HasRoom}
+use Rattle.fm_chan.specs.Readers.{IsClosedAt}
+use Rattle.fm_chan.proofs.Waking.{one_woken}
 use Rattle.fm_chan.proofs.channels.Channels.shut.Goals as goal
 
-pub returns-in-Some-clause-channels : goal.returns-in-Some-clause-channels
-returns-in-Some-clause-channels c = shut_there c.args.self.now (record { alloc = c.args.self.now.alloc; bodies = c.get_mut.follows.lender c.shut.new.self }) c.channel.result.now c.args.port c.channel.ensures c.in-Some.body.now c.shut.new.self c.in-Some.ensures.value (c.get_mut.follows.holds c.shut.new.self) c.shut.ensures.body
-
-pub returns-in-Some-clause-ports : goal.returns-in-Some-clause-ports
-returns-in-Some-clause-ports c = freed_there c.args.self.now (record { alloc = c.args.self.now.alloc; bodies = c.get_mut.follows.lender c.shut.new.self }) c.channel.result.now c.args.port c.channel.ensures c.in-Some.body.now c.shut.new.self c.in-Some.ensures.value (c.get_mut.follows.holds c.shut.new.self) _ _ c.shut.ensures.ports
-
-pub returns-in-Some-clause-room : goal.returns-in-Some-clause-room
-returns-in-Some-clause-room c = keep_room c.args.self.now (record { alloc = c.args.self.now.alloc; bodies = c.get_mut.follows.lender c.shut.new.self }) c.channel.result.now c.args.port c.channel.ensures c.in-Some.body.now c.shut.new.self c.in-Some.ensures.value (c.get_mut.follows.holds c.shut.new.self) c.shut.ensures.room
-
 pub returns-clause-channels : goal.returns-clause-channels
-returns-clause-channels c = shut_absent c.args.self.now (record { alloc = c.args.self.now.alloc; bodies = c.get_mut.follows.lender-at-none }) c.channel.result.now c.args.port c.channel.ensures c.get_mut.follows.holds-at-none c.in-None.ensures.value
+unfolding chans_of
+returns-clause-channels c = c.shut-reader.ensures.channels
 
 pub returns-clause-ports : goal.returns-clause-ports
-returns-clause-ports c = freed_absent c.args.self.now (record { alloc = c.args.self.now.alloc; bodies = c.get_mut.follows.lender-at-none }) c.channel.result.now c.args.port c.channel.ensures c.get_mut.follows.holds-at-none c.in-None.ensures.value _
+unfolding chans_of
+returns-clause-ports c = c.shut-reader.ensures.ports
+
+pub returns-clause-room : goal.returns-clause-room
+unfolding HasRoom
+returns-clause-room c = c.shut-reader.ensures.room
+
+pub returns-clause-waking : goal.returns-clause-waking
+returns-clause-waking c = one_woken IsClosedAt _ _ c.shut-reader.result c.shut-reader.ensures.readers c.wake.ensures.items
