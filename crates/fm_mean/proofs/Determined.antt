@@ -53,7 +53,7 @@ use Rattle.fm_mean.specs.declared.place.Span.{Span}
 use Rattle.fm_mean.specs.Places.{word_at, port_at, emptied_place}
 use Rattle.fm_mean.specs.Evaluate.{Scope, Reference, Element, Call, Built, Unknown, function_by, intrinsic_or, is_array, array_or, reference_of}
 use Rattle.fm_mean.specs.Process.{Start, Frame, Execution, Kid, Phase, Running, Joining, Ended, Faulted, Proc}
-use Rattle.fm_mean.specs.Placement.{Seat}
+use Rattle.fm_map.specs.Placement.{Seat}
 use Rattle.fm_mean.specs.Calls.{child_of, ended_frames}
 use Rattle.fm_mean.specs.Actions as action
 use Rattle.fm_mean.specs.Actions.{Event, Fail, Make, Send, Receive, Probe, Begin, Join, End, Action, Rest, Own, Meets, at_entry, gone_on, Receiving, Loop, Counted, While, NoLoop, scalar_place, action_in, scope_of}

@@ -33,7 +33,7 @@ use Rattle.fm_mean.specs.declared.place.Span.{Span}
 use Rattle.fm_mean.specs.Places.{word_at, port_at, written, put_port, emptied_place, stored_all, placed_all, message_from, Returned, without_theirs, returned}
 use Rattle.fm_mean.specs.Evaluate.{Scope, Reference, Element, Call, Built, Unknown, reference_of, refs_in_all, actuals_of}
 use Rattle.fm_mean.specs.Process.{Start, Frame, Execution, framed, Kid, Phase, Running, Joining, Ended, Faulted, Proc, started_ports, frames_ports, is_ended, held, emptied}
-use Rattle.fm_mean.specs.Placement.{Seat}
+use Rattle.fm_map.specs.Placement.{Seat}
 use Rattle.fm_mean.specs.Calls.{entered, backs_of, new_frame, child_of}
 use Rattle.fm_mean.specs.Actions as action
 use Rattle.fm_mean.specs.Actions.{Event, Fail, Make, Send, Receive, Probe, Begin, Join, End, Action, Rest, Own, Meets, at_entry, behind, goes_to, gone_on, Receiving, Loop, Counted, While, NoLoop, scalar_place, action_in}

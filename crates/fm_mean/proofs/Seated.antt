@@ -31,12 +31,11 @@ use Rattle.fm_base.specs.declared.path.ChanName.{ChanName}
 use Rattle.fm_base.specs.declared.schedule.Machine.{Machine}
 use Rattle.fm_base.specs.declared.fault.Fault.TheVariants.{BadMachine}
 use Rattle.std.specs.Prelude.{◌-ℤ◌, int_le, nat_lt, ◌&&◌, ◌+◌}
-use Rattle.fm_values.specs.Trips.{natural}
 use Rattle.fm_tree.specs.Tree.{trees_from}
 use Rattle.fm_tree.specs.declared.statement.Where.TheVariants as put_at
 use Rattle.fm_net.specs.Machine.{Ask}
 use Rattle.fm_net.specs.Typed.{IsTypedAsk, IsTypedLanguage}
-use Rattle.fm_mean.specs.Placement.{Seat, product, shape_of, place_in, at_node, part_of, fitted}
+use Rattle.fm_map.specs.Placement.{Seat, product, shape_of, node_of, at_node, part_of, at_first, fitted}
 use Rattle.fm_mean.proofs.Sorts.{parts}
 use Rattle.fm_mean.specs.Calls.{child_of, ended_frames}
 use Rattle.fm_mean.specs.Actions as action
@@ -71,17 +70,13 @@ the_seat a b e = cc
 the_pair : (a b : List Actual × Seat) → ◌≡◌ {A = Result (List Actual × Seat) Fault} (Ok a) (Ok b) → a ≡ b
 the_pair a b e = cc
 
-node_first : (m : Machine) (o : Option ℕ) (t : Seat) → at_node m o ≡ Ok t → t.1 ≡ t.0.first
-node_first m None t e = absurd (cc e)
-node_first m (Some n) t e = subst (λ (t : Seat). t.1 ≡ t.0.first) (the_seat (record { first = m.first + n; count = 1 }, m.first + n) t e) refl
+node_first : (o : Option ℕ) (t : Seat) → at_node o ≡ Ok t → t.1 ≡ t.0.first
+node_first None t e = absurd (cc e)
+node_first (Some n) t e = subst (λ (t : Seat). t.1 ≡ t.0.first) (the_seat (record { first = n; count = 1 }, n) t e) refl
 
-part_first : (m : Machine) (lo hi : ℤ) (t : Seat) → part_of m lo hi ≡ Ok t → t.1 ≡ t.0.first
-part_first m lo hi t e = go (int_le (pos 1) lo && (int_le lo hi && int_le hi (pos m.count))) e
-  where
-    go : (b : Bool)
-        → cond {A = Result Seat Fault} b (Ok (record { first = m.first + natural (lo -ℤ pos 1); count = suc (natural (hi -ℤ lo)) }, m.first + natural (lo -ℤ pos 1))) (Err BadMachine) ≡ Ok t → t.1 ≡ t.0.first
-    go true e' = subst (λ (t : Seat). t.1 ≡ t.0.first) (the_seat (record { first = m.first + natural (lo -ℤ pos 1); count = suc (natural (hi -ℤ lo)) }, m.first + natural (lo -ℤ pos 1)) t e') refl
-    go false e' = absurd (cc e')
+part_first : (o : Option Machine) (t : Seat) → at_first o ≡ Ok t → t.1 ≡ t.0.first
+part_first None t e = absurd (cc e)
+part_first (Some m) t e = subst (λ (t : Seat). t.1 ≡ t.0.first) (the_seat (m, m.first) t e) refl
 
 fitted_first : (es : List ℕ) (s t : Seat) → s.1 ≡ s.0.first → fitted es s ≡ Ok t → t.1 ≡ t.0.first
 fitted_first [] s t h e = subst (λ (t : Seat). t.1 ≡ t.0.first) (the_seat s t e) h
@@ -95,11 +90,11 @@ seat_first : (s : Scope) (m : Machine) (here : Seat) (w : Option Where) (n : ℕ
 seat_first s m here None n t h e = subst (λ (t : Seat). t.1 ≡ t.0.first) (the_seat here t e) h
 seat_first s m here (Some (put_at.Location ks)) n t h e =
     let a = parts (numbers_of s (trees_from ks) n) _ t e in
-    node_first m (place_in (shape_of s.unit.names.extents m) a.0) t a.2
+    node_first (node_of m (shape_of s.unit.names.extents m) a.0) t a.2
 seat_first s m here (Some (put_at.Submachine lo hi)) n t h e =
     let a = parts (number_of s lo n) _ t e in
     let b = parts (number_of s hi (n + refs_in s lo)) _ t a.2 in
-    part_first m a.0 b.0 t b.2
+    part_first (part_of m a.0 b.0) t b.2
 
 -- ---- lists
 

@@ -37,7 +37,7 @@ use Rattle.fm_mean.specs.declared.place.Span.{Span}
 use Rattle.fm_mean.specs.Places.{items_at, ports_in, word_at, port_at, written, emptied_place, stored_all, placed_all, message_from, Returned, returned}
 use Rattle.fm_mean.specs.Evaluate.{value_of, Scope, Reference, Element, Call, Built, Unknown, reference_of, refs_in_all, refs_in_var, place_of, places_of, actuals_of}
 use Rattle.fm_mean.specs.Process.{Start, Frame, Execution, framed, Kid, Phase, Running, Joining, Ended, Faulted, Proc}
-use Rattle.fm_mean.specs.Placement.{Seat, fitted}
+use Rattle.fm_map.specs.Placement.{Seat, fitted}
 use Rattle.fm_mean.specs.Calls.{entered, backs_of, new_frame, child_of, variables_in, ended_frames}
 use Rattle.fm_mean.specs.Actions as action
 use Rattle.fm_mean.specs.Actions.{Event, Fail, Make, Send, Receive, Probe, Begin, Join, End, Action, Rest, Own, Meets, at_entry, behind, goes_to, gone_on, Receiving, Loop, Counted, While, NoLoop, scalar_place, action_in, scope_of, next_reference, elements_from, elements_of}

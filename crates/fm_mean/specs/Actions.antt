@@ -41,7 +41,7 @@ use Rattle.fm_mean.specs.declared.place.Span.{Span}
 use Rattle.fm_mean.specs.Places.{word_at, port_at, written, put_port, emptied_place, Returned, returned}
 use Rattle.fm_mean.specs.Evaluate.{Scope, Reference, Element, Call, Built, Unknown, reference_of, refs_in, refs_in_all, refs_in_var, value_of, number_of, numbers_of, single, whole, place_of, places_of, actuals_of, printed_all}
 use Rattle.fm_mean.specs.Process.{Frame, Execution, Kid, Phase, Running, Joining, Ended, Faulted, Proc, framed, started_ports, frame_ports}
-use Rattle.fm_mean.specs.Placement.{Seat, located, part_of, fitted}
+use Rattle.fm_map.specs.Placement.{Seat, located, parted, fitted}
 use Rattle.fm_mean.specs.Calls.{entered, backs_of, back_words, new_frame}
 
 -- what a process meets others by, or what changes its phase. All operands are evaluated; places are those of
@@ -297,7 +297,7 @@ merger_places s p qs = place_of s p 0 >>= λ i. places_of s qs (refs_in_var s p)
 abbrev pub seat_at : Scope → Machine → Seat → Option Where → ℕ → Result Seat Fault
 seat_at s m here None n = Ok here
 seat_at s m here (Some (put_at.Location ks)) n = numbers_of s (trees_from ks) n >>= λ xs. located s.unit.names.extents m xs
-seat_at s m here (Some (put_at.Submachine lo hi)) n = number_of s lo n >>= λ a. number_of s hi (n + refs_in s lo) >>= λ b. part_of m a b
+seat_at s m here (Some (put_at.Submachine lo hi)) n = number_of s lo n >>= λ a. number_of s hi (n + refs_in s lo) >>= λ b. parted m a b
 
 -- the start comes last among those of the block
 abbrev pub pended : Execution → Point → Frame → List Frame → (number : ℕ) → ProgramUnit → List Back → Seat → Returned → Action

@@ -4,7 +4,6 @@ pub mod Names
 pub mod Places
 pub mod Process
 pub mod Evaluate
-pub mod Placement
 pub mod Calls
 pub mod Actions
 pub mod Steps
@@ -13,8 +12,10 @@ pub mod Fits
 pub mod Typing
 pub mod ValueTypes
 pub mod Seats
+pub mod Outports
+pub mod OutportKeys
+pub mod Holders
 pub mod Outcome
-pub mod Report
 pub mod Opening
 pub mod TypedTrees
 pub mod Standing

@@ -21,6 +21,7 @@ use Rattle.fm_mean.specs.declared.outcome.Shown.{Shown}
 use Rattle.fm_mean.specs.declared.outcome.Shown.TheVariants as shown
 use Rattle.fm_mean.specs.declared.outcome.ShownVariable.{ShownVariable}
 use Rattle.fm_mean.specs.declared.outcome.Wait.{Wait}
+use Rattle.fm_mean.specs.Holders.{holders_of}
 use Rattle.fm_mean.specs.Names.{ProgramUnit, Point, unit_at, point_at, line_of}
 use Rattle.fm_mean.specs.Places.{words_in, ports_in}
 use Rattle.fm_mean.specs.Process.{Frame, Phase, Running, Joining, Ended, Faulted, Proc, has_ended}
@@ -115,13 +116,15 @@ abbrev pub shown_all : Program → Option Proc → List ShownVariable
 shown_all p None = []
 shown_all p (Some x) = own_variables p x.execution.frames
 
--- what a state shows that was reached at this cost: output, faults and waits in path order, and main's variables
+-- what a state shows that was reached at this cost: output, faults and waits in path order, main's variables, and who holds
+-- the open writers
 abbrev pub outcome_of : Program → (used : ℕ) → State Proc → Outcome
 outcome_of p used s = record {
   lines = flat_map lines_at (entries s.procs);
   variables = shown_all p (get s.procs []);
   faults = flat_map fault_at (entries s.procs);
   waits = flat_map (wait_at p s.procs) (entries s.procs);
+  holders = holders_of s;
   main_ended = ended_at (get s.procs []);
   used = used;
 }

@@ -17,7 +17,7 @@ use Rattle.fm_mean.specs.Names.{ProgramUnit, unit_at, main_number, all_unset}
 use Rattle.fm_mean.specs.declared.place.Back.{Back}
 use Rattle.fm_mean.specs.declared.place.Span.{Span}
 use Rattle.fm_mean.specs.Places.{message_from, written, stored_all, placed_all, Returned, all_back, without_theirs}
-use Rattle.fm_mean.specs.Placement.{product}
+use Rattle.fm_map.specs.Placement.{product}
 use Rattle.fm_mean.specs.Process.{Start, Frame, Execution, Kid, Running, Joining, Ended, Faulted, Proc, with_frames, started_ports, frames_ports, has_ended, held, emptied}
 use Rattle.fm_mean.specs.Calls.{back_words, new_frame, child_of, ended_frames}
 use Rattle.fm_mean.specs.Actions.{Event, Fail, Make, Send, Receive, Probe, Begin, Join, End, Action, Rest, Own, Meets, at_entry, message_words, gone_on, action_of}

@@ -3,6 +3,7 @@
 #![tactic(auto)]
 
 mod outcome;
+mod outport;
 mod place;
 
 ghost use Rattle.std.specs.Prelude.{◌≡◌, ◌≤◌, ℕ, Option, Some, List, [], Ok, slice_get};
@@ -34,7 +35,8 @@ ghost use Rattle.fm_mean.specs.Seats.{AreOnFirstNodes};
 ghost use Rattle.fm_mean.specs.Steps.{first, language, step};
 ghost use Rattle.fm_mean.specs.CallsOpen.{OpensWhole, ReferenceOpensWhole};
 
-pub use outcome::{At, FaultAt, Outcome, OutputLine, Shown, ShownVariable, Wait};
+pub use outcome::{At, FaultAt, Holder, Outcome, OutputLine, Shown, ShownVariable, Wait};
+pub use outport::Outport;
 pub use place::{Actual, Back, Span};
 
 /// Along every schedule of a program each open port stands in one place: in a variable of one process, with a start that

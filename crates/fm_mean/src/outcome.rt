@@ -62,7 +62,21 @@ pub struct Wait {
     pub at: At,
 }
 
-/// What a run shows when it has ended. All that names a process stands in path order.
+/// An open writer of a channel, and the process that holds it.
+///
+/// A process holds the outports in its variables and in its starts that wait. What an ended process
+/// keeps to give back is held by the process that started it. An outport in a message is held by nobody.
+#[derive(Debug, PartialEq, Eq, Drop)]
+pub struct Holder {
+    /// The channel.
+    pub channel: ChanName,
+    /// The number of the writer.
+    pub writer: u32,
+    /// The process.
+    pub path: Path,
+}
+
+/// What a run shows when it has ended. Lines, faults and waits stand in path order.
 #[derive(Debug, PartialEq, Eq, Drop)]
 pub struct Outcome {
     /// The output, process after process.
@@ -73,6 +87,8 @@ pub struct Outcome {
     pub faults: Seq<FaultAt>,
     /// The processes that wait.
     pub waits: Seq<Wait>,
+    /// Who holds the open writers, in order of the maker's path, of the channel's number, and of the writer.
+    pub holders: Seq<Holder>,
     /// Whether main has ended.
     pub main_ended: bool,
     /// The cost of the run, in turns.
