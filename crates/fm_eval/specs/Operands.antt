@@ -9,7 +9,7 @@ use Rattle.fm_symbols.specs.declared.names.Variable.{Variable}
 use Rattle.fm_values.specs.Places.{element_place}
 use Rattle.fm_mean.specs.Operands.{◌>>=◌}
 use Rattle.fm_mean.specs.Evaluate.{Scope, numbers_of}
-use Rattle.fm_mean.specs.Placement.{Seat, fitted}
+use Rattle.fm_map.specs.Placement.{Seat, fitted}
 use Rattle.fm_mean.specs.Actions.{seat_at}
 
 -- the place of an element, all of whose subscripts are evaluated before one is tested

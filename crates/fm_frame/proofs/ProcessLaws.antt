@@ -13,7 +13,7 @@ use Rattle.fm_symbols.specs.declared.names.Variable.{Variable}
 use Rattle.fm_rules.specs.declared.program.Program.{Program}
 use Rattle.fm_rules.specs.Program as rules
 use Rattle.fm_mean.specs.Names.{ProgramUnit, unit_at, all_unset}
-use Rattle.fm_mean.specs.Placement.{product}
+use Rattle.fm_map.specs.Placement.{product}
 use Rattle.fm_mean.specs.Calls.{new_frame, variables_in}
 use Rattle.fm_mean.specs.Steps.{nodes_of, main_in, main_by, first_proc}
 use Rattle.fm_mean.specs.Steps as mean

@@ -13,7 +13,7 @@ use Rattle.fm_mean.specs.declared.place.Actual.{Actual}
 use Rattle.fm_mean.specs.declared.place.Span.{Span}
 use Rattle.fm_mean.specs.Actions.{channel_places, seat_at, sends, sent, two_places}
 use Rattle.fm_mean.specs.Evaluate.{Scope, actuals_of, place_of, refs_in_all, refs_in_var}
-use Rattle.fm_mean.specs.Placement.{Seat, fitted}
+use Rattle.fm_map.specs.Placement.{Seat, fitted}
 use Rattle.fm_eval.specs.declared.failure.Failure.{Failure}
 use Rattle.fm_eval.specs.declared.failure.Failure.TheVariants as failure
 use Rattle.fm_eval.specs.Outcomes.{IsFailure}

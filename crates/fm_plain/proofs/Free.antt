@@ -20,7 +20,7 @@ use Rattle.fm_tree.specs.Tree.{Tree}
 use Rattle.fm_mean.specs.Names.{ProgramUnit, Point, unit_at}
 use Rattle.fm_mean.specs.Evaluate.{Scope, Reference, Element, Call, Built, Unknown}
 use Rattle.fm_mean.specs.Process.{Frame, Execution, Phase, Running, Joining, Ended, Faulted, Proc}
-use Rattle.fm_mean.specs.Placement.{Seat}
+use Rattle.fm_map.specs.Placement.{Seat}
 use Rattle.fm_mean.specs.Actions.{Event, Fail, Make, Send, Receive, Probe, Begin, Join, End, Action, Rest, Own, Meets, assigns, prints, tests, loops, adds, loop_turns, calls, returns, sends, sent, closes, closed, moves, probes, probes_at, makes, merges, starts_one, refers, process_calls, action_in, action_of, action_at, action_by, point_action, next_reference, running, joining}
 use Rattle.fm_mean.specs.Steps.{ask_event, ask_for}
 use Rattle.fm_mean.specs.Outcome.{need_in, need_of}

@@ -11,7 +11,7 @@ use Rattle.fm_mean.specs.Names.{Point, ProgramUnit, unit_at}
 use Rattle.fm_mean.specs.Calls.{variables_in}
 use Rattle.fm_mean.specs.Fits.{variables_of}
 use Rattle.fm_mean.specs.Places.{Returned}
-use Rattle.fm_mean.specs.Placement.{Seat}
+use Rattle.fm_map.specs.Placement.{Seat}
 use Rattle.fm_mean.specs.Process as mean
 use Rattle.fm_mean.specs.Process.{Execution, framed}
 use Rattle.fm_mean.specs.declared.place.Back.{Back}

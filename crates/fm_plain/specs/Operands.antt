@@ -12,7 +12,7 @@ use Rattle.fm_mean.specs.declared.place.Actual.{Actual}
 use Rattle.fm_mean.specs.declared.place.Span.{Span}
 use Rattle.fm_mean.specs.Actions.{seat_at}
 use Rattle.fm_mean.specs.Evaluate.{Scope, actuals_of, place_of, refs_in_all, refs_in_var, value_of}
-use Rattle.fm_mean.specs.Placement.{Seat, fitted}
+use Rattle.fm_map.specs.Placement.{Seat, fitted}
 
 -- of an assignment
 abbrev pub target_and_value : Scope → Var → Tree → Result (Span × Value) Fault

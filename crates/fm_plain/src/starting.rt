@@ -7,7 +7,7 @@ ghost use Rattle.fm_mean.specs.Actions.{arguments_in, pended, process_calls, sea
 ghost use Rattle.fm_mean.specs.Calls.{backs_of, entered};
 ghost use Rattle.fm_mean.specs.Evaluate.{actuals_of, refs_in_all};
 ghost use Rattle.fm_mean.specs.Names.{unit_named};
-ghost use Rattle.fm_mean.specs.Placement.{fitted};
+ghost use Rattle.fm_map.specs.Placement.{fitted};
 ghost use Rattle.fm_frame.specs.Units.{unit_of};
 ghost use Rattle.fm_eval.specs.Outcomes.{IsDone};
 ghost use Rattle.fm_plain.specs.Operands.{arguments_and_seat};

@@ -1,5 +1,5 @@
 use Rattle.std.proofs.Common.{rules}
-use Rattle.fm_mean.specs.Placement.{product}
+use Rattle.fm_map.specs.Placement.{product}
 use Rattle.fm_eval.proofs.Seating.{product_goes}
 use Rattle.fm_eval.proofs.seats.product.Goals as goal
 

@@ -1,5 +1,5 @@
 use Rattle.std.proofs.Common.{◌≡◌, ◌*◌, drop}
-use Rattle.fm_mean.specs.Placement.{product}
+use Rattle.fm_map.specs.Placement.{product}
 use Rattle.fm_eval.proofs.seats.product.Given as goal
 
 abbrev pub invariant-extents : goal.invariant-extents

@@ -1,5 +1,5 @@
 use Rattle.std.proofs.Common.{arith}
-use Rattle.fm_mean.specs.Placement.{product}
+use Rattle.fm_map.specs.Placement.{product}
 use Rattle.fm_frame.proofs.ProcessLaws.{more_nodes, all_nodes}
 use Rattle.fm_frame.proofs.process.nodes_of.Goals as goal
 
