@@ -3,7 +3,7 @@ use Rattle.std.proofs.Common.{◌≡◌, ℕ, List, ◌∷◌, ◌++◌, map, ap
 use Rattle.std.specs.Prelude.{codes}
 use Rattle.std.specs.List.{flat_map}
 use Rattle.std.proofs.lemmas.List.Folds.{flat_map-map}
-use Rattle.fm_mean.specs.Report.{spaced}
+use Rattle.fm_report.specs.Report.{spaced}
 
 spaced_from : {X : Type 0} (f : X → List ℕ) (x : X) (xs : List X) → spaced (map f (x ∷ xs)) ≡ f x ++ flat_map (λ y. 32 ∷ f y) xs
 spaced_from f x xs = ap (λ l. f x ++ l) (flat_map-map (λ u. codes " " ++ u) f xs)

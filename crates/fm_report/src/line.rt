@@ -1,10 +1,10 @@
 //! The lines of a report.
 
 ghost use Rattle.std.specs.Prelude.{◌≡◌, ◌++◌, List, ℕ, OnOk};
-ghost use Rattle.fm_mean.specs.Report.{ended_line, channel_or_null, truth_text, shown_text, variable_line, fault_line, at_text, wait_line, turns_line};
+ghost use Rattle.fm_report.specs.Report.{ended_line, channel_or_null, truth_text, shown_text, variable_line, fault_line, at_text, for_text, wait_line, cycle_line, turns_line};
 
-use crate::several::{HasText, push_spaced};
-use fm_base::{ChanName, NoMemory};
+use crate::several::{HasText, push_behind_blanks, push_spaced};
+use fm_base::{ChanName, NoMemory, Path, Seq};
 use fm_mean::{At, FaultAt, OutputLine, Shown, ShownVariable, Wait};
 use std::alloc::Global;
 
@@ -101,18 +101,63 @@ fn push_at(alloc: Global, out: &mut Vec<u8>, at: &At) -> Result<(), NoMemory>
     Ok(())
 }
 
-impl HasText for Wait {
-    ghost text = { wait_line };
+fn push_for(alloc: Global, out: &mut Vec<u8>, on: &Option<Path>) -> Result<(), NoMemory>
+    ensures { OnOk result (out.new.items ≡ out.old.items ++ for_text on.now) }
+{
+    match on {
+        Some(path) => out.extend_from_slice(&path.text(alloc)?)?,
+        None => out.extend_from_slice(b"nobody")?,
+    }
+    Ok(())
+}
+
+/// Puts the line of a wait last, with whom it is for.
+pub(crate) fn push_wait(
+    alloc: Global,
+    out: &mut Vec<u8>,
+    wait: &Wait,
+    on: &Option<Path>,
+) -> Result<(), NoMemory>
+    ensures { OnOk result (out.new.items ≡ out.old.items ++ wait_line wait.now on.now) }
+{
+    out.extend_from_slice(b"wait ")?;
+    out.extend_from_slice(&wait.path.text(alloc)?)?;
+    out.extend_from_slice(b" line ")?;
+    out.extend_from_slice(wait.line.0.to_string(alloc)?.as_bytes())?;
+    out.push(b' ')?;
+    push_at(alloc, out, &wait.at)?;
+    out.extend_from_slice(b" for ")?;
+    push_for(alloc, out, on)?;
+    out.push(b'\n')?;
+    Ok(())
+}
+
+impl HasText for Path {
+    ghost use Rattle.fm_base.specs.Texts.{path_text};
+
+    ghost text = { path_text };
 
     fn push_text(&self, alloc: Global, out: &mut Vec<u8>) -> Result<(), NoMemory> {
-        out.extend_from_slice(b"wait ")?;
-        out.extend_from_slice(&self.path.text(alloc)?)?;
-        out.extend_from_slice(b" line ")?;
-        out.extend_from_slice(self.line.0.to_string(alloc)?.as_bytes())?;
-        out.push(b' ')?;
-        push_at(alloc, out, &self.at)?;
-        out.push(b'\n')?;
+        out.extend_from_slice(&self.text(alloc)?)?;
         Ok(())
+    }
+}
+
+/// Puts the line of a cycle last.
+fn push_cycle(alloc: Global, out: &mut Vec<u8>, paths: &[Path]) -> Result<(), NoMemory>
+    ensures { OnOk result (out.new.items ≡ out.old.items ++ cycle_line paths.now) }
+{
+    out.extend_from_slice(b"cycle")?;
+    push_behind_blanks::<Path>(alloc, out, paths)?;
+    out.push(b'\n')?;
+    Ok(())
+}
+
+impl HasText for Seq<Path> {
+    ghost text = { cycle_line };
+
+    fn push_text(&self, alloc: Global, out: &mut Vec<u8>) -> Result<(), NoMemory> {
+        push_cycle(alloc, out, self.as_slice())
     }
 }
 

@@ -2,7 +2,7 @@
 
 ghost use Rattle.std.specs.Prelude.{◌≡◌, ◌++◌, ◌∷◌, List, ℕ, OnOk, map};
 ghost use Rattle.std.specs.List.{flat_map};
-ghost use Rattle.fm_mean.specs.Report.{spaced};
+ghost use Rattle.fm_report.specs.Report.{spaced};
 
 use fm_base::NoMemory;
 use std::alloc::Global;
@@ -30,7 +30,8 @@ pub(crate) fn push_each<T: HasText>(
     Ok(())
 }
 
-fn push_behind_blanks<T: HasText>(
+/// Puts their texts last, with a blank before each.
+pub(crate) fn push_behind_blanks<T: HasText>(
     alloc: Global,
     out: &mut Vec<u8>,
     items: &[T],

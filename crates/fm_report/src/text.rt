@@ -1,26 +1,49 @@
 //! The whole report.
 
-ghost use Rattle.std.specs.Prelude.{◌≡◌, IfOk};
-ghost use Rattle.fm_mean.specs.Report.{report_text};
+ghost use Rattle.std.specs.Prelude.{◌≡◌, ◌++◌, IfOk, OnOk, map};
+ghost use Rattle.std.specs.List.{flat_map};
+ghost use Rattle.fm_report.specs.Report.{report_text, wait_line};
+ghost use Rattle.fm_wait.specs.Waits.{waits_for};
 
-use crate::line::push_turns;
+use crate::line::{push_turns, push_wait};
 use crate::several::push_each;
-use fm_base::NoMemory;
-use fm_mean::{FaultAt, Outcome, OutputLine, ShownVariable, Wait};
+use fm_base::{NoMemory, Path, Seq};
+use fm_mean::{FaultAt, Outcome, OutputLine, ShownVariable};
+use fm_wait::waits;
 use std::alloc::Global;
 
+/// Puts the lines of the waits last.
+fn push_waits(
+    alloc: Global,
+    out: &mut Vec<u8>,
+    outcome: &Outcome,
+    on: &[Option<Path>],
+) -> Result<(), NoMemory>
+    requires { on.now ≡ map (waits_for outcome.now) outcome.now.waits }
+    ensures { OnOk result (out.new.items ≡ out.old.items ++ flat_map (λ w. wait_line w (waits_for outcome.now w)) outcome.now.waits) }
+{
+    let waits = outcome.waits.as_slice();
+    'waits: for k in 0..waits.len() {
+        push_wait(alloc, out, &waits[k], &on[k])?;
+    }
+    Ok(())
+}
+
 /// The report of a run: the lines of output; where `vars` asks for them, the variables of main;
-/// the faults; the waits; and, with the variables, the cost in turns. Linear in the report.
+/// the faults; the waits, each with whom it is for; the cycles; and, with the variables, the cost in
+/// turns. In proportion to the report and the outcome, but for the look-ups of `waits`.
 pub fn report(alloc: Global, outcome: &Outcome, vars: bool) -> Result<Vec<u8>, NoMemory>
     ensures { IfOk result (λ v. v.items ≡ report_text vars outcome.now) }
 {
+    let found = waits(alloc, outcome)?;
     let mut out = Vec::new(alloc);
     push_each::<OutputLine>(alloc, &mut out, outcome.lines.as_slice())?;
     if vars {
         push_each::<ShownVariable>(alloc, &mut out, outcome.variables.as_slice())?;
     }
     push_each::<FaultAt>(alloc, &mut out, outcome.faults.as_slice())?;
-    push_each::<Wait>(alloc, &mut out, outcome.waits.as_slice())?;
+    push_waits(alloc, &mut out, outcome, found.on.as_slice())?;
+    push_each::<Seq<Path>>(alloc, &mut out, found.cycles.as_slice())?;
     if vars {
         push_turns(alloc, &mut out, outcome.used)?;
     }
