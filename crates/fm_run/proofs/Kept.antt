@@ -12,13 +12,13 @@ use Rattle.fm_maps.proofs.Inserts.{insert_here, insert_there, remove_there}
 use Rattle.fm_maps.proofs.Maps.{key_order}
 use Rattle.fm_net.specs.Owned.{count, one}
 use Rattle.fm_net.proofs.Counts.{count-cons, one_self}
-use Rattle.fm_run.specs.declared.ports.Outport.{Outport}
+use Rattle.fm_mean.specs.declared.outport.Outport.{Outport}
+use Rattle.fm_mean.specs.OutportKeys.{outport_exact, outport_total}
+use Rattle.fm_mean.specs.Outports.{outport_cmp}
 use Rattle.fm_run.specs.declared.ports.Ports.{Ports}
-use Rattle.fm_run.specs.Keys.{outport_exact, outport_total}
-use Rattle.fm_run.specs.Orderings.{outport_cmp}
 use Rattle.fm_run.specs.Readings.{kept}
 
-outport_order : IsKeyOrder outport_cmp
+pub outport_order : IsKeyOrder outport_cmp
 outport_order = key_order outport_total outport_exact
 
 pub kept_reader : (ports : Ports) (c : ChanName) → kept ports (Reader c) ≡ get (map_of channel_cmp ports.inports) c

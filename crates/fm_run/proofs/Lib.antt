@@ -21,5 +21,6 @@ pub mod Playing
 pub mod Listed
 pub mod Channels
 pub mod Owns
+pub mod Holding
 pub mod Firsts
 pub mod Following

@@ -1,9 +1,8 @@
-pub mod Orderings
-pub mod Keys
 pub mod Readings
 pub mod Held
 pub mod Goes
 pub mod Pieces
 pub mod Orders
 pub mod Shown
+pub mod Holding
 pub mod Runs

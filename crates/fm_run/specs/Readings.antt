@@ -9,9 +9,9 @@ use Rattle.fm_chan.specs.Bodies.{chans_of}
 use Rattle.fm_maps.specs.Map.{map_of, map_values}
 use Rattle.fm_net.specs.Machine.{Procs, State}
 use Rattle.fm_rules.specs.declared.program.Program.{Program}
+use Rattle.fm_mean.specs.Outports.{outport_cmp}
 use Rattle.fm_mean.specs.Process.{Proc}
 use Rattle.fm_frame.specs.Frames.{proc_of}
-use Rattle.fm_run.specs.Orderings.{outport_cmp}
 use Rattle.fm_run.specs.declared.ports.Ports.{Ports}
 use Rattle.fm_run.specs.declared.processes.Slot.{Slot}
 use Rattle.fm_run.specs.declared.processes.Processes.{Processes}

@@ -9,6 +9,7 @@
 //! new channel is new, follow from the laws of the meaning: no premise is on the program.
 #![tactic(auto)]
 
+mod holders;
 mod messages;
 mod orders;
 mod outcome;
@@ -22,8 +23,8 @@ mod run;
 mod shown;
 mod step;
 
-pub use pieces::{Piece, SLICE, make_piece};
-pub use ports::{Outport, Ports};
+pub use pieces::{Piece, make_piece};
+pub use ports::Ports;
 pub use processes::{Net, Processes, Slot};
 pub use ready::can_step;
 pub use run::{Ending, Run, run_program};

@@ -17,6 +17,7 @@ ghost use Rattle.fm_run.specs.Held.{AreLookedAt};
 ghost use Rattle.fm_run.specs.Readings.{proc_in, procs_of, state_of};
 ghost use Rattle.fm_run.specs.Shown.{line_of_frame};
 
+use crate::holders::holders;
 use crate::processes::{Net, Processes, Slot};
 use crate::ready::{child_path, kid_count};
 use crate::shown::shown_all;
@@ -253,8 +254,8 @@ impl Processes {
     }
 }
 
-/// What a run shows when it has ended at this cost in turns: output, faults and waits in path order, and
-/// the variables of main.
+/// What a run shows when it has ended at this cost in turns: output, faults and waits in path order, the
+/// variables of main, and who holds the open writers.
 pub(crate) fn outcome(
     alloc: Global,
     net: &Net,
@@ -271,11 +272,13 @@ pub(crate) fn outcome(
     } = net.processes.gathered(alloc, program)?;
     let main = Path::main(alloc);
     let variables = shown_all(alloc, program, net.processes.process(&main))?;
+    let holders = holders(alloc, net, program)?;
     Ok(Outcome {
         lines: Seq::from_vec(lines),
         variables: Seq::from_vec(variables),
         faults: Seq::from_vec(faults),
         waits: Seq::from_vec(waits),
+        holders: Seq::from_vec(holders),
         main_ended: net.processes.has_ended(&main),
         used,
     })

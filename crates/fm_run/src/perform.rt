@@ -225,18 +225,15 @@ fn message_cost(items: &[Item]) -> Result<u64, NoMemory>
     message_words(items)?.checked_add(1).ok_or(NoMemory)
 }
 
-// A message may hold the very outport by which it is sent, so it goes by another port of that name.
+// A message may hold the very outport by which it is sent, so it goes by the channel's name.
 fn put_message(
-    alloc: Global,
     channels: &mut Channels,
-    channel: ChanName,
+    channel: &ChanName,
     message: Message,
 ) -> Result<(), NoMemory>
-    ensures { OnOk result (chans_of channels.new ≡ sent_by (Writer channel 0) message (chans_of channels.old)) }
+    ensures { OnOk result (chans_of channels.new ≡ sent_by (Writer channel.now 0) message (chans_of channels.old)) }
 {
-    let mut others = Channels::new(alloc);
-    let (_, port) = others.make(alloc, channel)?;
-    match channels.send(&port, message) {
+    match channels.send_to(channel, message) {
         Ok(()) => Ok(()),
         Err(_) => Err(NoMemory),
     }
@@ -261,7 +258,7 @@ fn send(
     let items = take_message(alloc, program, process, items, next)?;
     let cost = message_cost(items.as_slice())?;
     let message = message_from(alloc, ports, items)?;
-    put_message(alloc, channels, channel, message)?;
+    put_message(channels, &channel, message)?;
     Ok(alone(alloc, cost))
 }
 

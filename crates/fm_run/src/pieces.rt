@@ -1,6 +1,6 @@
 //! Pieces of a run: several steps of one process.
 
-ghost use Rattle.std.specs.Prelude.{◌≡◌, ◌+◌, true, is_some, Some, IfOk, OnOk};
+ghost use Rattle.std.specs.Prelude.{◌≡◌, ◌≤◌, ◌+◌, true, is_some, Some, IfOk, OnOk};
 ghost use Rattle.std.specs.FinMap.{get};
 ghost use Rattle.fm_base.specs.Channels.{all_shed};
 ghost use Rattle.fm_chan.specs.Bodies.{chans_of};
@@ -25,9 +25,6 @@ use fm_plain::{Advanced, Event, Next, Stop, advance};
 use fm_rules::Program;
 use std::alloc::Global;
 
-/// The most local steps of a piece.
-pub const SLICE: u32 = 1000;
-
 /// What a process did in its piece: local steps, and then one event, if it came to one that it could do.
 #[derive(Clone, Copy, Debug, PartialEq, Eq)]
 pub struct Piece {
@@ -42,19 +39,20 @@ pub struct Piece {
 }
 
 impl Processes {
-    // Local steps of the process at a path.
+    // Local steps of the process at a path, as many as `slice` at most.
     fn advance(
         &mut self,
         alloc: Global,
         program: &Program,
         path: &Path,
+        slice: u32,
     ) -> Result<Advanced, NoMemory>
         requires { is_some (get (procs_of program.now self.old) path.now) ≡ true }
         ensures next { OnOk result (AreLookedAtBut program.now path.now self.old → AreLookedAtBut program.now path.now self.new) }
-        ensures advances { IfOk result (λ a. (x : Proc) → get (procs_of program.now self.old) path.now ≡ Some x → AdvancesAt program.now SLICE path.now x a (procs_of program.now self.old) (procs_of program.now self.new)) }
+        ensures advances { IfOk result (λ a. (x : Proc) → get (procs_of program.now self.old) path.now ≡ Some x → AdvancesAt program.now slice path.now x a (procs_of program.now self.old) (procs_of program.now self.new)) }
     {
         match self.by_path.get_mut(path) {
-            Some(slot) => advance(alloc, program, &mut slot.process, SLICE),
+            Some(slot) => advance(alloc, program, &mut slot.process, slice),
             None => unreachable!(),
         }
     }
@@ -172,15 +170,17 @@ impl Net {
         alloc: Global,
         program: &Program,
         path: &Path,
+        slice: u32,
     ) -> Result<Piece, NoMemory>
+        requires some { 1 ≤ slice }
         requires reached { IsReached (step program.now) (first program.now) (state_of program.now self.old) }
         requires held { HeldAreKept program.now self.old.ports (procs_of program.now self.old.processes) }
         requires can { is_some (step program.now (state_of program.now self.old) path.now) ≡ true }
         requires next { AreLookedAtBut program.now path.now self.old.processes }
         ensures sound { OnOk result (IsSound program.now self.new) }
-        ensures piece { IfOk result (λ r. IsPiece program.now SLICE (state_of program.now self.old) path.now r (state_of program.now self.new)) }
+        ensures piece { IfOk result (λ r. IsPiece program.now slice (state_of program.now self.old) path.now r (state_of program.now self.new)) }
     {
-        let Advanced { stop, steps, cost } = self.processes.advance(alloc, program, path)?;
+        let Advanced { stop, steps, cost } = self.processes.advance(alloc, program, path, slice)?;
         match stop {
             Stop::More => {
                 self.processes.look(alloc, program, path)?;
@@ -199,7 +199,7 @@ impl Net {
     }
 }
 
-/// Makes a piece of the process at a path, which can step: local steps, as many as `SLICE` at most, and
+/// Makes a piece of the process at a path, which can step: local steps, as many as `slice` at most, and
 /// then, where an event stopped it before, that event, if it can do it; or a step that lets ports go.
 ///
 /// After want of memory the net isn't to be used any more.
@@ -208,16 +208,18 @@ pub fn make_piece(
     net: &mut Net,
     program: &Program,
     path: &Path,
+    slice: u32,
 ) -> Result<Piece, NoMemory>
+    requires some { 1 ≤ slice }
     requires reached { IsReached (step program.now) (first program.now) (state_of program.now net.old) }
     requires sound { IsSound program.now net.old }
     requires can { is_some (step program.now (state_of program.now net.old) path.now) ≡ true }
     ensures sound { OnOk result (IsSound program.now net.new) }
-    ensures piece { IfOk result (λ r. IsPiece program.now SLICE (state_of program.now net.old) path.now r (state_of program.now net.new)) }
+    ensures piece { IfOk result (λ r. IsPiece program.now slice (state_of program.now net.old) path.now r (state_of program.now net.new)) }
 {
     match net.processes.take_next(path) {
         Next::Meets(event) => net.event_piece(alloc, program, path, 0, 0, event),
-        Next::Steps => net.local_piece(alloc, program, path),
-        Next::Rests => net.local_piece(alloc, program, path),
+        Next::Steps => net.local_piece(alloc, program, path, slice),
+        Next::Rests => net.local_piece(alloc, program, path, slice),
     }
 }

@@ -9,7 +9,7 @@ ghost use Rattle.fm_run.specs.Readings.{procs_of, state_of};
 ghost use Rattle.fm_run.specs.Runs.{IsFrontWithin, IsPlayedBy, IsPlayed, IsEntry, first_stand, stand_of};
 
 use crate::orders::{candidates, chosen, keep_able};
-use crate::pieces::{SLICE, make_piece};
+use crate::pieces::make_piece;
 use crate::ports::Ports;
 use crate::processes::{Net, Processes, Slot};
 use crate::ready::child_path;
@@ -110,7 +110,14 @@ impl Player {
     }
 
     // Makes a piece of a process, and keeps it.
-    fn keep_piece(&mut self, alloc: Global, program: &Program, number: u32) -> Result<(), NoMemory>
+    fn keep_piece(
+        &mut self,
+        alloc: Global,
+        program: &Program,
+        number: u32,
+        slice: u32,
+    ) -> Result<(), NoMemory>
+        requires some { 1 ≤ slice }
         requires sound { IsSound program.now self.old.net }
         requires kept { IsPlayedBy program.now self.old.history.items (places_of self.old.paths.items) (state_of program.now self.old.net) self.old.used }
         requires able { can_at program.now (state_of program.now self.old.net) (places_of self.old.paths.items) number ≡ true }
@@ -118,14 +125,14 @@ impl Player {
         ensures kept { OnOk result (IsPlayedBy program.now self.new.history.items (places_of self.new.paths.items) (state_of program.now self.new.net) self.new.used) }
         ensures used { OnOk result (self.old.used < self.new.used) }
         ensures front { OnOk result ((turns : ℕ) → self.old.used ≤ turns → IsFrontWithin program.now turns self.new.history.items (places_of self.new.paths.items)) }
-        ensures entry { OnOk result (IsEntry program.now SLICE number (state_of program.now self.old.net) (places_of self.old.paths.items) self.old.history.items (state_of program.now self.new.net) (places_of self.new.paths.items) self.new.history.items) }
+        ensures entry { OnOk result (IsEntry program.now slice number (state_of program.now self.old.net) (places_of self.old.paths.items) self.old.history.items (state_of program.now self.new.net) (places_of self.new.paths.items) self.new.history.items) }
         ensures able { OnOk result (self.new.able.items ≡ self.old.able.items) }
     {
         let path = match self.paths.get(number as usize) {
             Some(path) => path,
             None => unreachable!(),
         };
-        let piece = make_piece(alloc, &mut self.net, program, path)?;
+        let piece = make_piece(alloc, &mut self.net, program, path, slice)?;
         let mut children = family(alloc, path, piece.block, piece.started)?;
         self.history.push(Turn {
             number,
@@ -136,19 +143,26 @@ impl Player {
         Ok(())
     }
 
-    /// Makes a piece of a process that can step, and looks who can step then.
+    /// Makes a piece of a process that can step, of `slice` steps at most, and looks who can step then.
     ///
     /// After want of memory the run isn't to be used any more.
-    pub fn play(&mut self, alloc: Global, program: &Program, number: u32) -> Result<(), NoMemory>
+    pub fn play(
+        &mut self,
+        alloc: Global,
+        program: &Program,
+        number: u32,
+        slice: u32,
+    ) -> Result<(), NoMemory>
+        requires some { 1 ≤ slice }
         requires played { IsPlayed program.now self.old }
         requires able { Among number self.old.able.items }
         ensures played { OnOk result (IsPlayed program.now self.new) }
         ensures used { OnOk result (self.old.used < self.new.used) }
         ensures front { OnOk result ((turns : ℕ) → self.old.used ≤ turns → IsFrontWithin program.now turns self.new.history.items (places_of self.new.paths.items)) }
-        ensures entry { OnOk result (IsEntry program.now SLICE number (state_of program.now self.old.net) (places_of self.old.paths.items) self.old.history.items (state_of program.now self.new.net) (places_of self.new.paths.items) self.new.history.items) }
+        ensures entry { OnOk result (IsEntry program.now slice number (state_of program.now self.old.net) (places_of self.old.paths.items) self.old.history.items (state_of program.now self.new.net) (places_of self.new.paths.items) self.new.history.items) }
         ensures able { OnOk result (self.new.able.items ≡ ready_after program.now (state_of program.now self.new.net) (places_of self.new.paths.items) self.old.able.items number) }
     {
-        self.keep_piece(alloc, program, number)?;
+        self.keep_piece(alloc, program, number, slice)?;
         let order = candidates(alloc, &self.able, number, self.paths.len())?;
         self.able = keep_able(alloc, &self.net, program, &self.paths, &order)?;
         Ok(())

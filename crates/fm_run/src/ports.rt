@@ -8,23 +8,9 @@ ghost use Rattle.fm_run.specs.Readings.{kept};
 
 use fm_base::{ChanName, NoMemory, PortValue};
 use fm_chan::Port;
-use fm_maps::{Key, Map};
+use fm_maps::Map;
+use fm_mean::Outport;
 use std::alloc::Global;
-
-/// The value of an outport, as a key.
-#[derive(PartialEq, Eq, PartialOrd, Ord, Drop)]
-pub struct Outport {
-    /// The channel.
-    pub channel: ChanName,
-    /// The number of the writer.
-    pub number: u32,
-}
-
-impl Key for Outport {
-    ghost use Rattle.fm_run.specs.Keys.{outport_exact};
-
-    ghost exact = { outport_exact };
-}
 
 /// Ports under their values. Contracts see what is kept under a value (`kept`).
 #[derive(Drop)]

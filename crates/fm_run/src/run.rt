@@ -6,7 +6,6 @@ ghost use Rattle.fm_run.specs.Readings.{state_of};
 ghost use Rattle.fm_run.specs.Runs.{Follows, IsPlayed, IsRun};
 
 use crate::outcome::outcome;
-use crate::pieces::SLICE;
 use crate::player::Player;
 use fm_base::{NoMemory, Path, Turn};
 use fm_mean::Outcome;
@@ -66,20 +65,22 @@ impl Player {
 ///
 /// Those that can step stand in a queue. The one that makes its piece leaves its place; others that have
 /// become able come behind, in the order of starting, and behind them the one itself, where it can step
-/// still. A piece ends where it has `SLICE` steps, with an event, with the process's end or a fault, or
+/// still. A piece ends where it has `slice` steps, with an event, with the process's end or a fault, or
 /// where the process can't step. Each look at the queue takes time in proportion to the number of processes.
 pub fn run_program(
     alloc: Global,
     program: &Program,
     choices: &[u64],
     turns: u64,
+    slice: u32,
 ) -> Result<Run, NoMemory>
+    requires { 1 ≤ slice }
     ensures run { IfOk result (λ r. IsRun program.now turns r) }
-    ensures follows { IfOk result (λ r. Follows program.now SLICE choices.now r.history.items) }
+    ensures follows { IfOk result (λ r. Follows program.now slice choices.now r.history.items) }
 {
     let mut player = Player::new(alloc, program)?;
     'pieces: while let Some(number) = player.next(choices) {
-        player.play(alloc, program, number)?;
+        player.play(alloc, program, number, slice)?;
         if player.used > turns {
             return Ok(player.spent());
         }

@@ -10,7 +10,6 @@ use Rattle.fm_mean.specs.Process.{Proc}
 use Rattle.fm_mean.specs.Steps.{first, language, step}
 use Rattle.fm_plain.specs.Looking.{IsNext}
 use Rattle.fm_run.specs.declared.pieces.Piece.{Piece}
-use Rattle.fm_run.specs.declared.pieces.TheConstants.{SLICE}
 use Rattle.fm_run.specs.Held.{HeldAreKept}
 use Rattle.fm_run.specs.Pieces.{IsPiece}
 use Rattle.fm_run.specs.Readings.{procs_of, state_of}
@@ -76,8 +75,8 @@ returns-in-Meets-clause-piece c =
     let none : (n : ℕ) → 0 + n ≡ n = λ n. omega arith in
     IfOk-weaker c.event_piece.result _ _ (λ r made.
     let is : r ≡ record { steps = 1; cost = made.paid; block = r.block; started = r.started } = ap₂ (λ (n k : ℕ). record { steps = n; cost = k; block = r.block; started = r.started }) made.steps_are (made.cost_is ∙ none made.paid) in
-    subst (λ (q : Piece). IsPiece P SLICE s p q (state_of P c.event_piece.new.self)) (sym is)
-    (one_piece P SLICE s (state_of P c.event_piece.new.self) p x who.1 (omega arith) (event_shared P x _ does) made.paid r.block r.started
+    subst (λ (q : Piece). IsPiece P c.args.slice s p q (state_of P c.event_piece.new.self)) (sym is)
+    (one_piece P c.args.slice s (state_of P c.event_piece.new.self) p x who.1 (omega (arith, c.requires.some)) (event_shared P x _ does) made.paid r.block r.started
     (ap (λ (t : State Proc). step P t p) (sym state) ∙ made.leads) (ap (λ (t : State Proc). starts_at (language P) t p) (sym state) ∙ made.starts))) c.event_piece.ensures.steps
 
 pub local_piece-requires-clause-reached : goal.local_piece-requires-clause-reached
@@ -121,7 +120,7 @@ returns-in-Steps-clause-piece c =
     let who = steps_there P s p (get s.procs p) refl c.requires.can in
     let same = c.take_next.ensures.processes P in
     let state : record { procs = procs_of P c.take_next.new.self; chans = s.chans } ≡ s = ap (λ (n : Procs Proc). record { procs = n; chans = s.chans }) same in
-    IfOk-weaker c.local_piece.result _ _ (λ r made. subst (λ (t : State Proc). IsPiece P SLICE t p r (state_of P c.local_piece.new.self)) state made) c.local_piece.ensures.piece
+    IfOk-weaker c.local_piece.result _ _ (λ r made. subst (λ (t : State Proc). IsPiece P c.args.slice t p r (state_of P c.local_piece.new.self)) state made) c.local_piece.ensures.piece
 
 pub local_piece-requires-in-Rests-clause-reached : goal.local_piece-requires-in-Rests-clause-reached
 local_piece-requires-in-Rests-clause-reached c =
@@ -164,4 +163,4 @@ returns-in-Rests-clause-piece c =
     let who = steps_there P s p (get s.procs p) refl c.requires.can in
     let same = c.take_next.ensures.processes P in
     let state : record { procs = procs_of P c.take_next.new.self; chans = s.chans } ≡ s = ap (λ (n : Procs Proc). record { procs = n; chans = s.chans }) same in
-    IfOk-weaker c.local_piece-in-Rests.result _ _ (λ r made. subst (λ (t : State Proc). IsPiece P SLICE t p r (state_of P c.local_piece-in-Rests.new.self)) state made) c.local_piece-in-Rests.ensures.piece
+    IfOk-weaker c.local_piece-in-Rests.result _ _ (λ r made. subst (λ (t : State Proc). IsPiece P c.args.slice t p r (state_of P c.local_piece-in-Rests.new.self)) state made) c.local_piece-in-Rests.ensures.piece

@@ -1,6 +1,5 @@
 use Rattle.std.proofs.Common.{List, ap, sym, subst, arith}
 use Rattle.fm_base.specs.declared.schedule.Turn.{Turn}
-use Rattle.fm_run.specs.declared.pieces.TheConstants.{SLICE}
 use Rattle.fm_run.specs.Orders.{places_of}
 use Rattle.fm_run.specs.Runs.{Follows, stand_of}
 use Rattle.fm_run.proofs.Following.{followed_first, followed_more}
@@ -35,14 +34,14 @@ pub play-requires-clause-able : goal.play-requires-clause-able
 play-requires-clause-able c = among_get c.pieces.player.able.items _ c.in-Some.number (sym c.in-Some.ensures)
 
 pub returns-clause-follows : goal.returns-clause-follows
-returns-clause-follows c = subst (λ (ts : List Turn). Follows c.args.program.now SLICE c.args.choices.now ts) (ap (λ v. v.items) (sym c.ended.ensures.history)) c.pieces.invariant.followed.follows
+returns-clause-follows c = subst (λ (ts : List Turn). Follows c.args.program.now c.args.slice c.args.choices.now ts) (ap (λ v. v.items) (sym c.ended.ensures.history)) c.pieces.invariant.followed.follows
 
 pub returns-then-player-turns-clause-follows : goal.returns-then-player-turns-clause-follows
 returns-then-player-turns-clause-follows c =
     let followed =
-    followed_more c.args.program.now SLICE c.args.choices.now c.pieces.player.history.items (stand_of c.args.program.now c.pieces.player) c.pieces.invariant.followed c.in-Some.number (sym c.in-Some.ensures)
+    followed_more c.args.program.now c.args.slice c.args.choices.now c.pieces.player.history.items (stand_of c.args.program.now c.pieces.player) c.pieces.invariant.followed c.in-Some.number (sym c.in-Some.ensures)
     c.play.new.self.history.items (stand_of c.args.program.now c.play.new.self) c.in_ok-play.ensures.entry c.in_ok-play.ensures.able in
-    subst (λ (ts : List Turn). Follows c.args.program.now SLICE c.args.choices.now ts) (ap (λ v. v.items) (sym c.spent.ensures.history)) followed.follows
+    subst (λ (ts : List Turn). Follows c.args.program.now c.args.slice c.args.choices.now ts) (ap (λ v. v.items) (sym c.spent.ensures.history)) followed.follows
 
 pub outcome-requires : goal.outcome-requires
 outcome-requires c = c.pieces.invariant.played.sound.next

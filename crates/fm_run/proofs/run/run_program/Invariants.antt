@@ -1,5 +1,4 @@
 use Rattle.std.proofs.Common.{◌≤◌, ◌-◌}
-use Rattle.fm_run.specs.declared.pieces.TheConstants.{SLICE}
 use Rattle.fm_run.specs.Orders.{places_of}
 use Rattle.fm_run.specs.Runs.{IsFrontWithin, IsPlayed, stand_of}
 use Rattle.fm_run.proofs.Following.{IsFollowed}
@@ -10,7 +9,7 @@ invariant-pieces l = record {
   played : IsPlayed l.program l.player;
   within : l.player.used ≤ l.turns;
   front : IsFrontWithin l.program l.turns l.player.history.items (places_of l.player.paths.items);
-  followed : IsFollowed l.program SLICE l.choices l.player.history.items (stand_of l.program l.player);
+  followed : IsFollowed l.program l.slice l.choices l.player.history.items (stand_of l.program l.player);
 }
 
 abbrev pub decreases-pieces : goal.decreases-pieces

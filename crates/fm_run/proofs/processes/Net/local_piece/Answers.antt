@@ -11,7 +11,6 @@ use Rattle.fm_mean.specs.Steps.{language}
 use Rattle.fm_plain.specs.declared.advancing.Stop.{Stop}
 use Rattle.fm_plain.specs.Advance.{StopsAt}
 use Rattle.fm_run.specs.declared.pieces.Piece.{Piece}
-use Rattle.fm_run.specs.declared.pieces.TheConstants.{SLICE}
 use Rattle.fm_run.specs.Held.{HeldAreKept}
 use Rattle.fm_run.specs.Pieces.{IsPiece}
 use Rattle.fm_run.specs.Readings.{procs_of, state_of}
@@ -32,10 +31,10 @@ returns-in_ok-look-in-More-clause-piece c =
     let at = c.in_ok-stop.ensures.advances who.0 who.1 in
     let a = c.in_ok-stop.field-0 in
     let m = procs_of P c.advance.new.self in
-    let stops = subst (λ (z : Stop). StopsAt P SLICE a.steps at.advanced.stopped z at.after) c.in-More.is at.advanced.stops in
-    let there = ap (λ (n : Procs Proc). record { procs = n; chans = s.chans }) (sym (c.in_ok-look-in-More.ensures.processes ∙ same_behind P SLICE s p who.0 who.1 a m at stops.1)) in
-    subst (λ (r : Piece). IsPiece P SLICE s p r (record { procs = procs_of P c.look.new.self; chans = s.chans })) (sym c.local_piece.ensures)
-    (subst (λ (t : State Proc). IsPiece P SLICE s p (record { steps = a.steps; cost = a.cost; block = 0; started = 0 }) t) there (whole_piece P SLICE s p who.0 who.1 a m at stops.0 (omega arith)))
+    let stops = subst (λ (z : Stop). StopsAt P c.args.slice a.steps at.advanced.stopped z at.after) c.in-More.is at.advanced.stops in
+    let there = ap (λ (n : Procs Proc). record { procs = n; chans = s.chans }) (sym (c.in_ok-look-in-More.ensures.processes ∙ same_behind P c.args.slice s p who.0 who.1 a m at stops.1)) in
+    subst (λ (r : Piece). IsPiece P c.args.slice s p r (record { procs = procs_of P c.look.new.self; chans = s.chans })) (sym c.local_piece.ensures)
+    (subst (λ (t : State Proc). IsPiece P c.args.slice s p (record { steps = a.steps; cost = a.cost; block = 0; started = 0 }) t) there (whole_piece P c.args.slice s p who.0 who.1 a m at stops.0 (omega (arith, c.requires.some))))
 
 pub returns-in_ok-look-in-More-clause-sound : goal.returns-in_ok-look-in-More-clause-sound
 returns-in_ok-look-in-More-clause-sound c =
@@ -46,9 +45,9 @@ returns-in_ok-look-in-More-clause-sound c =
     let at = c.in_ok-stop.ensures.advances who.0 who.1 in
     let a = c.in_ok-stop.field-0 in
     let m = procs_of P c.advance.new.self in
-    let stops = subst (λ (z : Stop). StopsAt P SLICE a.steps at.advanced.stopped z at.after) c.in-More.is at.advanced.stops in
+    let stops = subst (λ (z : Stop). StopsAt P c.args.slice a.steps at.advanced.stopped z at.after) c.in-More.is at.advanced.stops in
     record {
-      held = subst (HeldAreKept P c.args.self.now.ports) (sym (c.in_ok-look-in-More.ensures.processes ∙ same_behind P SLICE s p who.0 who.1 a m at stops.1)) (held_behind P SLICE s p who.0 who.1 a m at c.args.self.now.ports c.requires.held);
+      held = subst (HeldAreKept P c.args.self.now.ports) (sym (c.in_ok-look-in-More.ensures.processes ∙ same_behind P c.args.slice s p who.0 who.1 a m at stops.1)) (held_behind P c.args.slice s p who.0 who.1 a m at c.args.self.now.ports c.requires.held);
       next = c.in_ok-look-in-More.ensures.next (c.in_ok-stop.ensures.next c.requires.next);
     }
 
@@ -61,10 +60,10 @@ returns-in_ok-look-in-Rest-clause-piece c =
     let at = c.in_ok-stop.ensures.advances who.0 who.1 in
     let a = c.in_ok-stop.field-0 in
     let m = procs_of P c.advance.new.self in
-    let stops = subst (λ (z : Stop). StopsAt P SLICE a.steps at.advanced.stopped z at.after) c.in-Rest.is at.advanced.stops in
-    let there = ap (λ (n : Procs Proc). record { procs = n; chans = s.chans }) (sym (c.in_ok-look-in-Rest.ensures.processes ∙ same_behind P SLICE s p who.0 who.1 a m at stops.2)) in
-    subst (λ (r : Piece). IsPiece P SLICE s p r (record { procs = procs_of P c.look-in-Rest.new.self; chans = s.chans })) (sym c.local_piece-in-Rest.ensures)
-    (subst (λ (t : State Proc). IsPiece P SLICE s p (record { steps = a.steps; cost = a.cost; block = 0; started = 0 }) t) there (resting_piece P SLICE s p who.0 who.1 a m at stops.0 c.requires.can stops.1))
+    let stops = subst (λ (z : Stop). StopsAt P c.args.slice a.steps at.advanced.stopped z at.after) c.in-Rest.is at.advanced.stops in
+    let there = ap (λ (n : Procs Proc). record { procs = n; chans = s.chans }) (sym (c.in_ok-look-in-Rest.ensures.processes ∙ same_behind P c.args.slice s p who.0 who.1 a m at stops.2)) in
+    subst (λ (r : Piece). IsPiece P c.args.slice s p r (record { procs = procs_of P c.look-in-Rest.new.self; chans = s.chans })) (sym c.local_piece-in-Rest.ensures)
+    (subst (λ (t : State Proc). IsPiece P c.args.slice s p (record { steps = a.steps; cost = a.cost; block = 0; started = 0 }) t) there (resting_piece P c.args.slice s p who.0 who.1 a m at stops.0 c.requires.can stops.1))
 
 pub returns-in_ok-look-in-Rest-clause-sound : goal.returns-in_ok-look-in-Rest-clause-sound
 returns-in_ok-look-in-Rest-clause-sound c =
@@ -75,9 +74,9 @@ returns-in_ok-look-in-Rest-clause-sound c =
     let at = c.in_ok-stop.ensures.advances who.0 who.1 in
     let a = c.in_ok-stop.field-0 in
     let m = procs_of P c.advance.new.self in
-    let stops = subst (λ (z : Stop). StopsAt P SLICE a.steps at.advanced.stopped z at.after) c.in-Rest.is at.advanced.stops in
+    let stops = subst (λ (z : Stop). StopsAt P c.args.slice a.steps at.advanced.stopped z at.after) c.in-Rest.is at.advanced.stops in
     record {
-      held = subst (HeldAreKept P c.args.self.now.ports) (sym (c.in_ok-look-in-Rest.ensures.processes ∙ same_behind P SLICE s p who.0 who.1 a m at stops.2)) (held_behind P SLICE s p who.0 who.1 a m at c.args.self.now.ports c.requires.held);
+      held = subst (HeldAreKept P c.args.self.now.ports) (sym (c.in_ok-look-in-Rest.ensures.processes ∙ same_behind P c.args.slice s p who.0 who.1 a m at stops.2)) (held_behind P c.args.slice s p who.0 who.1 a m at c.args.self.now.ports c.requires.held);
       next = c.in_ok-look-in-Rest.ensures.next (c.in_ok-stop.ensures.next c.requires.next);
     }
 
@@ -90,8 +89,8 @@ event_or_wait-requires-clause-owned c =
     let at = c.in_ok-stop.ensures.advances who.0 who.1 in
     let a = c.in_ok-stop.field-0 in
     let m = procs_of P c.advance.new.self in
-    let stops = subst (λ (z : Stop). StopsAt P SLICE a.steps at.advanced.stopped z at.after) c.in-Event.is at.advanced.stops in
-    subst (λ (n : Procs Proc). IsOwned (language P) (record { procs = n; chans = s.chans })) (sym (same_behind P SLICE s p who.0 who.1 a m at stops.2)) (owned_behind P SLICE s p who.0 who.1 a m at c.requires.reached)
+    let stops = subst (λ (z : Stop). StopsAt P c.args.slice a.steps at.advanced.stopped z at.after) c.in-Event.is at.advanced.stops in
+    subst (λ (n : Procs Proc). IsOwned (language P) (record { procs = n; chans = s.chans })) (sym (same_behind P c.args.slice s p who.0 who.1 a m at stops.2)) (owned_behind P c.args.slice s p who.0 who.1 a m at c.requires.reached)
 
 pub event_or_wait-requires-clause-held : goal.event_or_wait-requires-clause-held
 event_or_wait-requires-clause-held c =
@@ -102,8 +101,8 @@ event_or_wait-requires-clause-held c =
     let at = c.in_ok-stop.ensures.advances who.0 who.1 in
     let a = c.in_ok-stop.field-0 in
     let m = procs_of P c.advance.new.self in
-    let stops = subst (λ (z : Stop). StopsAt P SLICE a.steps at.advanced.stopped z at.after) c.in-Event.is at.advanced.stops in
-    subst (HeldAreKept P c.args.self.now.ports) (sym (same_behind P SLICE s p who.0 who.1 a m at stops.2)) (held_behind P SLICE s p who.0 who.1 a m at c.args.self.now.ports c.requires.held)
+    let stops = subst (λ (z : Stop). StopsAt P c.args.slice a.steps at.advanced.stopped z at.after) c.in-Event.is at.advanced.stops in
+    subst (HeldAreKept P c.args.self.now.ports) (sym (same_behind P c.args.slice s p who.0 who.1 a m at stops.2)) (held_behind P c.args.slice s p who.0 who.1 a m at c.args.self.now.ports c.requires.held)
 
 pub event_or_wait-requires-clause-there : goal.event_or_wait-requires-clause-there
 event_or_wait-requires-clause-there c =
@@ -114,8 +113,8 @@ event_or_wait-requires-clause-there c =
     let at = c.in_ok-stop.ensures.advances who.0 who.1 in
     let a = c.in_ok-stop.field-0 in
     let m = procs_of P c.advance.new.self in
-    let stops = subst (λ (z : Stop). StopsAt P SLICE a.steps at.advanced.stopped z at.after) c.in-Event.is at.advanced.stops in
-    ap (λ (n : Procs Proc). is_some (get n p)) (same_behind P SLICE s p who.0 who.1 a m at stops.2) ∙ ap is_some (there_behind P SLICE s p who.0 who.1 a m at)
+    let stops = subst (λ (z : Stop). StopsAt P c.args.slice a.steps at.advanced.stopped z at.after) c.in-Event.is at.advanced.stops in
+    ap (λ (n : Procs Proc). is_some (get n p)) (same_behind P c.args.slice s p who.0 who.1 a m at stops.2) ∙ ap is_some (there_behind P c.args.slice s p who.0 who.1 a m at)
 
 pub event_or_wait-requires-clause-event : goal.event_or_wait-requires-clause-event
 event_or_wait-requires-clause-event c = λ y there.
@@ -126,7 +125,7 @@ event_or_wait-requires-clause-event c = λ y there.
     let at = c.in_ok-stop.ensures.advances who.0 who.1 in
     let a = c.in_ok-stop.field-0 in
     let m = procs_of P c.advance.new.self in
-    event_told P SLICE s p who.0 who.1 a m at c.in-Event.event c.in-Event.is y there
+    event_told P c.args.slice s p who.0 who.1 a m at c.in-Event.event c.in-Event.is y there
 
 pub event_or_wait-requires-clause-next : goal.event_or_wait-requires-clause-next
 event_or_wait-requires-clause-next c = c.in_ok-stop.ensures.next c.requires.next
@@ -140,10 +139,10 @@ returns-in-Event-clause-piece c =
     let at = c.in_ok-stop.ensures.advances who.0 who.1 in
     let a = c.in_ok-stop.field-0 in
     let m = procs_of P c.advance.new.self in
-    let stops = subst (λ (z : Stop). StopsAt P SLICE a.steps at.advanced.stopped z at.after) c.in-Event.is at.advanced.stops in
-    let there : record { procs = m; chans = s.chans } ≡ behind P SLICE s p who.0 who.1 a m at = ap (λ (n : Procs Proc). record { procs = n; chans = s.chans }) (same_behind P SLICE s p who.0 who.1 a m at stops.2) in
+    let stops = subst (λ (z : Stop). StopsAt P c.args.slice a.steps at.advanced.stopped z at.after) c.in-Event.is at.advanced.stops in
+    let there : record { procs = m; chans = s.chans } ≡ behind P c.args.slice s p who.0 who.1 a m at = ap (λ (n : Procs Proc). record { procs = n; chans = s.chans }) (same_behind P c.args.slice s p who.0 who.1 a m at stops.2) in
     IfOk-weaker c.event_or_wait.result _ _ (λ r made.
-    event_or_wait_piece P SLICE s p who.0 who.1 a m at stops.0 (event_shared P at.advanced.stopped _ stops.1.0) c.requires.can (record { procs = m; chans = s.chans }) there r (state_of P c.event_or_wait.new.self) made) c.event_or_wait.ensures.steps
+    event_or_wait_piece P c.args.slice s p who.0 who.1 a m at stops.0 (event_shared P at.advanced.stopped _ stops.1.0) c.requires.can (record { procs = m; chans = s.chans }) there r (state_of P c.event_or_wait.new.self) made) c.event_or_wait.ensures.steps
 
 pub discard_piece-requires-clause-kept : goal.discard_piece-requires-clause-kept
 discard_piece-requires-clause-kept c =
@@ -154,9 +153,9 @@ discard_piece-requires-clause-kept c =
     let at = c.in_ok-stop.ensures.advances who.0 who.1 in
     let a = c.in_ok-stop.field-0 in
     let m = procs_of P c.advance.new.self in
-    let stops = subst (λ (z : Stop). StopsAt P SLICE a.steps at.advanced.stopped z at.after) c.in-LetsGo.is at.advanced.stops in
-    dropped_there _ c.args.self.now.ports (own_drops P (behind P SLICE s p who.0 who.1 a m at) p at.advanced.stopped (there_behind P SLICE s p who.0 who.1 a m at) (owned_behind P SLICE s p who.0 who.1 a m at c.requires.reached) c.args.self.now.ports
-    (held_behind P SLICE s p who.0 who.1 a m at c.args.self.now.ports c.requires.held) at.after _ _ stops.1)
+    let stops = subst (λ (z : Stop). StopsAt P c.args.slice a.steps at.advanced.stopped z at.after) c.in-LetsGo.is at.advanced.stops in
+    dropped_there _ c.args.self.now.ports (own_drops P (behind P c.args.slice s p who.0 who.1 a m at) p at.advanced.stopped (there_behind P c.args.slice s p who.0 who.1 a m at) (owned_behind P c.args.slice s p who.0 who.1 a m at c.requires.reached) c.args.self.now.ports
+    (held_behind P c.args.slice s p who.0 who.1 a m at c.args.self.now.ports c.requires.held) at.after _ _ stops.1)
 
 pub discard_piece-requires-clause-once : goal.discard_piece-requires-clause-once
 discard_piece-requires-clause-once c =
@@ -167,9 +166,9 @@ discard_piece-requires-clause-once c =
     let at = c.in_ok-stop.ensures.advances who.0 who.1 in
     let a = c.in_ok-stop.field-0 in
     let m = procs_of P c.advance.new.self in
-    let stops = subst (λ (z : Stop). StopsAt P SLICE a.steps at.advanced.stopped z at.after) c.in-LetsGo.is at.advanced.stops in
-    (own_drops P (behind P SLICE s p who.0 who.1 a m at) p at.advanced.stopped (there_behind P SLICE s p who.0 who.1 a m at) (owned_behind P SLICE s p who.0 who.1 a m at c.requires.reached) c.args.self.now.ports
-    (held_behind P SLICE s p who.0 who.1 a m at c.args.self.now.ports c.requires.held) at.after _ _ stops.1).once
+    let stops = subst (λ (z : Stop). StopsAt P c.args.slice a.steps at.advanced.stopped z at.after) c.in-LetsGo.is at.advanced.stops in
+    (own_drops P (behind P c.args.slice s p who.0 who.1 a m at) p at.advanced.stopped (there_behind P c.args.slice s p who.0 who.1 a m at) (owned_behind P c.args.slice s p who.0 who.1 a m at c.requires.reached) c.args.self.now.ports
+    (held_behind P c.args.slice s p who.0 who.1 a m at c.args.self.now.ports c.requires.held) at.after _ _ stops.1).once
 
 pub returns-in-LetsGo-clause-sound : goal.returns-in-LetsGo-clause-sound
 returns-in-LetsGo-clause-sound c =
@@ -180,13 +179,13 @@ returns-in-LetsGo-clause-sound c =
     let at = c.in_ok-stop.ensures.advances who.0 who.1 in
     let a = c.in_ok-stop.field-0 in
     let m = procs_of P c.advance.new.self in
-    let stops = subst (λ (z : Stop). StopsAt P SLICE a.steps at.advanced.stopped z at.after) c.in-LetsGo.is at.advanced.stops in
+    let stops = subst (λ (z : Stop). StopsAt P c.args.slice a.steps at.advanced.stopped z at.after) c.in-LetsGo.is at.advanced.stops in
     let again : insert (insert s.procs p at.advanced.stopped) p at.after ≡ m = insert_again path_order s.procs p at.advanced.stopped at.after ∙ sym at.procs_are in
     on_ok_both c.discard_piece.result c.discard_piece.ensures.processes c.discard_piece.ensures.ports c.discard_piece.ensures.next (λ same stay next.
     record {
       held = subst (HeldAreKept P c.discard_piece.new.self.ports) (again ∙ sym same)
-          (own_held P (behind P SLICE s p who.0 who.1 a m at) p at.advanced.stopped (there_behind P SLICE s p who.0 who.1 a m at) (owned_behind P SLICE s p who.0 who.1 a m at c.requires.reached) c.args.self.now.ports
-          (held_behind P SLICE s p who.0 who.1 a m at c.args.self.now.ports c.requires.held) at.after _ _ stops.1 c.discard_piece.new.self.ports stay);
+          (own_held P (behind P c.args.slice s p who.0 who.1 a m at) p at.advanced.stopped (there_behind P c.args.slice s p who.0 who.1 a m at) (owned_behind P c.args.slice s p who.0 who.1 a m at c.requires.reached) c.args.self.now.ports
+          (held_behind P c.args.slice s p who.0 who.1 a m at c.args.self.now.ports c.requires.held) at.after _ _ stops.1 c.discard_piece.new.self.ports stay);
       next = next (c.in_ok-stop.ensures.next c.requires.next);
     })
 
@@ -199,14 +198,14 @@ returns-in-LetsGo-clause-piece c =
     let at = c.in_ok-stop.ensures.advances who.0 who.1 in
     let a = c.in_ok-stop.field-0 in
     let m = procs_of P c.advance.new.self in
-    let stops = subst (λ (z : Stop). StopsAt P SLICE a.steps at.advanced.stopped z at.after) c.in-LetsGo.is at.advanced.stops in
-    let stood = behind P SLICE s p who.0 who.1 a m at in
-    let here = there_behind P SLICE s p who.0 who.1 a m at in
-    let owned = owned_behind P SLICE s p who.0 who.1 a m at c.requires.reached in
-    let held = held_behind P SLICE s p who.0 who.1 a m at c.args.self.now.ports c.requires.held in
+    let stops = subst (λ (z : Stop). StopsAt P c.args.slice a.steps at.advanced.stopped z at.after) c.in-LetsGo.is at.advanced.stops in
+    let stood = behind P c.args.slice s p who.0 who.1 a m at in
+    let here = there_behind P c.args.slice s p who.0 who.1 a m at in
+    let owned = owned_behind P c.args.slice s p who.0 who.1 a m at c.requires.reached in
+    let held = held_behind P c.args.slice s p who.0 who.1 a m at c.args.self.now.ports c.requires.held in
     let again : insert (insert s.procs p at.advanced.stopped) p at.after ≡ m = insert_again path_order s.procs p at.advanced.stopped at.after ∙ sym at.procs_are in
     if_ok_both c.discard_piece.result c.discard_piece.ensures.processes c.discard_piece.ensures.channels c.discard_piece.ensures.piece (λ r same chans is.
-    subst (λ (q : Piece). IsPiece P SLICE s p q (state_of P c.discard_piece.new.self)) (sym is)
-    (step_piece P SLICE s p who.0 who.1 a m at stops.0 (own_shared P stood p at.advanced.stopped here owned c.args.self.now.ports held at.after _ _ stops.1 stops.2) (state_of P c.discard_piece.new.self) c.in-LetsGo.paid 0 0
+    subst (λ (q : Piece). IsPiece P c.args.slice s p q (state_of P c.discard_piece.new.self)) (sym is)
+    (step_piece P c.args.slice s p who.0 who.1 a m at stops.0 (own_shared P stood p at.advanced.stopped here owned c.args.self.now.ports held at.after _ _ stops.1 stops.2) (state_of P c.discard_piece.new.self) c.in-LetsGo.paid 0 0
     (own_step P stood p at.advanced.stopped here owned c.args.self.now.ports held at.after _ _ stops.1 ∙ λ i. Some (record { procs = (again ∙ sym same) i; chans = sym chans i }, c.in-LetsGo.paid))
     (own_starts P stood p at.advanced.stopped here owned c.args.self.now.ports held at.after _ _ stops.1)))
