@@ -1,6 +1,6 @@
 -- What is answered, by the exit.
 use Rattle.std.proofs.Common.{◌≡◌, ◌⊎◌, inl, inr, ℕ, ◌<◌, ◌≤◌, Bool, true, false, List, [], ◌∷◌, length, refl, sym, ap, subst, ◌∙◌, arith}
-use Rattle.std.specs.Prelude.{Option, Some, None, is_none, IfOk, IfErr, IfSome, Result, Ok, Err}
+use Rattle.std.specs.Prelude.{Option, Some, None, is_none, IfOk, IfErr, IfSome, Result, Ok, Err, codes}
 use Rattle.std.proofs.lemmas.Bool.{false≢true}
 use Rattle.fm_base.specs.declared.schedule.Turn.{Turn}
 use Rattle.fm_base.specs.declared.rule.Refusal.{Refusal}
@@ -21,7 +21,7 @@ use Rattle.fm_net.specs.Machine.{Place}
 use Rattle.fm_mean.specs.declared.outcome.FaultAt.{FaultAt}
 use Rattle.fm_mean.specs.Steps.{step, first}
 use Rattle.fm_mean.specs.Outcome.{outcome_of}
-use Rattle.fm_mean.specs.Report.{report_text}
+use Rattle.fm_make.specs.Made.{made_text}
 use Rattle.fm_mean.proofs.Laws.{settles}
 use Rattle.fm_rules.specs.declared.program.Program.{Program}
 use Rattle.fm_front.specs.Verdict.{IsBroken, IsBrokenForm, AreStatementsOf}
@@ -36,22 +36,12 @@ use Rattle.fm_words.specs.declared.command.Command.TheVariants as command
 use Rattle.fmc.specs.declared.answer.Exit.{Exit}
 use Rattle.fmc.specs.declared.answer.Exit.TheVariants.{Done, Faulted, Deadlocked, Refused, Spent, Usage, ReadFault, WriteFault, NoMemory, TooLong, Malformed, Illegal, Unfinished}
 use Rattle.fmc.specs.declared.answer.Reply.{Reply}
-use Rattle.fmc.specs.Exits.{is_end, is_decided}
+use Rattle.fmc.specs.Exits.{is_end, is_decided, is_of_reading}
 use Rattle.fmc.specs.Listing.{listed_text}
-use Rattle.fmc.specs.Answer.{Says, IsListOf, SaysTold, TellsList, TellsDeterminism, IsFirstRaceOf, determinism_text, SaysOf, IsHistoryOf, IsEnded, IsUnplayed, IsRefused, IsNoHistory, HasHistory, IsAccepted, IsRefusedFor, IsCompleted, IsRefusedExit, IsTooLongExit, IsPlayedExit, source_limit, exit_by, exit_of, state_after, cost_of}
-use Rattle.fmc.specs.Reply.{bytes_of, places_in, IsReply, exit_in, text_in}
+use Rattle.fmc.specs.Answer.{Says, SaysRun, SaysMade, SaysDemo, IsListOf, SaysTold, Tells, TellsList, TellsDeterminism, IsFirstRaceOf, determinism_text, SaysOf, IsHistoryIn, IsHistoryOf, IsEnded, IsUnplayed, IsRefused, IsNoHistory, HasHistory, IsAccepted, IsReady, IsRefusedBy, IsRefusedFor, IsCompleted, IsRefusedExit, IsTooLongExit, IsPlayedExit, are_reading, is_reading, report_by, source_limit, summary_by, exit_by, exit_of, state_after, cost_of}
+use Rattle.fmc.specs.Reply.{bytes_of, places_in, IsReply, IsRunOf, IsSummary, exit_in, text_in}
 
 -- Replies from what the parts give.
-
-refusal_by : (c : Command) (b : List ℕ) (h : List Turn) (ps : List Place) (t : List ℕ) → IsRefused b h ps t → Says c b Refused h ps t
-refusal_by (command.Run turns vars) b h ps t k = k
-refusal_by command.Check b h ps t k = k
-refusal_by command.List b h ps t k = k
-
-pub refusal_says : (c : Command) (b : List ℕ) (v : Refusal) (r : Reply) → length b ≤ source_limit → IsRefusedFor b v → r.ran.exit ≡ Refused → IsUnplayed r.ran.history.items (places_in r.ran) (bytes_of r.text) (refusal_text v) → IsReply c b r
-refusal_says c b v r le h e u =
-    subst (λ (x : Exit). Says c b x r.ran.history.items (places_in r.ran) (bytes_of r.text)) (sym e)
-    (refusal_by c b r.ran.history.items (places_in r.ran) (bytes_of r.text) (record { within = le; refusal = v; refused = h; unplayed = u }))
 
 pub listed_says : (b : List ℕ) (ss : List Placed) (r : Reply) → length b ≤ source_limit → IsClean (IsBroken b) → AreStatementsOf (cards_of b) ss → r.ran.exit ≡ Done → IsUnplayed r.ran.history.items (places_in r.ran) (bytes_of r.text) (listed_text ss) → IsReply command.List b r
 listed_says b ss r le h k e u =
@@ -85,31 +75,30 @@ end_by [] true = refl
 end_by [] false = refl
 end_by (f ∷ fs) b = refl
 
-ended_says : (b : List ℕ) (turns : ℕ) (vars : Bool) (exit : Exit) (h : List Turn) (ps : List Place) (t : List ℕ) → is_end exit ≡ true → IsEnded b turns vars exit h ps t → Says (command.Run turns vars) b exit h ps t
-ended_says b turns vars Done h ps t e k = k
-ended_says b turns vars Faulted h ps t e k = k
-ended_says b turns vars Deadlocked h ps t e k = k
-ended_says b turns vars Refused h ps t e k = absurd (false≢true e)
-ended_says b turns vars Spent h ps t e k = absurd (false≢true e)
-ended_says b turns vars Usage h ps t e k = absurd (false≢true e)
-ended_says b turns vars ReadFault h ps t e k = absurd (false≢true e)
-ended_says b turns vars WriteFault h ps t e k = absurd (false≢true e)
-ended_says b turns vars NoMemory h ps t e k = absurd (false≢true e)
-ended_says b turns vars TooLong h ps t e k = absurd (false≢true e)
-ended_says b turns vars Malformed h ps t e k = absurd (false≢true e)
-ended_says b turns vars Illegal h ps t e k = absurd (false≢true e)
-ended_says b turns vars Unfinished h ps t e k = absurd (false≢true e)
+ended_says : (b : List ℕ) (turns : ℕ) (tells : Tells) (exit : Exit) (h : List Turn) (ps : List Place) (t : List ℕ) → is_end exit ≡ true → IsEnded b turns tells exit h ps t → SaysRun turns tells b exit h ps t
+ended_says b turns tells Done h ps t e k = k
+ended_says b turns tells Faulted h ps t e k = k
+ended_says b turns tells Deadlocked h ps t e k = k
+ended_says b turns tells Refused h ps t e k = absurd (false≢true e)
+ended_says b turns tells Spent h ps t e k = absurd (false≢true e)
+ended_says b turns tells Usage h ps t e k = absurd (false≢true e)
+ended_says b turns tells ReadFault h ps t e k = absurd (false≢true e)
+ended_says b turns tells WriteFault h ps t e k = absurd (false≢true e)
+ended_says b turns tells NoMemory h ps t e k = absurd (false≢true e)
+ended_says b turns tells TooLong h ps t e k = absurd (false≢true e)
+ended_says b turns tells Malformed h ps t e k = absurd (false≢true e)
+ended_says b turns tells Illegal h ps t e k = absurd (false≢true e)
+ended_says b turns tells Unfinished h ps t e k = absurd (false≢true e)
 
 -- a schedule that costs more than the turns: each one that ends costs as much or more
 spent_too : (program : Program) (turns : ℕ) (cs others : List Place) → IsLegal (step program) (first program) cs → turns < cost_of program cs → Settles (step program) (first program) others → turns < cost_of program others
 spent_too program turns cs others legal over all = omega (arith, over, all.dearest cs legal)
 
 -- what a run says, by how it ended
-run_by : (b : List ℕ) (program : Program) (turns : ℕ) (vars : Bool) (history : List Turn) (places cs : List Place) (e : Ending) → length b ≤ source_limit → IsHistoryOf b program turns history places cs → EndsSo program turns cs e
-    → Says (command.Run turns vars) b (exit_in e) history places (text_in turns vars e)
-run_by b program turns vars history places cs (ending.Ended o) le kept h =
-    let out = outcome_of program (cost_of program cs) (state_after program cs) in
-    ended_says b turns vars (exit_of o) history places (report_text vars o) (end_by o.faults o.main_ended)
+run_by : (b : List ℕ) (program : Program) (turns : ℕ) (tells : Tells) (history : List Turn) (places cs : List Place) (e : Ending) → length b ≤ source_limit → IsHistoryOf b program turns history places cs → EndsSo program turns cs e
+    → SaysRun turns tells b (exit_in e) history places (text_in turns tells places e)
+run_by b program turns tells history places cs (ending.Ended o) le kept h =
+    ended_says b turns tells (exit_of o) history places (tells places o) (end_by o.faults o.main_ended)
     (record {
       within = le;
       program = program;
@@ -118,10 +107,10 @@ run_by b program turns vars history places cs (ending.Ended o) le kept h =
       ends = (kept.legal, h.0);
       in_turns = h.1;
       exit_is = ap exit_of h.2;
-      text_is = ap (report_text vars) h.2;
+      text_is = ap (tells places) h.2;
       one_outcome = λ det. settles program det cs (kept.legal, h.0);
     })
-run_by b program turns vars history places cs ending.Spent le kept h =
+run_by b program turns tells history places cs ending.Spent le kept h =
     record {
       within = le;
       program = program;
@@ -132,12 +121,12 @@ run_by b program turns vars history places cs ending.Spent le kept h =
       spent_for_all = λ det others ends. spent_too program turns cs others kept.legal h (settles program det others ends);
     }
 
-history_of : (b : List ℕ) (program : Program) (turns : ℕ) (r : run.Run) → IsCheckedOf b program → (k : IsRun program turns r) → IsHistoryOf b program turns r.history.items (places_of r.paths.items) k.choices
-history_of b program turns r lawful k = record { lawful = lawful; kept = k.kept; starts = k.places; legal = k.legal; some_steps = k.some_steps; front_within = k.front_within }
+history_of : (b : List ℕ) (turns : ℕ) (r : run.Run) → (k : IsRunOf b turns r) → IsHistoryOf b k.program turns r.history.items (places_of r.paths.items) k.runs.choices
+history_of b turns r k = record { lawful = k.lawful; kept = k.runs.kept; starts = k.runs.places; legal = k.runs.legal; some_steps = k.runs.some_steps; front_within = k.runs.front_within }
 
-pub run_says : (b : List ℕ) (program : Program) (turns : ℕ) (vars : Bool) (r : run.Run) → length b ≤ source_limit → IsCheckedOf b program → IsRun program turns r
-    → Says (command.Run turns vars) b (exit_in r.ending) r.history.items (places_of r.paths.items) (text_in turns vars r.ending)
-run_says b program turns vars r le lawful k = run_by b program turns vars r.history.items (places_of r.paths.items) k.choices r.ending le (history_of b program turns r lawful k) k.ends
+pub run_says : (b : List ℕ) (turns : ℕ) (tells : Tells) (r : run.Run) → length b ≤ source_limit → IsRunOf b turns r
+    → SaysRun turns tells b (exit_in r.ending) r.history.items (places_of r.paths.items) (text_in turns tells (places_of r.paths.items) r.ending)
+run_says b turns tells r le k = run_by b k.program turns tells r.history.items (places_of r.paths.items) k.runs.choices r.ending le (history_of b turns r k) k.runs.ends
 
 played_by : (fs : List FaultAt) (b : Bool) → IsPlayedExit (exit_by fs b)
 played_by [] true = inl (inl refl)
@@ -154,29 +143,35 @@ played_decided e (inl (inr (inl h))) = ap is_decided h
 played_decided e (inl (inr (inr h))) = ap is_decided h
 played_decided e (inr h) = ap is_decided h
 
+pub played_unread : (e : Exit) → IsPlayedExit e → is_of_reading e ≡ false
+played_unread e (inl (inl h)) = ap is_of_reading h
+played_unread e (inl (inr (inl h))) = ap is_of_reading h
+played_unread e (inl (inr (inr h))) = ap is_of_reading h
+played_unread e (inr h) = ap is_of_reading h
+
 -- What follows from what is said.
 
 no_history : (h : List Turn) (ps : List Place) (t u : List ℕ) → IsUnplayed h ps t u → IsNoHistory h ps
 no_history h ps t u k = (k.no_turns, k.no_places)
 
-run_history : (turns : ℕ) (vars : Bool) (b : List ℕ) (exit : Exit) (h : List Turn) (ps : List Place) (t : List ℕ) → Says (command.Run turns vars) b exit h ps t → HasHistory (Some (command.Run turns vars)) b h ps
-run_history turns vars b Done h ps t k = inr (k.program, k.choices, k.kept)
-run_history turns vars b Faulted h ps t k = inr (k.program, k.choices, k.kept)
-run_history turns vars b Deadlocked h ps t k = inr (k.program, k.choices, k.kept)
-run_history turns vars b Refused h ps t k = inl (no_history h ps t _ k.unplayed)
-run_history turns vars b Spent h ps t k = inr (k.program, k.choices, k.kept)
-run_history turns vars b Usage h ps t k = absurd k
-run_history turns vars b ReadFault h ps t k = inl (no_history h ps t _ k)
-run_history turns vars b WriteFault h ps t k = absurd k
-run_history turns vars b NoMemory h ps t k = inl (no_history h ps t _ k)
-run_history turns vars b TooLong h ps t k = inl (no_history h ps t _ k.1)
-run_history turns vars b Malformed h ps t k = absurd k
-run_history turns vars b Illegal h ps t k = absurd k
-run_history turns vars b Unfinished h ps t k = absurd k
+run_history : (turns : ℕ) (tells : Tells) (b : List ℕ) (exit : Exit) (h : List Turn) (ps : List Place) (t : List ℕ) → SaysRun turns tells b exit h ps t → IsHistoryIn turns b h ps
+run_history turns tells b Done h ps t k = inr (k.program, k.choices, k.kept)
+run_history turns tells b Faulted h ps t k = inr (k.program, k.choices, k.kept)
+run_history turns tells b Deadlocked h ps t k = inr (k.program, k.choices, k.kept)
+run_history turns tells b Refused h ps t k = inl (no_history h ps t _ k.unplayed)
+run_history turns tells b Spent h ps t k = inr (k.program, k.choices, k.kept)
+run_history turns tells b Usage h ps t k = absurd k
+run_history turns tells b ReadFault h ps t k = inl (no_history h ps t _ k)
+run_history turns tells b WriteFault h ps t k = absurd k
+run_history turns tells b NoMemory h ps t k = inl (no_history h ps t _ k)
+run_history turns tells b TooLong h ps t k = inl (no_history h ps t _ k.1)
+run_history turns tells b Malformed h ps t k = absurd k
+run_history turns tells b Illegal h ps t k = absurd k
+run_history turns tells b Unfinished h ps t k = absurd k
 
 -- of a command that runs nothing
-module _ (Tells : List Placed → List ℕ → Type 0) (b : List ℕ) where
-  told_history : (exit : Exit) (h : List Turn) (ps : List Place) (t : List ℕ) → SaysTold Tells b exit h ps t → IsNoHistory h ps
+module _ (TellsOf : List Placed → List ℕ → Type 0) (b : List ℕ) where
+  told_history : (exit : Exit) (h : List Turn) (ps : List Place) (t : List ℕ) → SaysTold TellsOf b exit h ps t → IsNoHistory h ps
   told_history Done h ps t k = no_history h ps t _ k.unplayed
   told_history Faulted h ps t k = absurd k
   told_history Deadlocked h ps t k = absurd k
@@ -191,7 +186,7 @@ module _ (Tells : List Placed → List ℕ → Type 0) (b : List ℕ) where
   told_history Illegal h ps t k = absurd k
   told_history Unfinished h ps t k = absurd k
 
-  told_completed : (exit : Exit) (h : List Turn) (ps : List Place) (t : List ℕ) → SaysTold Tells b exit h ps t → (exit ≡ ReadFault → ⊥) → length b ≤ source_limit → IsClean (IsBroken b) → (exit ≡ Done) ⊎ (exit ≡ NoMemory)
+  told_completed : (exit : Exit) (h : List Turn) (ps : List Place) (t : List ℕ) → SaysTold TellsOf b exit h ps t → (exit ≡ ReadFault → ⊥) → length b ≤ source_limit → IsClean (IsBroken b) → (exit ≡ Done) ⊎ (exit ≡ NoMemory)
   told_completed Done h ps t k r le v = inl refl
   told_completed Faulted h ps t k r le v = absurd k
   told_completed Deadlocked h ps t k r le v = absurd k
@@ -206,7 +201,7 @@ module _ (Tells : List Placed → List ℕ → Type 0) (b : List ℕ) where
   told_completed Illegal h ps t k r le v = absurd k
   told_completed Unfinished h ps t k r le v = absurd k
 
-  told_refused : (exit : Exit) (h : List Turn) (ps : List Place) (t : List ℕ) → SaysTold Tells b exit h ps t → (exit ≡ ReadFault → ⊥) → length b ≤ source_limit → (v : Refusal) → IsRefusedFor b v → IsRefusedExit exit
+  told_refused : (exit : Exit) (h : List Turn) (ps : List Place) (t : List ℕ) → SaysTold TellsOf b exit h ps t → (exit ≡ ReadFault → ⊥) → length b ≤ source_limit → (v : Refusal) → IsRefusedFor b v → IsRefusedExit exit
   told_refused Done h ps t k r le v w = absurd (k.clean v w.broken)
   told_refused Faulted h ps t k r le v w = absurd k
   told_refused Deadlocked h ps t k r le v w = absurd k
@@ -221,7 +216,7 @@ module _ (Tells : List Placed → List ℕ → Type 0) (b : List ℕ) where
   told_refused Illegal h ps t k r le v w = absurd k
   told_refused Unfinished h ps t k r le v w = absurd k
 
-  told_long : (exit : Exit) (h : List Turn) (ps : List Place) (t : List ℕ) → SaysTold Tells b exit h ps t → (exit ≡ ReadFault → ⊥) → source_limit < length b → IsTooLongExit exit
+  told_long : (exit : Exit) (h : List Turn) (ps : List Place) (t : List ℕ) → SaysTold TellsOf b exit h ps t → (exit ≡ ReadFault → ⊥) → source_limit < length b → IsTooLongExit exit
   told_long Done h ps t k r l = absurd (omega (arith, k.within))
   told_long Faulted h ps t k r l = absurd k
   told_long Deadlocked h ps t k r l = absurd k
@@ -236,73 +231,113 @@ module _ (Tells : List Placed → List ℕ → Type 0) (b : List ℕ) where
   told_long Illegal h ps t k r l = absurd k
   told_long Unfinished h ps t k r l = absurd k
 
+made_history : (number : ℕ) (exit : Exit) (h : List Turn) (ps : List Place) (t : List ℕ) → SaysMade number exit h ps t → IsNoHistory h ps
+made_history number exit h ps t (inl k) = no_history h ps t _ k.1
+made_history number exit h ps t (inr k) = no_history h ps t _ k.1
+
 pub says_history : (o : Option Command) (b : List ℕ) (exit : Exit) (h : List Turn) (ps : List Place) (t : List ℕ) → SaysOf o b exit h ps t → HasHistory o b h ps
 says_history None b exit h ps t k = no_history h ps t _ k.1
-says_history (Some (command.Run turns vars)) b exit h ps t k = run_history turns vars b exit h ps t k
+says_history (Some (command.Run setup vars)) b exit h ps t k = run_history setup.turns (report_by vars) b exit h ps t k
 says_history (Some command.Check) b exit h ps t k = told_history TellsDeterminism b exit h ps t k
 says_history (Some command.List) b exit h ps t k = told_history TellsList b exit h ps t k
+says_history (Some (command.Make number)) b exit h ps t k = made_history number exit h ps t k
+says_history (Some (command.Demo number setup)) b exit h ps t k = run_history setup.turns summary_by (made_text number) exit h ps t k.1
 
-run_completed : (turns : ℕ) (vars : Bool) (b : List ℕ) (exit : Exit) (h : List Turn) (ps : List Place) (t : List ℕ) → Says (command.Run turns vars) b exit h ps t → (exit ≡ ReadFault → ⊥) → length b ≤ source_limit → IsAccepted b → IsCompleted (command.Run turns vars) exit
-run_completed turns vars b Done h ps t k r le v = inl (inl refl)
-run_completed turns vars b Faulted h ps t k r le v = inl (inr (inl refl))
-run_completed turns vars b Deadlocked h ps t k r le v = inl (inr (inr refl))
-run_completed turns vars b Refused h ps t k r le v = absurd (v k.refusal k.refused.broken)
-run_completed turns vars b Spent h ps t k r le v = inr (inl refl)
-run_completed turns vars b Usage h ps t k r le v = absurd k
-run_completed turns vars b ReadFault h ps t k r le v = absurd (r refl)
-run_completed turns vars b WriteFault h ps t k r le v = absurd k
-run_completed turns vars b NoMemory h ps t k r le v = inr (inr refl)
-run_completed turns vars b TooLong h ps t k r le v = absurd (omega (arith, k.0))
-run_completed turns vars b Malformed h ps t k r le v = absurd k
-run_completed turns vars b Illegal h ps t k r le v = absurd k
-run_completed turns vars b Unfinished h ps t k r le v = absurd k
+run_completed : (turns : ℕ) (tells : Tells) (b : List ℕ) (exit : Exit) (h : List Turn) (ps : List Place) (t : List ℕ) → SaysRun turns tells b exit h ps t → (exit ≡ ReadFault → ⊥) → length b ≤ source_limit → IsAccepted b → ((exit ≡ Done) ⊎ ((exit ≡ Faulted) ⊎ (exit ≡ Deadlocked))) ⊎ ((exit ≡ Spent) ⊎ (exit ≡ NoMemory))
+run_completed turns tells b Done h ps t k r le v = inl (inl refl)
+run_completed turns tells b Faulted h ps t k r le v = inl (inr (inl refl))
+run_completed turns tells b Deadlocked h ps t k r le v = inl (inr (inr refl))
+run_completed turns tells b Refused h ps t k r le v = absurd (v k.refusal k.refused.broken)
+run_completed turns tells b Spent h ps t k r le v = inr (inl refl)
+run_completed turns tells b Usage h ps t k r le v = absurd k
+run_completed turns tells b ReadFault h ps t k r le v = absurd (r refl)
+run_completed turns tells b WriteFault h ps t k r le v = absurd k
+run_completed turns tells b NoMemory h ps t k r le v = inr (inr refl)
+run_completed turns tells b TooLong h ps t k r le v = absurd (omega (arith, k.0))
+run_completed turns tells b Malformed h ps t k r le v = absurd k
+run_completed turns tells b Illegal h ps t k r le v = absurd k
+run_completed turns tells b Unfinished h ps t k r le v = absurd k
 
-pub completed : (c : Command) (b : List ℕ) (exit : Exit) (h : List Turn) (ps : List Place) (t : List ℕ) → Says c b exit h ps t → (exit ≡ ReadFault → ⊥) → length b ≤ source_limit → IsAccepted b → IsCompleted c exit
-completed (command.Run turns vars) b exit h ps t k r le v = run_completed turns vars b exit h ps t k r le v
-completed command.Check b exit h ps t k r le v = told_completed TellsDeterminism b exit h ps t k r le v
-completed command.List b exit h ps t k r le v = told_completed TellsList b exit h ps t k r le v
+made_completed : (number : ℕ) (exit : Exit) (h : List Turn) (ps : List Place) (t : List ℕ) → SaysMade number exit h ps t → (exit ≡ Done) ⊎ (exit ≡ NoMemory)
+made_completed number exit h ps t (inl k) = inl k.0
+made_completed number exit h ps t (inr k) = inr k.0
 
-run_refused : (turns : ℕ) (vars : Bool) (b : List ℕ) (exit : Exit) (h : List Turn) (ps : List Place) (t : List ℕ) → Says (command.Run turns vars) b exit h ps t → (exit ≡ ReadFault → ⊥) → length b ≤ source_limit → (v : Refusal) → IsRefusedFor b v → IsRefusedExit exit
-run_refused turns vars b Done h ps t k r le v w = absurd (k.kept.lawful.clean v w.broken)
-run_refused turns vars b Faulted h ps t k r le v w = absurd (k.kept.lawful.clean v w.broken)
-run_refused turns vars b Deadlocked h ps t k r le v w = absurd (k.kept.lawful.clean v w.broken)
-run_refused turns vars b Refused h ps t k r le v w = inl refl
-run_refused turns vars b Spent h ps t k r le v w = absurd (k.kept.lawful.clean v w.broken)
-run_refused turns vars b Usage h ps t k r le v w = absurd k
-run_refused turns vars b ReadFault h ps t k r le v w = absurd (r refl)
-run_refused turns vars b WriteFault h ps t k r le v w = absurd k
-run_refused turns vars b NoMemory h ps t k r le v w = inr refl
-run_refused turns vars b TooLong h ps t k r le v w = absurd (omega (arith, k.0))
-run_refused turns vars b Malformed h ps t k r le v w = absurd k
-run_refused turns vars b Illegal h ps t k r le v w = absurd k
-run_refused turns vars b Unfinished h ps t k r le v w = absurd k
+-- a demonstration meets no read fault, and its program isn't too long
+demo_reads : (exit : Exit) → is_of_reading exit ≡ false → exit ≡ ReadFault → ⊥
+demo_reads exit e f = false≢true (sym e ∙ ap is_of_reading f)
 
-pub refused_of : (o : Option Command) (b : List ℕ) (exit : Exit) (h : List Turn) (ps : List Place) (t : List ℕ) → SaysOf o b exit h ps t → is_none o ≡ false → (exit ≡ ReadFault → ⊥) → length b ≤ source_limit → (v : Refusal) → IsRefusedFor b v → IsRefusedExit exit
-refused_of None b exit h ps t k c r le v w = absurd (false≢true (sym c))
-refused_of (Some (command.Run turns vars)) b exit h ps t k c r le v w = run_refused turns vars b exit h ps t k r le v w
-refused_of (Some command.Check) b exit h ps t k c r le v w = told_refused TellsDeterminism b exit h ps t k r le v w
-refused_of (Some command.List) b exit h ps t k c r le v w = told_refused TellsList b exit h ps t k r le v w
+pub completed : (c : Command) (b : List ℕ) (exit : Exit) (h : List Turn) (ps : List Place) (t : List ℕ) → Says c b exit h ps t → (exit ≡ ReadFault → ⊥) → ((n : ℕ) → length (made_text n) ≤ source_limit) → IsReady c b → IsCompleted c exit
+completed (command.Run setup vars) b exit h ps t k r short v = run_completed setup.turns (report_by vars) b exit h ps t k r v.0 v.1
+completed command.Check b exit h ps t k r short v = told_completed TellsDeterminism b exit h ps t k r v.0 v.1
+completed command.List b exit h ps t k r short v = told_completed TellsList b exit h ps t k r v.0 v.1
+completed (command.Make number) b exit h ps t k r short v = made_completed number exit h ps t k
+completed (command.Demo number setup) b exit h ps t k r short v = run_completed setup.turns summary_by (made_text number) exit h ps t k.1 (demo_reads exit k.0) (short number) v
 
-run_long : (turns : ℕ) (vars : Bool) (b : List ℕ) (exit : Exit) (h : List Turn) (ps : List Place) (t : List ℕ) → Says (command.Run turns vars) b exit h ps t → (exit ≡ ReadFault → ⊥) → source_limit < length b → IsTooLongExit exit
-run_long turns vars b Done h ps t k r l = absurd (omega (arith, k.within))
-run_long turns vars b Faulted h ps t k r l = absurd (omega (arith, k.within))
-run_long turns vars b Deadlocked h ps t k r l = absurd (omega (arith, k.within))
-run_long turns vars b Refused h ps t k r l = absurd (omega (arith, k.within))
-run_long turns vars b Spent h ps t k r l = absurd (omega (arith, k.within))
-run_long turns vars b Usage h ps t k r l = absurd k
-run_long turns vars b ReadFault h ps t k r l = absurd (r refl)
-run_long turns vars b WriteFault h ps t k r l = absurd k
-run_long turns vars b NoMemory h ps t k r l = inr refl
-run_long turns vars b TooLong h ps t k r l = inl refl
-run_long turns vars b Malformed h ps t k r l = absurd k
-run_long turns vars b Illegal h ps t k r l = absurd k
-run_long turns vars b Unfinished h ps t k r l = absurd k
+run_refused : (turns : ℕ) (tells : Tells) (b : List ℕ) (exit : Exit) (h : List Turn) (ps : List Place) (t : List ℕ) → SaysRun turns tells b exit h ps t → (exit ≡ ReadFault → ⊥) → length b ≤ source_limit → (v : Refusal) → IsRefusedFor b v → IsRefusedExit exit
+run_refused turns tells b Done h ps t k r le v w = absurd (k.kept.lawful.clean v w.broken)
+run_refused turns tells b Faulted h ps t k r le v w = absurd (k.kept.lawful.clean v w.broken)
+run_refused turns tells b Deadlocked h ps t k r le v w = absurd (k.kept.lawful.clean v w.broken)
+run_refused turns tells b Refused h ps t k r le v w = inl refl
+run_refused turns tells b Spent h ps t k r le v w = absurd (k.kept.lawful.clean v w.broken)
+run_refused turns tells b Usage h ps t k r le v w = absurd k
+run_refused turns tells b ReadFault h ps t k r le v w = absurd (r refl)
+run_refused turns tells b WriteFault h ps t k r le v w = absurd k
+run_refused turns tells b NoMemory h ps t k r le v w = inr refl
+run_refused turns tells b TooLong h ps t k r le v w = absurd (omega (arith, k.0))
+run_refused turns tells b Malformed h ps t k r le v w = absurd k
+run_refused turns tells b Illegal h ps t k r le v w = absurd k
+run_refused turns tells b Unfinished h ps t k r le v w = absurd k
 
-pub too_long_by : (o : Option Command) (b : List ℕ) (exit : Exit) (h : List Turn) (ps : List Place) (t : List ℕ) → SaysOf o b exit h ps t → is_none o ≡ false → (exit ≡ ReadFault → ⊥) → source_limit < length b → IsTooLongExit exit
-too_long_by None b exit h ps t k c r l = absurd (false≢true (sym c))
-too_long_by (Some (command.Run turns vars)) b exit h ps t k c r l = run_long turns vars b exit h ps t k r l
+pub refused_of : (c : Command) (b : List ℕ) (exit : Exit) (h : List Turn) (ps : List Place) (t : List ℕ) → Says c b exit h ps t → (exit ≡ ReadFault → ⊥) → ((n : ℕ) → length (made_text n) ≤ source_limit) → (v : Refusal) → IsRefusedBy c b v → IsRefusedExit exit
+refused_of (command.Run setup vars) b exit h ps t k r short v w = run_refused setup.turns (report_by vars) b exit h ps t k r w.0 v w.1
+refused_of command.Check b exit h ps t k r short v w = told_refused TellsDeterminism b exit h ps t k r w.0 v w.1
+refused_of command.List b exit h ps t k r short v w = told_refused TellsList b exit h ps t k r w.0 v w.1
+refused_of (command.Make number) b exit h ps t k r short v w = absurd w
+refused_of (command.Demo number setup) b exit h ps t k r short v w = run_refused setup.turns summary_by (made_text number) exit h ps t k.1 (demo_reads exit k.0) (short number) v w
+
+run_long : (turns : ℕ) (tells : Tells) (b : List ℕ) (exit : Exit) (h : List Turn) (ps : List Place) (t : List ℕ) → SaysRun turns tells b exit h ps t → (exit ≡ ReadFault → ⊥) → source_limit < length b → IsTooLongExit exit
+run_long turns tells b Done h ps t k r l = absurd (omega (arith, k.within))
+run_long turns tells b Faulted h ps t k r l = absurd (omega (arith, k.within))
+run_long turns tells b Deadlocked h ps t k r l = absurd (omega (arith, k.within))
+run_long turns tells b Refused h ps t k r l = absurd (omega (arith, k.within))
+run_long turns tells b Spent h ps t k r l = absurd (omega (arith, k.within))
+run_long turns tells b Usage h ps t k r l = absurd k
+run_long turns tells b ReadFault h ps t k r l = absurd (r refl)
+run_long turns tells b WriteFault h ps t k r l = absurd k
+run_long turns tells b NoMemory h ps t k r l = inr refl
+run_long turns tells b TooLong h ps t k r l = inl refl
+run_long turns tells b Malformed h ps t k r l = absurd k
+run_long turns tells b Illegal h ps t k r l = absurd k
+run_long turns tells b Unfinished h ps t k r l = absurd k
+
+pub too_long_by : (o : Option Command) (b : List ℕ) (exit : Exit) (h : List Turn) (ps : List Place) (t : List ℕ) → SaysOf o b exit h ps t → are_reading o ≡ true → (exit ≡ ReadFault → ⊥) → source_limit < length b → IsTooLongExit exit
+too_long_by None b exit h ps t k c r l = absurd (false≢true c)
+too_long_by (Some (command.Run setup vars)) b exit h ps t k c r l = run_long setup.turns (report_by vars) b exit h ps t k r l
 too_long_by (Some command.Check) b exit h ps t k c r l = told_long TellsDeterminism b exit h ps t k r l
 too_long_by (Some command.List) b exit h ps t k c r l = told_long TellsList b exit h ps t k r l
+too_long_by (Some (command.Make number)) b exit h ps t k c r l = absurd (false≢true c)
+too_long_by (Some (command.Demo number setup)) b exit h ps t k c r l = absurd (false≢true c)
+
+-- what is said of a command that doesn't read is said whatever the source has
+pub says_unread : (c : Command) (b other : List ℕ) (exit : Exit) (h : List Turn) (ps : List Place) (t : List ℕ) → is_reading c ≡ false → Says c b exit h ps t → Says c other exit h ps t
+says_unread (command.Run setup vars) b other exit h ps t e k = absurd (false≢true (sym e))
+says_unread command.Check b other exit h ps t e k = absurd (false≢true (sym e))
+says_unread command.List b other exit h ps t e k = absurd (false≢true (sym e))
+says_unread (command.Make number) b other exit h ps t e k = k
+says_unread (command.Demo number setup) b other exit h ps t e k = k
+
+-- want of memory says nothing of the bytes
+pub no_memory_says : (o : Option Command) (b : List ℕ) (exit : Exit) (h : List Turn) (ps : List Place) (t : List ℕ) → is_none o ≡ false → exit ≡ NoMemory → IsUnplayed h ps t (codes "no memory\n") → SaysOf o b exit h ps t
+no_memory_says None b exit h ps t c e u = absurd (false≢true (sym c))
+no_memory_says (Some (command.Run setup vars)) b exit h ps t c e u = subst (λ (x : Exit). SaysRun setup.turns (report_by vars) b x h ps t) (sym e) u
+no_memory_says (Some command.Check) b exit h ps t c e u = subst (λ (x : Exit). SaysTold TellsDeterminism b x h ps t) (sym e) u
+no_memory_says (Some command.List) b exit h ps t c e u = subst (λ (x : Exit). SaysTold TellsList b x h ps t) (sym e) u
+no_memory_says (Some (command.Make number)) b exit h ps t c e u = inr (e, u)
+no_memory_says (Some (command.Demo number setup)) b exit h ps t c e u = (ap is_of_reading e, subst (λ (x : Exit). SaysRun setup.turns summary_by (made_text number) x h ps t) (sym e) u)
+
+pub for_any : (o : Option (List ℕ)) (P : List ℕ → Type 0) → ((b : List ℕ) → P b) → IfSome o P
+for_any None P f = tt
+for_any (Some b) P f = f b
 
 -- the same of what the words say
 pub said_of : (o : Option Command) (c : Command) (b : List ℕ) (exit : Exit) (h : List Turn) (ps : List Place) (t : List ℕ) → o ≡ Some c → SaysOf o b exit h ps t → Says c b exit h ps t

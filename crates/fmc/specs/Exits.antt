@@ -81,3 +81,19 @@ is_decided TooLong = false
 is_decided Malformed = false
 is_decided Illegal = false
 is_decided Unfinished = false
+
+-- an exit that says how reading the source went wrong
+abbrev pub is_of_reading : Exit → Bool
+is_of_reading ReadFault = true
+is_of_reading TooLong = true
+is_of_reading Done = false
+is_of_reading Faulted = false
+is_of_reading Deadlocked = false
+is_of_reading Refused = false
+is_of_reading Spent = false
+is_of_reading Usage = false
+is_of_reading WriteFault = false
+is_of_reading NoMemory = false
+is_of_reading Malformed = false
+is_of_reading Illegal = false
+is_of_reading Unfinished = false

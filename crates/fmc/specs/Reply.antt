@@ -1,9 +1,12 @@
 -- A reply as plain data.
 -- Source: this profile.
-use Rattle.std.specs.Prelude.{ℕ, Bool, List}
-use Rattle.fm_mean.specs.Report.{report_text}
+use Rattle.std.specs.Prelude.{◌≡◌, ℕ, false, List}
 use Rattle.fm_net.specs.Machine.{Place}
 use Rattle.fm_run.specs.Orders.{places_of}
+use Rattle.fm_rules.specs.declared.program.Program.{Program}
+use Rattle.fm_front.specs.Program.{IsCheckedOf}
+use Rattle.fm_run.specs.Runs.{IsRun}
+use Rattle.fm_run.specs.declared.run.Run as run
 use Rattle.fm_run.specs.declared.run.Ending.{Ending}
 use Rattle.fm_run.specs.declared.run.Ending.TheVariants.{Ended, Spent}
 use Rattle.fm_words.specs.declared.command.Command.{Command}
@@ -13,7 +16,8 @@ use Rattle.fmc.specs.declared.answer.Ran.{Ran}
 use Rattle.fmc.specs.declared.answer.Reply.{Reply}
 use Rattle.fmc.specs.declared.answer.Text.{Text}
 use Rattle.fmc.specs.declared.answer.Text.TheVariants.{Fixed, Made}
-use Rattle.fmc.specs.Answer.{exit_of, spent_text, Says}
+use Rattle.fmc.specs.Exits.{is_of_reading}
+use Rattle.fmc.specs.Answer.{Says, SaysRun, Tells, exit_of, spent_text, summary_by}
 
 abbrev pub bytes_of : Text → List ℕ
 bytes_of (Fixed s) = s.now
@@ -26,11 +30,22 @@ places_in ran = places_of ran.paths.items
 abbrev pub IsReply : Command → List ℕ → Reply → Type 0
 IsReply command b r = Says command b r.ran.exit r.ran.history.items (places_in r.ran) (bytes_of r.text)
 
--- the exit of a run, and its text
+-- the exit of a run
 abbrev pub exit_in : Ending → Exit
 exit_in (Ended o) = exit_of o
 exit_in Spent = exit.Spent
 
-abbrev pub text_in : (turns : ℕ) → (vars : Bool) → Ending → List ℕ
-text_in turns vars (Ended o) = report_text vars o
-text_in turns vars Spent = spent_text turns
+-- what is told of a run that ended, or that it was spent
+abbrev pub text_in : (turns : ℕ) → Tells → List Place → Ending → List ℕ
+text_in turns tells places (Ended o) = tells places o
+text_in turns tells places Spent = spent_text turns
+
+-- a run of the checked program of a source
+pub record IsRunOf (source : List ℕ) (turns : ℕ) (r : run.Run) : Type 0 where
+  pub program : Program
+  pub lawful : IsCheckedOf source program
+  pub runs : IsRun program turns r
+
+-- the reply is that of a run of the source, with its summary
+abbrev pub IsSummary : List ℕ → (turns : ℕ) → Reply → Type 0
+IsSummary source turns r = (is_of_reading r.ran.exit ≡ false) × SaysRun turns summary_by source r.ran.exit r.ran.history.items (places_in r.ran) (bytes_of r.text)

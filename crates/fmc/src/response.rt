@@ -1,27 +1,30 @@
 //! The reply to a source.
 
-ghost use Rattle.std.specs.Prelude.{◌≡◌, ◌≤◌, ℕ, List, length, IfOk, IfErr, true};
+ghost use Rattle.std.specs.Prelude.{◌≡◌, ◌≤◌, ◌++◌, ℕ, List, length, codes, IfOk, IfErr, OnOk, true};
 ghost use Rattle.fm_base.specs.Rules.{refusal_text};
 ghost use Rattle.fm_base.specs.Verdict.{IsClean, IsRefusal};
 ghost use Rattle.fm_cards.specs.Cards.{cards_of};
 ghost use Rattle.fm_rules.specs.Program.{AreShaped};
 ghost use Rattle.fm_front.specs.Verdict.{AreStatementsOf, IsBroken, IsBrokenForm};
 ghost use Rattle.fmc.specs.Listing.{listed_text};
+ghost use Rattle.fm_run.specs.Orders.{places_of};
 ghost use Rattle.fm_words.specs.declared.command.Command.TheVariants as command;
 ghost use Rattle.fmc.specs.Exits.{is_decided};
-ghost use Rattle.fmc.specs.Answer.{IsListOf, determinism_text, IsUnplayed, IsPlayedExit, Says, exit_of, spent_text, source_limit};
-ghost use Rattle.fmc.specs.Reply.{bytes_of, places_in, IsReply, exit_in, text_in};
+ghost use Rattle.fmc.specs.Answer.{IsListOf, determinism_text, IsUnplayed, IsPlayedExit, SaysDemo, SaysMade, SaysRun, count_line, ended_word, exit_of, report_by, spent_text, source_limit, summary_by};
+ghost use Rattle.fmc.specs.Reply.{bytes_of, places_in, IsReply, IsRunOf, IsSummary, exit_in, text_in};
 
 use crate::answer::{Exit, Ran, Reply, Text};
 use crate::listing::list_text;
-use fm_base::{CheckFail, Line, NoMemory, Refusal};
+use fm_base::{CheckFail, Line, NoMemory, Path, Refusal, Setup};
 use fm_front::{check_statements, front, statements};
+use fm_make::make;
 use fm_mean::Outcome;
 use fm_report::report;
 use fm_run::{Ending, Run, run_program};
 use fm_tree::Placed;
 use fm_words::Command;
 use std::alloc::Global;
+use std::sync::Arc;
 
 /// A reply where nothing was played. Takes no memory.
 pub fn unplayed_reply(alloc: Global, exit: Exit, text: Text) -> Reply
@@ -36,6 +39,14 @@ pub fn unplayed_reply(alloc: Global, exit: Exit, text: Text) -> Reply
         },
         text,
     }
+}
+
+/// The reply where memory was asked for and not found. Takes no memory.
+pub fn no_memory(alloc: Global) -> Reply
+    ensures exit { result.ran.exit ≡ Exit.NoMemory }
+    ensures text { IsUnplayed result.ran.history.items (places_in result.ran) (bytes_of result.text) (codes "no memory\n") }
+{
+    unplayed_reply(alloc, Exit::NoMemory, Text::Fixed(b"no memory\n"))
 }
 
 fn refusal_reply(alloc: Global, refusal: Refusal) -> Result<Reply, NoMemory>
@@ -77,52 +88,74 @@ fn spent_text(alloc: Global, turns: u64) -> Result<Vec<u8>, NoMemory>
     Ok(text)
 }
 
-fn text_in(alloc: Global, ending: &Ending, turns: u64, vars: bool) -> Result<Vec<u8>, NoMemory>
-    ensures { IfOk result (λ v. v.items ≡ text_in turns vars ending.now) }
+// The text of a run: its report, or that it was spent.
+fn report_in(alloc: Global, run: &Run, turns: u64, vars: bool) -> Result<Vec<u8>, NoMemory>
+    ensures { IfOk result (λ v. v.items ≡ text_in turns (report_by vars) (places_of run.now.paths.items) run.now.ending) }
 {
-    match ending {
+    match &run.ending {
         Ending::Ended(outcome) => report(alloc, outcome, vars),
         Ending::Spent => spent_text(alloc, turns),
     }
 }
 
-/// The program of a source of these bytes, run under these choices. Refused by the least rule that the source breaks.
-pub fn run_source(
+/// A run of the program of a source of these bytes, under these choices, in pieces of so many steps at most. Refused by the
+/// least rule that the source breaks.
+fn run_source(
     alloc: Global,
     bytes: &[u8],
     choices: &[u64],
     turns: u64,
-    vars: bool,
-) -> Result<(Ran, Vec<u8>), CheckFail>
-    requires { length bytes.now ≤ source_limit }
-    ensures says { IfOk result (λ r. Says (command.Run turns vars) bytes.now r.0.exit r.0.history.items (places_in r.0) r.1.items) }
-    ensures exit { IfOk result (λ r. IsPlayedExit r.0.exit) }
+    slice: u32,
+) -> Result<Run, CheckFail>
+    requires size { length bytes.now ≤ source_limit }
+    requires some { 1 ≤ slice }
+    ensures run { IfOk result (λ run. IsRunOf bytes.now turns run) }
     ensures refused { IfErr result (IsRefusal (IsBroken bytes.now)) }
 {
     let program = front(alloc, bytes)?;
-    let Run {
-        history,
-        paths,
-        ending,
-    } = run_program(alloc, &program, choices, turns)?;
-    let text = text_in(alloc, &ending, turns, vars)?;
-    let exit = exit_in(&ending);
-    Ok((
-        Ran {
-            exit,
-            history,
-            paths,
-        },
-        text,
-    ))
+    Ok(run_program(alloc, &program, choices, turns, slice)?)
 }
 
-fn try_run(alloc: Global, bytes: &[u8], turns: u64, vars: bool) -> Result<Reply, NoMemory>
+// The answer of a run.
+fn answer_of(run: Run) -> Ran
+    ensures exit { result.exit ≡ exit_in run.ending }
+    ensures history { result.history ≡ run.history }
+    ensures paths { result.paths ≡ run.paths }
+{
+    let exit = exit_in(&run.ending);
+    Ran {
+        exit,
+        history: run.history,
+        paths: run.paths,
+    }
+}
+
+/// The answer of a run of a source of these bytes, and its text.
+pub fn play_source(
+    alloc: Global,
+    bytes: &[u8],
+    choices: &[u64],
+    turns: u64,
+    slice: u32,
+    vars: bool,
+) -> Result<(Ran, Vec<u8>), CheckFail>
+    requires size { length bytes.now ≤ source_limit }
+    requires some { 1 ≤ slice }
+    ensures says { IfOk result (λ r. SaysRun turns (report_by vars) bytes.now r.0.exit r.0.history.items (places_in r.0) r.1.items) }
+    ensures exit { IfOk result (λ r. IsPlayedExit r.0.exit) }
+    ensures refused { IfErr result (IsRefusal (IsBroken bytes.now)) }
+{
+    let run = run_source(alloc, bytes, choices, turns, slice)?;
+    let text = report_in(alloc, &run, turns, vars)?;
+    Ok((answer_of(run), text))
+}
+
+fn try_run(alloc: Global, bytes: &[u8], setup: Setup, vars: bool) -> Result<Reply, NoMemory>
     requires { length bytes.now ≤ source_limit }
-    ensures reply { IfOk result (λ r. IsReply (command.Run turns vars) bytes.now r) }
+    ensures reply { IfOk result (λ r. IsReply (command.Run setup vars) bytes.now r) }
     ensures kind { IfOk result (λ r. is_decided r.ran.exit ≡ true) }
 {
-    match run_source(alloc, bytes, &[], turns, vars) {
+    match play_source(alloc, bytes, &[], setup.turns, setup.slice, vars) {
         Ok((ran, text)) => Ok(Reply {
             ran,
             text: Text::Made(text),
@@ -130,6 +163,95 @@ fn try_run(alloc: Global, bytes: &[u8], turns: u64, vars: bool) -> Result<Reply,
         Err(CheckFail::Refused(refusal)) => refusal_reply(alloc, refusal),
         Err(CheckFail::NoMemory) => Err(NoMemory),
     }
+}
+
+// Puts a word and a number on a line of their own.
+fn push_count(alloc: Global, out: &mut Vec<u8>, word: &[u8], count: u64) -> Result<(), NoMemory>
+    ensures { OnOk result (out.new.items ≡ out.old.items ++ count_line word.now count) }
+{
+    out.extend_from_slice(word)?;
+    out.extend_from_slice(count.to_string(alloc)?.as_bytes())?;
+    out.push(b'\n')?;
+    Ok(())
+}
+
+fn ended_word(outcome: &Outcome) -> &'static [u8]
+    ensures { result.now ≡ ended_word outcome.now.faults outcome.now.main_ended }
+{
+    match outcome.faults.as_slice() {
+        [] => if outcome.main_ended {
+            b"done\n"
+        } else {
+            b"deadlocked\n"
+        },
+        [_, ..] => b"faulted\n",
+    }
+}
+
+fn summary(alloc: Global, paths: &[Arc<Path>], outcome: &Outcome) -> Result<Vec<u8>, NoMemory>
+    ensures { IfOk result (λ v. v.items ≡ summary_by (places_of paths.now) outcome.now) }
+{
+    let mut out = Vec::new(alloc);
+    push_count(alloc, &mut out, b"processes ", paths.len() as u64)?;
+    push_count(alloc, &mut out, b"turns ", outcome.used)?;
+    push_count(alloc, &mut out, b"lines ", outcome.lines.len() as u64)?;
+    out.extend_from_slice(ended_word(outcome))?;
+    Ok(out)
+}
+
+// The text of a demonstration: its summary, or that it was spent.
+fn summary_in(alloc: Global, run: &Run, turns: u64) -> Result<Vec<u8>, NoMemory>
+    ensures { IfOk result (λ v. v.items ≡ text_in turns summary_by (places_of run.now.paths.items) run.now.ending) }
+{
+    match &run.ending {
+        Ending::Ended(outcome) => summary(alloc, &run.paths, outcome),
+        Ending::Spent => spent_text(alloc, turns),
+    }
+}
+
+/// The answer of a demonstration by a source of these bytes, and its text.
+fn show_source(alloc: Global, bytes: &[u8], setup: Setup) -> Result<(Ran, Vec<u8>), CheckFail>
+    requires { length bytes.now ≤ source_limit }
+    ensures says { IfOk result (λ r. SaysRun setup.turns summary_by bytes.now r.0.exit r.0.history.items (places_in r.0) r.1.items) }
+    ensures exit { IfOk result (λ r. IsPlayedExit r.0.exit) }
+    ensures refused { IfErr result (IsRefusal (IsBroken bytes.now)) }
+{
+    let run = run_source(alloc, bytes, &[], setup.turns, setup.slice)?;
+    let text = summary_in(alloc, &run, setup.turns)?;
+    Ok((answer_of(run), text))
+}
+
+fn summary_reply(alloc: Global, bytes: &[u8], setup: Setup) -> Result<Reply, NoMemory>
+    requires { length bytes.now ≤ source_limit }
+    ensures summary { IfOk result (IsSummary bytes.now setup.turns) }
+    ensures kind { IfOk result (λ r. is_decided r.ran.exit ≡ true) }
+{
+    match show_source(alloc, bytes, setup) {
+        Ok((ran, text)) => Ok(Reply {
+            ran,
+            text: Text::Made(text),
+        }),
+        Err(CheckFail::Refused(refusal)) => refusal_reply(alloc, refusal),
+        Err(CheckFail::NoMemory) => Err(NoMemory),
+    }
+}
+
+/// The program of a number is made and run.
+fn try_demo(alloc: Global, number: u64, setup: Setup) -> Result<Reply, NoMemory>
+    ensures reply { IfOk result (λ r. SaysDemo number setup.turns r.ran.exit r.ran.history.items (places_in r.ran) (bytes_of r.text)) }
+    ensures kind { IfOk result (λ r. is_decided r.ran.exit ≡ true) }
+{
+    let source = make(alloc, number)?;
+    summary_reply(alloc, &source, setup)
+}
+
+/// The program of a number is written.
+fn try_make(alloc: Global, number: u64) -> Result<Reply, NoMemory>
+    ensures reply { IfOk result (λ r. SaysMade number r.ran.exit r.ran.history.items (places_in r.ran) (bytes_of r.text)) }
+    ensures kind { IfOk result (λ r. is_decided r.ran.exit ≡ true) }
+{
+    let text = Text::Made(make(alloc, number)?);
+    Ok(unplayed_reply(alloc, Exit::Done, text))
 }
 
 fn determinism_text(alloc: Global, race: Option<Line>) -> Result<Text, NoMemory>
@@ -202,19 +324,21 @@ fn try_list(alloc: Global, bytes: &[u8]) -> Result<Reply, NoMemory>
     }
 }
 
-/// The reply to a source of these bytes.
+/// The reply to a source of these bytes, on which `make` and `demo` don't depend.
 pub fn reply(alloc: Global, command: Command, bytes: &[u8]) -> Reply
     requires { length bytes.now ≤ source_limit }
     ensures reply { IsReply command bytes.now result }
     ensures kind { is_decided result.ran.exit ≡ true }
 {
     let tried = match command {
-        Command::Run { turns, vars } => try_run(alloc, bytes, turns, vars),
+        Command::Run { setup, vars } => try_run(alloc, bytes, setup, vars),
         Command::Check => try_check(alloc, bytes),
         Command::List => try_list(alloc, bytes),
+        Command::Make { number } => try_make(alloc, number),
+        Command::Demo { number, setup } => try_demo(alloc, number, setup),
     };
     match tried {
         Ok(reply) => reply,
-        Err(NoMemory) => unplayed_reply(alloc, Exit::NoMemory, Text::Fixed(b"no memory\n")),
+        Err(NoMemory) => no_memory(alloc),
     }
 }

@@ -1,6 +1,6 @@
 //! The top call.
 
-ghost use Rattle.std.specs.Prelude.{◌≡◌, ◌≢◌, ◌≤◌, ◌<◌, ◌⊎◌, ℕ, true, false, List, map, length, IfSome, IfOk, IfErr, Some, None, is_none, is_some};
+ghost use Rattle.std.specs.Prelude.{◌≡◌, ◌≢◌, ◌≤◌, ◌<◌, ◌⊎◌, ℕ, true, false, List, map, length, IfSome, IfOk, IfErr, Some, is_none};
 ghost use Rattle.std.specs.Io.KnownBytes.{Appends, IsAtEnd};
 ghost use Rattle.fm_base.specs.declared.rule.Refusal.{Refusal};
 ghost use Rattle.fm_base.specs.Verdict.{IsRefusal};
@@ -10,23 +10,27 @@ ghost use Rattle.fm_front.specs.Laws.{OneVerdict};
 ghost use Rattle.fm_front.specs.Verdict.{IsBroken};
 ghost use Rattle.fm_words.specs.Words.{command_of};
 ghost use Rattle.fm_words.specs.declared.command.Command.{Command};
-ghost use Rattle.fm_words.specs.declared.command.Command.TheVariants as command;
 ghost use Rattle.fmc.specs.Exits.{is_usage, is_read};
-ghost use Rattle.fmc.specs.Answer.{Answers, Says, SaysOf, HasHistory, IsAccepted, IsRefusedFor, IsCompleted, IsRefusedExit, IsTooLongExit, IsPlayedExit, IsCommand, source_limit};
+ghost use Rattle.fmc.specs.Answer.{Answers, Says, SaysOf, SaysRun, HasHistory, IsReady, IsRefusedBy, IsCompleted, IsRefusedExit, IsTooLongExit, IsPlayedExit, are_reading, is_reading, report_by, source_limit};
 ghost use Rattle.fmc.specs.Reply.{bytes_of, places_in};
 
 use crate::answer::{Exit, Ran, Reply, Text};
-use crate::response::{reply, run_source, unplayed_reply};
+use crate::response::{no_memory, play_source, reply, unplayed_reply};
 use fm_base::CheckFail;
 use fm_io::{ReadFail, Sink, Source, WriteFail, read_all, write_all};
-use fm_words::{Command, command_of};
+use fm_words::{Command, WordsFail, words as command_in};
 use std::alloc::Global;
 
 const LIMIT: usize = 1_000_000;
 
+/// The most steps of a piece under a schedule of the caller's.
+const SLICE: u32 = 1_000;
+
 const USAGE: &[u8] = b"usage: fmc run or trace or replay or check or list or make N or demo N\n";
 
+/// The reply to a command that works on the source.
 fn respond_to<S: Source>(alloc: Global, command: Command, source: &mut S) -> Reply
+    requires { is_reading command ≡ true }
     ensures reply { IfSome (S.left source.old) (λ b. Says command b result.ran.exit result.ran.history.items (places_in result.ran) (bytes_of result.text)) }
     ensures no_usage { is_usage result.ran.exit ≡ false }
     ensures no_write { result.ran.exit ≢ Exit.WriteFault }
@@ -42,9 +46,19 @@ fn respond_to<S: Source>(alloc: Global, command: Command, source: &mut S) -> Rep
         Err(ReadFail::TooLong) => {
             unplayed_reply(alloc, Exit::TooLong, Text::Fixed(b"source too long\n"))
         }
-        Err(ReadFail::NoMemory) => {
-            unplayed_reply(alloc, Exit::NoMemory, Text::Fixed(b"no memory\n"))
-        }
+        Err(ReadFail::NoMemory) => no_memory(alloc),
+    }
+}
+
+fn is_reading(command: &Command) -> bool
+    ensures { result ≡ is_reading command.now }
+{
+    match command {
+        Command::Run { .. } => true,
+        Command::Check => true,
+        Command::List => true,
+        Command::Make { .. } => false,
+        Command::Demo { .. } => false,
     }
 }
 
@@ -53,12 +67,20 @@ fn respond<S: Source>(alloc: Global, words: &[&str], source: &mut S) -> Reply
     ensures words { is_usage result.ran.exit ≡ is_none (command_of (map (λ w. w.now) words.now)) }
     ensures no_write { result.ran.exit ≢ Exit.WriteFault }
     ensures read_fault { result.ran.exit ≡ Exit.ReadFault → Rose (S.faults source.old) (S.faults source.new) }
-    ensures read { is_read result.ran.exit ≡ true → IsAtEnd (S.left source.new) }
+    ensures read { are_reading (command_of (map (λ w. w.now) words.now)) ≡ true → is_read result.ran.exit ≡ true → IsAtEnd (S.left source.new) }
+    ensures unread { are_reading (command_of (map (λ w. w.now) words.now)) ≡ false → source.new ≡ source.old }
     ensures later { S.faults source.old ≤ S.faults source.new }
 {
-    match command_of(words) {
-        Some(command) => respond_to(alloc, command, source),
-        None => unplayed_reply(alloc, Exit::Usage, Text::Fixed(USAGE)),
+    match command_in(alloc, words) {
+        Ok(command) => {
+            if is_reading(&command) {
+                respond_to(alloc, command, source)
+            } else {
+                reply(alloc, command, &[])
+            }
+        }
+        Err(WordsFail::Usage) => unplayed_reply(alloc, Exit::Usage, Text::Fixed(USAGE)),
+        Err(WordsFail::NoMemory) => no_memory(alloc),
     }
 }
 
@@ -92,10 +114,10 @@ fn finish<K: Sink>(sink: &mut K, reply: Reply) -> Ran
     }
 }
 
-/// Reads a source, does what the words say, and writes one text. The order of work is: words, reading,
-/// checking, running, writing; the first refusal in this order is the answer. The words are those
-/// after the program's name; the answer's exit, schedule and text are those of the bytes that the
-/// source had left.
+/// Does what the words say, and writes one text. The order of work is: words, reading, checking, running,
+/// writing; the first refusal in this order is the answer. The words are those after the program's name;
+/// the answer's exit, schedule and text are those of the bytes that the source had left. `make` and
+/// `demo` don't read the source.
 pub fn fmc<S: Source, K: Sink>(alloc: Global, words: &[&str], source: &mut S, sink: &mut K) -> Ran
     // Exit, schedule and text are those of the bytes: the whole text was written and handed on, or a
     // front of the text that would have been.
@@ -110,14 +132,15 @@ pub fn fmc<S: Source, K: Sink>(alloc: Global, words: &[&str], source: &mut S, si
     // A fault is told only where the source or the sink failed in this call.
     ensures read_fault { result.exit ≡ Exit.ReadFault → Rose (S.faults source.old) (S.faults source.new) }
     ensures write_fault { result.exit ≡ Exit.WriteFault → Rose (K.faults sink.old) (K.faults sink.new) }
-    ensures all_read { is_read result.exit ≡ true → IsAtEnd (S.left source.new) }
+    ensures all_read { are_reading (command_of (map (λ w. w.now) words.now)) ≡ true → is_read result.exit ≡ true → IsAtEnd (S.left source.new) }
+    ensures unread { are_reading (command_of (map (λ w. w.now) words.now)) ≡ false → source.new ≡ source.old }
 
-    // Nothing but the bytes and the memory decides, where nothing fails.
+    // Nothing but the words, the bytes and the memory decides, where nothing fails.
     ensures complete { (command : Command) → command_of (map (λ w. w.now) words.now) ≡ Some command → ¬ Rose (S.faults source.old) (S.faults source.new) → ¬ Rose (K.faults sink.old) (K.faults sink.new)
-        → IfSome (S.left source.old) (λ b. length b ≤ source_limit → IsAccepted b → IsCompleted command result.exit) }
-    ensures refused { IsCommand (map (λ w. w.now) words.now) → ¬ Rose (S.faults source.old) (S.faults source.new) → ¬ Rose (K.faults sink.old) (K.faults sink.new)
-        → IfSome (S.left source.old) (λ b. length b ≤ source_limit → (v : Refusal) → IsRefusedFor b v → IsRefusedExit result.exit) }
-    ensures too_long { IsCommand (map (λ w. w.now) words.now) → ¬ Rose (S.faults source.old) (S.faults source.new) → ¬ Rose (K.faults sink.old) (K.faults sink.new)
+        → IfSome (S.left source.old) (λ b. IsReady command b → IsCompleted command result.exit) }
+    ensures refused { (command : Command) → command_of (map (λ w. w.now) words.now) ≡ Some command → ¬ Rose (S.faults source.old) (S.faults source.new) → ¬ Rose (K.faults sink.old) (K.faults sink.new)
+        → IfSome (S.left source.old) (λ b. (v : Refusal) → IsRefusedBy command b v → IsRefusedExit result.exit) }
+    ensures too_long { are_reading (command_of (map (λ w. w.now) words.now)) ≡ true → ¬ Rose (S.faults source.old) (S.faults source.new) → ¬ Rose (K.faults sink.old) (K.faults sink.new)
         → IfSome (S.left source.old) (λ b. source_limit < length b → IsTooLongExit result.exit) }
 {
     let reply = respond(alloc, words, source);
@@ -138,11 +161,11 @@ pub fn play_choices(
     requires size { length source.now ≤ source_limit }
     requires some_turns { 1 ≤ turns }
     requires few_turns { turns ≤ 1_000_000_000 }
-    ensures answers { IfOk result (λ r. Says (command.Run turns vars) source.now r.0.exit r.0.history.items (places_in r.0) r.1.items) }
+    ensures answers { IfOk result (λ r. SaysRun turns (report_by vars) source.now r.0.exit r.0.history.items (places_in r.0) r.1.items) }
     ensures exit { IfOk result (λ r. IsPlayedExit r.0.exit) }
     ensures refused { IfErr result (IsRefusal (IsBroken source.now)) }
 {
-    run_source(alloc, source, choices, turns, vars)
+    play_source(alloc, source, choices, turns, SLICE, vars)
 }
 
 /// A source has one verdict.
