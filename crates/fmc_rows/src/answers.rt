@@ -1,5 +1,7 @@
 //! Calls of the program over sources and sinks in memory.
 
+ghost use Rattle.std.specs.Prelude.{◌<◌};
+
 use fm_io::{MemSink, MemSource};
 use fmc::{Ran, fmc, play_choices};
 use std::alloc::Global;
@@ -11,6 +13,8 @@ pub struct Streams {
     pub read_fails: &'static [u64],
     pub write: usize,
     pub write_fails: &'static [u64],
+    ghost some_read: { 0 < read },
+    ghost some_write: { 0 < write },
 }
 
 /// Whole pieces, and nothing fails.
@@ -43,6 +47,9 @@ pub fn answer(alloc: Global, words: &[&str], source: &[u8]) -> Result<(Ran, Vec<
 
 /// What a source comes to under these choices, with the variables.
 pub fn play(alloc: Global, source: &[u8], choices: &[u64]) -> Result<(Ran, Vec<u8>), Fail> {
-    let (ran, text) = play_choices(alloc, source, choices, 1_000, true).map_err(|_| "refused")?;
+    if source.len() > 1_000_000 {
+        return Err(Fail::from("source too long"));
+    }
+    let (ran, text) = play_choices(alloc, source, choices, 100_000, true).map_err(|_| "refused")?;
     Ok((ran, text))
 }

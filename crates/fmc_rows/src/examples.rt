@@ -420,7 +420,7 @@ C     it.
       END
 ",
         exit: Exit::Deadlocked,
-        text: b"wait main line 14 join\nwait main/1.1 line 21 receive main:1\nwait main/1.2 line 21 receive main:2\nwait main/1.3 line 21 receive main:3\n",
+        text: b"wait main line 14 join for main/1.1\nwait main/1.1 line 21 receive main:1 for main/1.3\nwait main/1.2 line 21 receive main:2 for main/1.1\nwait main/1.3 line 21 receive main:3 for main/1.2\ncycle main/1.1 main/1.3 main/1.2\n",
     },
     Row {
         source: b"C     Processes placed on the nodes of a grid of 2 by 3.

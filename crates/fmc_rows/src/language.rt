@@ -1,6 +1,7 @@
 //! Programs of the whole language, and the whole texts and exits that they are answered with.
 
 use crate::answers::{answer, play};
+use crate::schedules::first_other;
 use fmc::Exit;
 use std::test::Fail;
 
@@ -337,7 +338,7 @@ const ROWS: [Row; 28] = [
 ",
         words: RUN,
         exit: Exit::Faulted,
-        text: b" 2\nfault main/1.1 line 18 NullPort\nwait main line 12 join\n",
+        text: b" 2\nfault main/1.1 line 18 NullPort\nwait main line 12 join for main/1.1\n",
     },
     // A port that is handed to two processes in turn.
     Row {
@@ -363,7 +364,7 @@ const ROWS: [Row; 28] = [
 ",
         words: RUN,
         exit: Exit::Deadlocked,
-        text: b" 7\n 6\nwait main line 13 receive main:1\n",
+        text: b" 7\n 6\nwait main line 13 receive main:1 for main\ncycle main\n",
     },
     // A channel that its writer's process gives back.
     Row {
@@ -390,7 +391,7 @@ const ROWS: [Row; 28] = [
 ",
         words: RUN,
         exit: Exit::Deadlocked,
-        text: b" 8\nwait main line 8 join\nwait main/1.2 line 16 receive main:1\n",
+        text: b" 8\nwait main line 8 join for main/1.2\nwait main/1.2 line 16 receive main:1 for main\ncycle main main/1.2\n",
     },
     // And one that it doesn't.
     Row {
@@ -593,6 +594,18 @@ fn programs_of_the_whole_language(rt: HostRuntime) -> Result<(), Fail> {
         let (ran, text) = answer(rt.alloc(), row.words, row.source)?;
         assert_eq!(rt; text.as_slice(), row.text, "row {i}");
         assert_eq!(rt; ran.exit, row.exit, "row {i}");
+    }
+    Ok(())
+}
+
+// What `check` calls deterministic has one text under every schedule.
+#[test]
+fn schedules_change_nothing(rt: HostRuntime) -> Result<(), Fail> {
+    for (i, row) in ROWS.iter().enumerate() {
+        let (_, told) = answer(rt.alloc(), &["check"], row.source)?;
+        if told.as_slice() == b"deterministic\n" {
+            assert_eq!(rt; first_other(rt.alloc(), row.source)?, None, "row {i}");
+        }
     }
     Ok(())
 }

@@ -16,8 +16,14 @@ mod io;
 #[cfg(test)]
 mod language;
 #[cfg(test)]
+mod made;
+#[cfg(test)]
+mod placement;
+#[cfg(test)]
 mod programs;
 #[cfg(test)]
 mod rules;
+#[cfg(test)]
+mod schedules;
 #[cfg(test)]
 mod words;

@@ -252,7 +252,7 @@ const RUNS: [Row; 26] = [
     Row {
         source: DEAD,
         exit: Exit::Deadlocked,
-        text: b"wait main line 9 join\nwait main/1.1 line 14 receive main:1\nwait main/1.2 line 14 receive main:2\n",
+        text: b"wait main line 9 join for main/1.1\nwait main/1.1 line 14 receive main:1 for main/1.2\nwait main/1.2 line 14 receive main:2 for main/1.1\ncycle main/1.1 main/1.2\n",
     },
     Row {
         source: PAIR,
@@ -267,7 +267,7 @@ const RUNS: [Row; 26] = [
     Row {
         source: TWICE,
         exit: Exit::Faulted,
-        text: b"fault main/1.2 line 12 NullPort\nwait main line 8 join\n",
+        text: b"fault main/1.2 line 12 NullPort\nwait main line 8 join for main/1.2\n",
     },
     Row {
         source: b"      PROGRAM P\n      INPORT (INTEGER) A\n      OUTPORT (INTEGER) B\n      CHANNEL(IN=A,OUT=B)\n      SEND(B) 1\n      ENDCHANNEL(B)\n      RECEIVE(A) I\n      PRINT *, I\n      RECEIVE(A) I\n      END\n",

@@ -1,33 +1,95 @@
 //! The command set.
 
-use fm_words::{Command, command_of};
+use fm_base::{Plan, Setup};
+use fm_words::{Command, WordsFail, words};
 use std::test::Fail;
 
-/// Words that are `run`, its turns, and whether the variables are asked for.
-const RUNS: [(&[&str], u64, bool); 8] = [
-    (&["run"], 10_000_000, false),
-    (&["run", "--vars"], 10_000_000, true),
-    (&["run", "--turns", "5"], 5, false),
-    (&["run", "--turns=5"], 5, false),
-    (&["run", "--turns", "1", "--vars"], 1, true),
-    (&["run", "--vars", "--turns", "12"], 12, true),
+/// The setup without options.
+const DEFAULT: Setup = Setup {
+    turns: 10_000_000,
+    slice: 1_000,
+    workers: 4,
+    plan: Plan::Cyclic,
+};
+
+/// Words that are `run`, how it is set up, and whether the variables are asked for.
+const RUNS: [(&[&str], Setup, bool); 8] = [
+    (&["run"], DEFAULT, false),
+    (&["run", "--vars"], DEFAULT, true),
     (
-        &["run", "--vars", "--turns=1000000000"],
-        1_000_000_000,
+        &["run", "--turns", "5"],
+        Setup {
+            turns: 5,
+            ..DEFAULT
+        },
+        false,
+    ),
+    (
+        &["run", "--turns=1000000000", "--vars"],
+        Setup {
+            turns: 1_000_000_000,
+            ..DEFAULT
+        },
         true,
     ),
-    (&["run", "--turns", "000000000000000042"], 42, false),
+    (
+        &["run", "--vars", "--slice", "000000000000000042"],
+        Setup {
+            slice: 42,
+            ..DEFAULT
+        },
+        true,
+    ),
+    (
+        &["run", "--workers=64", "--slice=1000000"],
+        Setup {
+            slice: 1_000_000,
+            workers: 64,
+            ..DEFAULT
+        },
+        false,
+    ),
+    (
+        &["run", "--plan", "block"],
+        Setup {
+            plan: Plan::Block,
+            ..DEFAULT
+        },
+        false,
+    ),
+    (
+        &[
+            "run",
+            "--plan=cyclic",
+            "--turns=1",
+            "--vars",
+            "--workers",
+            "1",
+            "--slice",
+            "1",
+        ],
+        Setup {
+            turns: 1,
+            slice: 1,
+            workers: 1,
+            plan: Plan::Cyclic,
+        },
+        true,
+    ),
 ];
 
 /// Words that are no command.
-const NOTHING: [&[&str]; 25] = [
+const NOTHING: [&[&str]; 35] = [
     &[],
     &[""],
     &["RUN"],
+    &["trace"],
+    &["replay"],
     &["--vars", "run"],
     &["list", "--vars"],
     &["list", "list"],
     &["check", "--vars"],
+    &["check", "--turns=5"],
     &["run", "list"],
     &["run", "--"],
     &["run", "-h"],
@@ -41,26 +103,46 @@ const NOTHING: [&[&str]; 25] = [
     &["run", "--turns", "5", "6"],
     &["run", "--turns", "+5"],
     &["run", "--turns=-5"],
-    &["run", "--turns", "5k"],
     &["run", "--turns=0"],
     &["run", "--turns=1000000001"],
     &["run", "--turns", "0000000000000000042"],
     &["run", "--turns=5", "--vars", "--turns", "5"],
+    &["run", "--workers=65"],
+    &["run", "--slice", "1000001"],
+    &["run", "--plan=Block"],
+    &["make"],
+    &["make", "7", "--vars"],
+    &["make", "7", "8"],
+    &["demo", "--turns=5", "7"],
+    &["demo", "7", "--vars"],
 ];
 
 #[test]
 fn words_are_their_commands(rt: HostRuntime) -> Result<(), Fail> {
-    assert_eq!(rt; command_of(&["list"]), Some(Command::List));
-    assert_eq!(rt; command_of(&["check"]), Some(Command::Check));
-    for (i, (row, turns, vars)) in RUNS.iter().enumerate() {
+    let alloc = rt.alloc();
+    assert_eq!(rt; words(alloc, &["list"]), Ok(Command::List));
+    assert_eq!(rt; words(alloc, &["check"]), Ok(Command::Check));
+    assert_eq!(rt;
+        words(alloc, &["make", "007"]),
+        Ok(Command::Make { number: 7 })
+    );
+    let setup = Setup {
+        slice: 10,
+        ..DEFAULT
+    };
+    assert_eq!(rt;
+        words(alloc, &["demo", "7", "--slice=10"]),
+        Ok(Command::Demo { number: 7, setup })
+    );
+    for (i, (row, setup, vars)) in RUNS.iter().enumerate() {
         let command = Command::Run {
-            turns: *turns,
+            setup: *setup,
             vars: *vars,
         };
-        assert_eq!(rt; command_of(row), Some(command), "run {i}");
+        assert_eq!(rt; words(alloc, row), Ok(command), "run {i}");
     }
     for (i, row) in NOTHING.iter().enumerate() {
-        assert_eq!(rt; command_of(row), None, "nothing {i}");
+        assert_eq!(rt; words(alloc, row), Err(WordsFail::Usage), "nothing {i}");
     }
     Ok(())
 }
