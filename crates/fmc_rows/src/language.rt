@@ -603,7 +603,7 @@ fn programs_of_the_whole_language(rt: HostRuntime) -> Result<(), Fail> {
 fn schedules_change_nothing(rt: HostRuntime) -> Result<(), Fail> {
     for (i, row) in ROWS.iter().enumerate() {
         let (_, told) = answer(rt.alloc(), &["check"], row.source)?;
-        if told.as_slice() == b"deterministic\n" {
+        if told.as_slice() == b"deterministic\n".as_slice() {
             assert_eq!(rt; first_other(rt.alloc(), row.source)?, None, "row {i}");
         }
     }

@@ -20,7 +20,9 @@ const RUNS: [(&[&str], Setup, bool); 8] = [
         &["run", "--turns", "5"],
         Setup {
             turns: 5,
-            ..DEFAULT
+            slice: 1_000,
+            workers: 4,
+            plan: Plan::Cyclic,
         },
         false,
     ),
@@ -28,32 +30,39 @@ const RUNS: [(&[&str], Setup, bool); 8] = [
         &["run", "--turns=1000000000", "--vars"],
         Setup {
             turns: 1_000_000_000,
-            ..DEFAULT
+            slice: 1_000,
+            workers: 4,
+            plan: Plan::Cyclic,
         },
         true,
     ),
     (
         &["run", "--vars", "--slice", "000000000000000042"],
         Setup {
+            turns: 10_000_000,
             slice: 42,
-            ..DEFAULT
+            workers: 4,
+            plan: Plan::Cyclic,
         },
         true,
     ),
     (
         &["run", "--workers=64", "--slice=1000000"],
         Setup {
+            turns: 10_000_000,
             slice: 1_000_000,
             workers: 64,
-            ..DEFAULT
+            plan: Plan::Cyclic,
         },
         false,
     ),
     (
         &["run", "--plan", "block"],
         Setup {
+            turns: 10_000_000,
+            slice: 1_000,
+            workers: 4,
             plan: Plan::Block,
-            ..DEFAULT
         },
         false,
     ),
@@ -127,8 +136,10 @@ fn words_are_their_commands(rt: HostRuntime) -> Result<(), Fail> {
         Ok(Command::Make { number: 7 })
     );
     let setup = Setup {
+        turns: 10_000_000,
         slice: 10,
-        ..DEFAULT
+        workers: 4,
+        plan: Plan::Cyclic,
     };
     assert_eq!(rt;
         words(alloc, &["demo", "7", "--slice=10"]),
