@@ -8,7 +8,7 @@ there, and prints the least time, the peak memory (GNU time, where that is there
 through the channels. BINARY is the built program, by default crates/fmc_cli/out/fmc_cli.
 """
 import os
-import resource
+import re
 import shutil
 import subprocess
 import sys
@@ -27,14 +27,23 @@ def messages(number):
 
 
 def measured(command):
-    """The least time of some runs, and the peak memory of the children so far, in bytes."""
+    """The least time of some runs."""
     best = None
     for _ in range(RUNS):
         begin = time.perf_counter()
         subprocess.run(command, stdout=subprocess.DEVNULL, check=True)
         spent = time.perf_counter() - begin
         best = spent if best is None else min(best, spent)
-    return best, 1024 * resource.getrusage(resource.RUSAGE_CHILDREN).ru_maxrss
+    return best
+
+
+def peak(command):
+    """The peak memory of a run in bytes, by GNU time; 0 where that isn't there. A child of Python's own would show Python's."""
+    timer = shutil.which("time")
+    if not timer:
+        return 0
+    told = subprocess.run([timer, "-v", *command], stdout=subprocess.DEVNULL, stderr=subprocess.PIPE, check=True).stderr
+    return 1024 * int(re.search(rb"Maximum resident set size \(kbytes\): (\d+)", told).group(1))
 
 
 def commands(binary, number):
@@ -51,10 +60,10 @@ def main():
     for number in NUMBERS:
         first = None
         for name, command in commands(binary, number):
-            spent, peak = measured(command)
+            spent = measured(command)
             first = first or spent
             rate = messages(number) / spent
-            print(f"{number:5} {name:5}{spent:9.3f} s{first / spent:8.2f} of fmc's speed{peak:14,} bytes{rate:14,.0f} messages a second")
+            print(f"{number:5} {name:5}{spent:9.3f} s{first / spent:8.2f} of fmc's speed{peak(command):14,} bytes{rate:14,.0f} messages a second")
 
 
 if __name__ == "__main__":
