@@ -11,7 +11,7 @@ use fm_base::Plan;
 const MOST_DIGITS: usize = 18;
 
 /// An option that takes a value.
-#[derive(Clone, Copy, Debug, PartialEq, Eq)]
+#[derive(Clone, Copy)]
 pub enum OptionName {
     /// `--turns`
     Turns,
@@ -24,7 +24,7 @@ pub enum OptionName {
 }
 
 /// An option as it was written, its number in range or not.
-#[derive(Clone, Copy, Debug, PartialEq, Eq)]
+#[derive(Clone, Copy)]
 pub enum Setting {
     /// The bound on the cost of the run, in turns.
     Turns(u64),

@@ -1,9 +1,9 @@
 //! The values of accepted words, as `clap` reads them.
 
 ghost use Rattle.std.specs.Prelude.{◌≡◌, true, false, Some, map, codes, option_and_then, is_some, IfOk, IfErr};
-ghost use Rattle.clap.specs.Words.{app_of, first_value, found_of, one_text, rows_of};
+ghost use Rattle.clap.specs.Words.{app_of, first_value, found_of, one_text, rows_of, with_rule};
 ghost use Rattle.fm_words.specs.Words.{number_of, plan_of, options_of, demo_with, make_of, demo_of};
-ghost use Rattle.fm_words.specs.Values.{with_options, run_found, make_found, demo_found};
+ghost use Rattle.fm_words.specs.Values.{bare, valued_rule, vars_rule, with_number, with_options, run_found, make_found, demo_found};
 ghost use Rattle.fm_words.specs.declared.command.Command.TheVariants as command;
 
 use crate::command::WordsFail;
@@ -12,29 +12,60 @@ use crate::settings::Settings;
 use clap::{Arg, ArgAction, ArgMatches};
 use std::alloc::{AllocError, Global};
 
+// A command whose words have no name of it in front.
+fn bare<'a>(alloc: Global, name: &'a str) -> clap::Command<'a>
+    ensures { app_of result ≡ bare name.entry.now }
+{
+    clap::Command::new(alloc, name).no_binary_name(true)
+}
+
+fn with_number<'a>(
+    alloc: Global,
+    command: clap::Command<'a>,
+) -> Result<clap::Command<'a>, AllocError>
+    ensures { IfOk result (λ c. app_of c ≡ with_number (app_of command.entry)) }
+{
+    command.arg(Arg::new(alloc, "number"))
+}
+
+// An option that takes a value.
+fn with_valued<'a>(
+    alloc: Global,
+    command: clap::Command<'a>,
+    name: &'a str,
+) -> Result<clap::Command<'a>, AllocError>
+    ensures { IfOk result (λ c. app_of c ≡ with_rule (app_of command.entry) (valued_rule name.entry.now)) }
+{
+    command.arg(Arg::new(alloc, name).long(name))
+}
+
+fn with_vars<'a>(alloc: Global, command: clap::Command<'a>) -> Result<clap::Command<'a>, AllocError>
+    ensures { IfOk result (λ c. app_of c ≡ with_rule (app_of command.entry) vars_rule) }
+{
+    let vars = Arg::new(alloc, "vars")
+        .long("vars")
+        .action(ArgAction::SetTrue);
+    command.arg(vars)
+}
+
 fn with_options<'a>(
     alloc: Global,
     command: clap::Command<'a>,
 ) -> Result<clap::Command<'a>, AllocError>
     ensures { IfOk result (λ c. app_of c ≡ with_options (app_of command.entry)) }
 {
-    let vars = Arg::new(alloc, "vars")
-        .long("vars")
-        .action(ArgAction::SetTrue);
-    command
-        .arg(Arg::new(alloc, "turns").long("turns"))?
-        .arg(Arg::new(alloc, "workers").long("workers"))?
-        .arg(Arg::new(alloc, "slice").long("slice"))?
-        .arg(Arg::new(alloc, "plan").long("plan"))?
-        .arg(vars)
+    let command = with_valued(alloc, command, "turns")?;
+    let command = with_valued(alloc, command, "workers")?;
+    let command = with_valued(alloc, command, "slice")?;
+    let command = with_valued(alloc, command, "plan")?;
+    with_vars(alloc, command)
 }
 
 fn run_matches<'a>(alloc: Global, words: &'a [&'a str]) -> Result<ArgMatches<'a>, WordsFail>
     ensures rows { IfOk result (λ m. rows_of (found_of m) ≡ run_found (map (λ w. w.now) words.entry.now)) }
     ensures memory { IfErr result (λ e. e ≡ WordsFail.NoMemory) }
 {
-    let bare = clap::Command::new(alloc, "run").no_binary_name(true);
-    let command = with_options(alloc, bare)?;
+    let command = with_options(alloc, bare(alloc, "run"))?;
     Ok(command.try_get_matches_from(words)?)
 }
 
@@ -42,8 +73,7 @@ fn make_matches<'a>(alloc: Global, words: &'a [&'a str]) -> Result<ArgMatches<'a
     ensures rows { IfOk result (λ m. rows_of (found_of m) ≡ make_found (map (λ w. w.now) words.entry.now)) }
     ensures memory { IfErr result (λ e. e ≡ WordsFail.NoMemory) }
 {
-    let bare = clap::Command::new(alloc, "make").no_binary_name(true);
-    let command = bare.arg(Arg::new(alloc, "number"))?;
+    let command = with_number(alloc, bare(alloc, "make"))?;
     Ok(command.try_get_matches_from(words)?)
 }
 
@@ -51,8 +81,7 @@ fn demo_matches<'a>(alloc: Global, words: &'a [&'a str]) -> Result<ArgMatches<'a
     ensures rows { IfOk result (λ m. rows_of (found_of m) ≡ demo_found (map (λ w. w.now) words.entry.now)) }
     ensures memory { IfErr result (λ e. e ≡ WordsFail.NoMemory) }
 {
-    let bare = clap::Command::new(alloc, "demo").no_binary_name(true);
-    let numbered = bare.arg(Arg::new(alloc, "number"))?;
+    let numbered = with_number(alloc, bare(alloc, "demo"))?;
     let command = with_options(alloc, numbered)?;
     Ok(command.try_get_matches_from(words)?)
 }
