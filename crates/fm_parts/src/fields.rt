@@ -9,7 +9,7 @@ ghost use Rattle.fm_parts.specs.Fields.{behind_text, bounds_read, field_read, fi
 use crate::list::bracketed;
 use crate::mark::{Mark, Word, is_comma};
 use crate::parts::BoundForm;
-use crate::reader::{a_mark, a_name, front, goes_on};
+use crate::reader::{a_mark, a_name, ended_by, front, goes_on};
 use fm_base::{Name, ParseFail, Seq, Token, is_name_text};
 use fm_tree::{Bound, Field, Kind, PortType};
 use std::alloc::Global;
@@ -88,7 +88,7 @@ fn a_port_head(
 {
     let rest = a_mark(Mark::Open, tokens)?;
     let (inside, rest) = fields(alloc, depth, rest)?;
-    let rest = a_mark(Mark::Close, rest)?;
+    let (inside, rest) = ended_by(inside, Mark::Close, rest)?;
     let (name, rest) = optional_name(alloc, rest)?;
     Ok(((inside, name), rest))
 }
@@ -205,6 +205,5 @@ pub fn a_port_type(alloc: Global, tokens: &[Token]) -> Result<(PortType, &[Token
     let depth = tokens.len();
     let rest = a_mark(Mark::Open, tokens)?;
     let (inside, rest) = fields(alloc, depth, rest)?;
-    let rest = a_mark(Mark::Close, rest)?;
-    Ok((inside, rest))
+    ended_by(inside, Mark::Close, rest)
 }

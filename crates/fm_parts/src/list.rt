@@ -6,7 +6,7 @@ ghost use Rattle.fm_parts.specs.Gives.{Gives};
 ghost use Rattle.fm_parts.specs.Reading.{before_read, bracketed_read, listed_read, optional_behind_read, more_read, parens_read, some_read, after_items};
 
 use crate::mark::{Mark, is_comma};
-use crate::reader::{a_mark, front, goes_on, starts_with};
+use crate::reader::{a_mark, ended_by, front, goes_on, starts_with};
 use fm_base::{ParseFail, Seq, Token};
 use std::alloc::Global;
 
@@ -81,6 +81,17 @@ pub fn listed<F: Form>(
     }
 }
 
+/// Items with commas between, perhaps none, and a closing parenthesis.
+pub fn listed_and_closed<F: Form>(
+    alloc: Global,
+    tokens: &[Token],
+) -> Result<(Seq<F::Item>, &[Token]), ParseFail>
+    ensures { Gives (λ p. (p.0, p.1.now)) result (before_read (listed_read F.reads) Mark.Close tokens.now) }
+{
+    let (items, rest) = listed::<F>(alloc, tokens)?;
+    ended_by(items, Mark::Close, rest)
+}
+
 /// One item or more in parentheses.
 pub fn some_in_parens<F: Form>(
     alloc: Global,
@@ -90,8 +101,7 @@ pub fn some_in_parens<F: Form>(
 {
     let rest = a_mark(Mark::Open, tokens)?;
     let (items, rest) = some::<F>(alloc, rest)?;
-    let rest = a_mark(Mark::Close, rest)?;
-    Ok((items, rest))
+    ended_by(items, Mark::Close, rest)
 }
 
 /// Items in parentheses. None where no parenthesis comes.
@@ -119,8 +129,7 @@ pub fn optional_listed<F: Form>(
         return Ok((None, tokens));
     }
     let rest = a_mark(Mark::Open, tokens)?;
-    let (items, rest) = listed::<F>(alloc, rest)?;
-    let rest = a_mark(Mark::Close, rest)?;
+    let (items, rest) = listed_and_closed::<F>(alloc, rest)?;
     Ok((Some(items), rest))
 }
 

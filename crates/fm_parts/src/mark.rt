@@ -6,7 +6,7 @@ ghost use Rattle.fm_parts.specs.Reading.{is, is_open, is_close, is_comma, is_equ
 use fm_base::{Op, Token};
 
 /// A word of the language that stands inside of a statement. As tokens go it is a name.
-#[derive(Clone, Copy, Debug, PartialEq, Eq)]
+#[derive(Clone, Copy)]
 pub enum Word {
     Then,
     In,
@@ -27,7 +27,7 @@ pub enum Word {
 }
 
 /// A token that a form fixes.
-#[derive(Clone, Copy, Debug, PartialEq, Eq)]
+#[derive(Clone, Copy)]
 pub enum Mark {
     Open,
     Close,

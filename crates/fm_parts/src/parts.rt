@@ -3,13 +3,14 @@
 ghost use Rattle.std.specs.Prelude.{◌≡◌};
 ghost use Rattle.fm_tree.specs.Parts.{ends_in};
 ghost use Rattle.fm_parts.specs.Gives.{Gives};
-ghost use Rattle.fm_parts.specs.Reading.{any_token, behind_read, expr_read, name_at, optional_read, starts};
+ghost use Rattle.fm_parts.specs.Reading.{any_token, behind_read, expr_read, name_at, optional_behind_read, optional_read, pair_read, starts};
 ghost use Rattle.fm_parts.specs.Parts.{are_each_once, array_part, bound_part, call_part_part, decl_part, defined_part, extra_part, extras_part, is_end, is_number, item_part, location_part, loop_label_part, loop_part, no_constant, port_part, submachine_part, unit_part, var_part, way_of, way_part, where_part};
 
-use crate::list::{Form, bracketed, listed, more, optional_behind, some_in_parens};
+use crate::list::{Form, bracketed, listed_and_closed, more, optional_behind, some_in_parens};
 use crate::mark::{Mark, Word};
 use crate::reader::{
-    a_constant, a_label, a_mark, a_name, an_expr, an_optional_token, assigned_behind, starts_with,
+    a_constant, a_label, a_mark, a_name, an_expr, an_optional_token, assigned_behind, ended_by,
+    expr_behind, starts_with,
 };
 use fm_base::{Name, Op, ParseFail, Seq, Token};
 use fm_tree::{
@@ -124,8 +125,7 @@ impl Form for DefinedForm {
 
     fn read_one(alloc: Global, tokens: &[Token]) -> Result<(Defined, &[Token]), ParseFail> {
         let (name, rest) = a_name(alloc, tokens)?;
-        let rest = a_mark(Mark::Equals, rest)?;
-        let (value, rest) = an_expr(alloc, rest)?;
+        let (value, rest) = expr_behind(alloc, Mark::Equals, rest)?;
         Ok((Defined { name, value }, rest))
     }
 }
@@ -199,17 +199,26 @@ fn optional_label(tokens: &[Token]) -> Result<(Option<LoopLabel>, &[Token]), Par
     Ok((Some(label), rest))
 }
 
+// `, expr [, expr]`
+fn a_limit_and_step(
+    alloc: Global,
+    tokens: &[Token],
+) -> Result<((Expr, Option<Expr>), &[Token]), ParseFail>
+    ensures { Gives (λ p. (p.0, p.1.now)) result (pair_read (behind_read Mark.Comma expr_read) (optional_behind_read Mark.Comma expr_read) tokens.now) }
+{
+    let (limit, rest) = expr_behind(alloc, Mark::Comma, tokens)?;
+    let (step, rest) = optional_behind::<ExprForm>(alloc, Mark::Comma, rest)?;
+    Ok(((limit, step), rest))
+}
+
 /// `[label [,]] name = expr , expr [, expr]`.
 pub fn a_loop_head(alloc: Global, tokens: &[Token]) -> Result<(LoopHead, &[Token]), ParseFail>
     ensures { Gives (λ p. (p.0, p.1.now)) result (loop_part.read tokens.now) }
 {
     let (label, rest) = optional_label(tokens)?;
     let (variable, rest) = a_name(alloc, rest)?;
-    let rest = a_mark(Mark::Equals, rest)?;
-    let (from, rest) = an_expr(alloc, rest)?;
-    let rest = a_mark(Mark::Comma, rest)?;
-    let (to, rest) = an_expr(alloc, rest)?;
-    let (step, rest) = optional_behind::<ExprForm>(alloc, Mark::Comma, rest)?;
+    let (from, rest) = expr_behind(alloc, Mark::Equals, rest)?;
+    let ((to, step), rest) = a_limit_and_step(alloc, rest)?;
     let head = LoopHead {
         label,
         variable,
@@ -347,16 +356,22 @@ fn a_location(alloc: Global, tokens: &[Token]) -> Result<(Seq<Expr>, &[Token]), 
     some_in_parens::<ExprForm>(alloc, rest)
 }
 
+// `expr : expr`
+fn a_range(alloc: Global, tokens: &[Token]) -> Result<((Expr, Expr), &[Token]), ParseFail>
+    ensures { Gives (λ p. (p.0, p.1.now)) result (pair_read expr_read (behind_read Mark.Colon expr_read) tokens.now) }
+{
+    let (first, rest) = an_expr(alloc, tokens)?;
+    let (last, rest) = expr_behind(alloc, Mark::Colon, rest)?;
+    Ok(((first, last), rest))
+}
+
 fn a_submachine(alloc: Global, tokens: &[Token]) -> Result<((Expr, Expr), &[Token]), ParseFail>
     ensures { Gives (λ p. (p.0, p.1.now)) result (submachine_part.read tokens.now) }
 {
     let rest = a_mark(Mark::Word(Word::Submachine), tokens)?;
     let rest = a_mark(Mark::Open, rest)?;
-    let (first, rest) = an_expr(alloc, rest)?;
-    let rest = a_mark(Mark::Colon, rest)?;
-    let (last, rest) = an_expr(alloc, rest)?;
-    let rest = a_mark(Mark::Close, rest)?;
-    Ok(((first, last), rest))
+    let (range, rest) = a_range(alloc, rest)?;
+    ended_by(range, Mark::Close, rest)
 }
 
 fn a_place(alloc: Global, tokens: &[Token]) -> Result<(Where, &[Token]), ParseFail>
@@ -386,8 +401,7 @@ fn optional_place(alloc: Global, tokens: &[Token]) -> Result<(Option<Where>, &[T
 pub fn a_call_part(alloc: Global, tokens: &[Token]) -> Result<(CallPart, &[Token]), ParseFail>
     ensures { Gives (λ p. (p.0, p.1.now)) result (call_part_part.read tokens.now) }
 {
-    let (arguments, rest) = listed::<ExprForm>(alloc, tokens)?;
-    let rest = a_mark(Mark::Close, rest)?;
+    let (arguments, rest) = listed_and_closed::<ExprForm>(alloc, tokens)?;
     let (place, rest) = optional_place(alloc, rest)?;
     Ok((CallPart { arguments, place }, rest))
 }

@@ -2,7 +2,7 @@
 
 ghost use Rattle.std.specs.Prelude.{◌≡◌, [], ◌∷◌, MatchOption, Some, None};
 ghost use Rattle.fm_parts.specs.Gives.{Gives};
-ghost use Rattle.fm_parts.specs.Reading.{is, assigned_at, constant_at, expr_read, optional_token_read, label_at, mark_at, name_at, nothing_left, starts, is_open, opens};
+ghost use Rattle.fm_parts.specs.Reading.{is, assigned_at, before_read, behind_read, constant_at, expr_read, optional_token_read, label_at, mark_at, name_at, nothing_left, starts, is_open, opens};
 
 use crate::mark::{Mark, Word, is_close, is_mark};
 use fm_base::{Label, Name, ParseFail, Seq, Token};
@@ -78,6 +78,26 @@ pub fn a_mark(mark: Mark, tokens: &[Token]) -> Result<&[Token], ParseFail>
         Some(rest) => Ok(rest),
         None => Err(ParseFail::Bad),
     }
+}
+
+/// What was read, where a fixed token stands behind it.
+pub fn ended_by<T: Drop>(value: T, mark: Mark, tokens: &[Token]) -> Result<(T, &[Token]), ParseFail>
+    ensures { Gives (λ p. (p.0, p.1.now)) result (before_read (λ ts. Some (value, ts)) mark tokens.now) }
+{
+    let rest = a_mark(mark, tokens)?;
+    Ok((value, rest))
+}
+
+/// A fixed token and an expression.
+pub fn expr_behind(
+    alloc: Global,
+    mark: Mark,
+    tokens: &[Token],
+) -> Result<(Expr, &[Token]), ParseFail>
+    ensures { Gives (λ p. (p.0, p.1.now)) result (behind_read mark expr_read tokens.now) }
+{
+    let rest = a_mark(mark, tokens)?;
+    an_expr(alloc, rest)
 }
 
 /// Whether a fixed token comes.
