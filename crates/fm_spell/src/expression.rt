@@ -1,10 +1,11 @@
 //! The tokens of expressions.
 
-ghost use Rattle.std.specs.Prelude.{◌≡◌, ◌++◌, OnOk};
+ghost use Rattle.std.specs.Prelude.{◌≡◌, [], ◌∷◌, ◌++◌, OnOk};
 ghost use Rattle.fm_tree.specs.Tree.{trees_from};
 ghost use Rattle.fm_tree.specs.Spelling.{spelling, list_spelling};
 
-use fm_base::{NoMemory, Op, Token};
+use crate::word::{push_name, push_token};
+use fm_base::{Name, NoMemory, Op, Token};
 use fm_tree::{Expr, ExprNode};
 use std::alloc::Global;
 
@@ -14,36 +15,42 @@ pub fn push_expr(alloc: Global, expr: &Expr, out: &mut Vec<Token>) -> Result<(),
     ensures { OnOk result (out.new.items ≡ out.old.items ++ spelling expr.now) }
 {
     match &expr.node {
-        ExprNode::Number(n) => out.push(Token::Number(*n))?,
-        ExprNode::Truth(true) => out.push(Token::True)?,
-        ExprNode::Truth(false) => out.push(Token::False)?,
-        ExprNode::Named(name) => out.push(Token::Named(name.copy(alloc)?))?,
+        ExprNode::Number(n) => push_token(Token::Number(*n), out),
+        ExprNode::Truth(true) => push_token(Token::True, out),
+        ExprNode::Truth(false) => push_token(Token::False, out),
+        ExprNode::Named(name) => push_name(alloc, name, out),
         ExprNode::Ref(name, args) => {
-            out.push(Token::Named(name.copy(alloc)?))?;
-            out.push(Token::Open)?;
+            push_opened(alloc, name, out)?;
             push_list(alloc, args, out)?;
-            out.push(Token::Close)?;
+            push_token(Token::Close, out)
         }
         ExprNode::Paren(inner) => {
-            out.push(Token::Open)?;
+            push_token(Token::Open, out)?;
             push_expr(alloc, inner, out)?;
-            out.push(Token::Close)?;
+            push_token(Token::Close, out)
         }
         ExprNode::Signed(op, inner) => {
-            out.push(Token::Sign(*op))?;
-            push_expr(alloc, inner, out)?;
+            push_token(Token::Sign(*op), out)?;
+            push_expr(alloc, inner, out)
         }
         ExprNode::Not(inner) => {
-            out.push(Token::Sign(Op::Not))?;
-            push_expr(alloc, inner, out)?;
+            push_token(Token::Sign(Op::Not), out)?;
+            push_expr(alloc, inner, out)
         }
         ExprNode::Binary(op, left, right) => {
             push_expr(alloc, left, out)?;
-            out.push(Token::Sign(*op))?;
-            push_expr(alloc, right, out)?;
+            push_token(Token::Sign(*op), out)?;
+            push_expr(alloc, right, out)
         }
     }
-    Ok(())
+}
+
+// `name (`
+fn push_opened(alloc: Global, name: &Name, out: &mut Vec<Token>) -> Result<(), NoMemory>
+    ensures { OnOk result (out.new.items ≡ out.old.items ++ Token.Named name.now ∷ Token.Open ∷ []) }
+{
+    push_name(alloc, name, out)?;
+    push_token(Token::Open, out)
 }
 
 #[cycle(push_expr)]
@@ -55,7 +62,7 @@ fn push_list(alloc: Global, exprs: &[Expr], out: &mut Vec<Token>) -> Result<(), 
     };
     push_expr(alloc, first, out)?;
     for expr in rest {
-        out.push(Token::Comma)?;
+        push_token(Token::Comma, out)?;
         push_expr(alloc, expr, out)?;
     }
     Ok(())

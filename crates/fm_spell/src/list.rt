@@ -4,6 +4,7 @@ ghost use Rattle.std.specs.Prelude.{◌≡◌, ◌++◌, OnOk};
 ghost use Rattle.fm_tree.specs.Forms.{Form, before, parens, optional_behind, listed, more_spelled, list_spelled, bracketed_spelled};
 
 use crate::expression::push_expr;
+use crate::word::{push_name, push_token};
 use fm_base::{Name, NoMemory, Seq, Token};
 use fm_tree::Expr;
 use std::alloc::Global;
@@ -25,7 +26,7 @@ pub fn push_more<T, F: Spelled<T>>(
     ensures { OnOk result (out.new.items ≡ out.old.items ++ more_spelled F.form parts.now) }
 {
     for part in parts {
-        out.push(Token::Comma)?;
+        push_token(Token::Comma, out)?;
         F::push(alloc, part, out)?;
     }
     Ok(())
@@ -57,11 +58,10 @@ pub fn push_bracketed<T, F: Spelled<T>>(
     let Some((first, rest)) = parts.split_first() else {
         return Ok(());
     };
-    out.push(Token::Open)?;
+    push_token(Token::Open, out)?;
     F::push(alloc, first, out)?;
     push_more::<T, F>(alloc, rest, out)?;
-    out.push(Token::Close)?;
-    Ok(())
+    push_token(Token::Close, out)
 }
 
 /// In parentheses, also where there is none.
@@ -72,10 +72,9 @@ pub fn push_parens<T, F: Spelled<T>>(
 ) -> Result<(), NoMemory>
     ensures { OnOk result (out.new.items ≡ out.old.items ++ (parens (listed F.form)).spelled parts.now) }
 {
-    out.push(Token::Open)?;
+    push_token(Token::Open, out)?;
     push_list::<T, F>(alloc, parts, out)?;
-    out.push(Token::Close)?;
-    Ok(())
+    push_token(Token::Close, out)
 }
 
 /// In parentheses, where a list is written, also one of none.
@@ -101,8 +100,7 @@ impl Spelled<Name> for NameForm {
     ghost form = { name };
 
     fn push(alloc: Global, part: &Name, out: &mut Vec<Token>) -> Result<(), NoMemory> {
-        out.push(Token::Named(part.copy(alloc)?))?;
-        Ok(())
+        push_name(alloc, part, out)
     }
 }
 

@@ -1,14 +1,14 @@
 //! The tokens of parts of statements.
 
 ghost use Rattle.std.specs.Prelude.{◌≡◌, [], ◌∷◌, ◌++◌, OnOk};
-ghost use Rattle.fm_tree.specs.Forms.{expr, behind, behind_word, parens, pair};
+ghost use Rattle.fm_tree.specs.Forms.{expr, behind, behind_word, optional, optional_behind, parens, pair};
 ghost use Rattle.fm_tree.specs.Parts.{loop_form, way_form, unit_form, port_form, call_part_form};
 ghost use Rattle.fm_tree.specs.Parts.{var_form, decl_form, array_form, defined_form, loop_label_form, item_form, extra_form, location_form, where_form};
 
 use crate::expression::push_expr;
 use crate::list::{ExprForm, Spelled, push_bracketed, push_list, push_parens};
 use crate::port_type::BoundForm;
-use crate::word::{push_assigning, push_label, push_name, push_word};
+use crate::word::{push_assigning, push_label, push_name, push_token, push_word};
 use fm_base::{NoMemory, Op, Seq, Token};
 use fm_tree::{
     Bound, CallPart, Decl, Defined, Expr, Extra, Item, LoopHead, LoopLabel, Var, Way, Where,
@@ -83,7 +83,7 @@ impl Spelled<Defined> for DefinedForm {
 
     fn push(alloc: Global, part: &Defined, out: &mut Vec<Token>) -> Result<(), NoMemory> {
         push_name(alloc, &part.name, out)?;
-        out.push(Token::Equals)?;
+        push_token(Token::Equals, out)?;
         push_expr(alloc, &part.value, out)
     }
 }
@@ -104,28 +104,49 @@ fn push_loop_label(part: LoopLabel, out: &mut Vec<Token>) -> Result<(), NoMemory
 {
     push_label(part.label, out)?;
     if part.comma {
-        out.push(Token::Comma)?;
+        push_token(Token::Comma, out)?;
     }
     Ok(())
+}
+
+// `[label [,]]`
+fn push_optional_label(part: Option<LoopLabel>, out: &mut Vec<Token>) -> Result<(), NoMemory>
+    ensures { OnOk result (out.new.items ≡ out.old.items ++ (optional loop_label_form).spelled part) }
+{
+    match part {
+        None => Ok(()),
+        Some(label) => push_loop_label(label, out),
+    }
+}
+
+// `, expr`
+fn push_next(alloc: Global, value: &Expr, out: &mut Vec<Token>) -> Result<(), NoMemory>
+    ensures { OnOk result (out.new.items ≡ out.old.items ++ (behind Token.Comma expr).spelled value.now) }
+{
+    push_token(Token::Comma, out)?;
+    push_expr(alloc, value, out)
+}
+
+// `[, expr]`
+fn push_step(alloc: Global, step: &Option<Expr>, out: &mut Vec<Token>) -> Result<(), NoMemory>
+    ensures { OnOk result (out.new.items ≡ out.old.items ++ (optional_behind Token.Comma expr).spelled step.now) }
+{
+    match step {
+        None => Ok(()),
+        Some(value) => push_next(alloc, value, out),
+    }
 }
 
 /// `[label [,]] name = expr , expr [, expr]`.
 pub fn push_loop_head(alloc: Global, head: &LoopHead, out: &mut Vec<Token>) -> Result<(), NoMemory>
     ensures { OnOk result (out.new.items ≡ out.old.items ++ loop_form.spelled head.now) }
 {
-    if let Some(label) = head.label {
-        push_loop_label(label, out)?;
-    }
+    push_optional_label(head.label, out)?;
     push_name(alloc, &head.variable, out)?;
-    out.push(Token::Equals)?;
+    push_token(Token::Equals, out)?;
     push_expr(alloc, &head.from, out)?;
-    out.push(Token::Comma)?;
-    push_expr(alloc, &head.to, out)?;
-    if let Some(step) = &head.step {
-        out.push(Token::Comma)?;
-        push_expr(alloc, step, out)?;
-    }
-    Ok(())
+    push_next(alloc, &head.to, out)?;
+    push_step(alloc, &head.step, out)
 }
 
 /// An expression or a character constant.
@@ -145,8 +166,7 @@ impl Spelled<Item> for ItemForm {
 fn push_constant(alloc: Global, bytes: &[u8], out: &mut Vec<Token>) -> Result<(), NoMemory>
     ensures { OnOk result (out.new.items ≡ out.old.items ++ Token.Constant bytes.now ∷ []) }
 {
-    out.push(Token::Constant(Seq::from_slice(alloc, bytes)?))?;
-    Ok(())
+    push_token(Token::Constant(Seq::from_slice(alloc, bytes)?), out)
 }
 
 /// `*` or `6`.
@@ -154,10 +174,9 @@ pub fn push_unit(unit: WriteUnit, out: &mut Vec<Token>) -> Result<(), NoMemory>
     ensures { OnOk result (out.new.items ≡ out.old.items ++ unit_form.spelled unit) }
 {
     match unit {
-        WriteUnit::Star => out.push(Token::Sign(Op::Mul))?,
-        WriteUnit::Six => out.push(Token::Number(6))?,
+        WriteUnit::Star => push_token(Token::Sign(Op::Mul), out),
+        WriteUnit::Six => push_token(Token::Number(6), out),
     }
-    Ok(())
 }
 
 /// `[PORT =] var`.
@@ -204,12 +223,11 @@ fn push_range(
 ) -> Result<(), NoMemory>
     ensures { OnOk result (out.new.items ≡ out.old.items ++ (parens (pair expr (behind Token.Colon expr))).spelled (first.now, last.now)) }
 {
-    out.push(Token::Open)?;
+    push_token(Token::Open, out)?;
     push_expr(alloc, first, out)?;
-    out.push(Token::Colon)?;
+    push_token(Token::Colon, out)?;
     push_expr(alloc, last, out)?;
-    out.push(Token::Close)?;
-    Ok(())
+    push_token(Token::Close, out)
 }
 
 /// `word ( expr : expr )`.
@@ -250,7 +268,7 @@ pub fn push_call_part(alloc: Global, part: &CallPart, out: &mut Vec<Token>) -> R
     ensures { OnOk result (out.new.items ≡ out.old.items ++ call_part_form.spelled part.now) }
 {
     push_list::<Expr, ExprForm>(alloc, part.arguments.as_slice(), out)?;
-    out.push(Token::Close)?;
+    push_token(Token::Close, out)?;
     match &part.place {
         None => Ok(()),
         Some(place) => push_where(alloc, place, out),

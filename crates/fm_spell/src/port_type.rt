@@ -1,13 +1,13 @@
 //! The tokens of bounds and of types of ports.
 
-ghost use Rattle.std.specs.Prelude.{◌≡◌, ◌++◌, OnOk};
+ghost use Rattle.std.specs.Prelude.{◌≡◌, [], ◌∷◌, ◌++◌, OnOk};
 ghost use Rattle.fm_tree.specs.Forms.{bracketed};
 ghost use Rattle.fm_tree.specs.PortReading.{kind_of};
-ghost use Rattle.fm_tree.specs.Parts.{bound_form, kind_spelled, fields_spelled, port_type_form};
+ghost use Rattle.fm_tree.specs.Parts.{bound_form, name_tokens, kind_spelled, fields_spelled, port_type_form};
 
 use crate::expression::push_expr;
 use crate::list::{Spelled, push_bracketed};
-use crate::word::{push_joined, push_optional_name, push_word};
+use crate::word::{push_joined, push_optional_name, push_token, push_word};
 use fm_base::{Name, NoMemory, Token};
 use fm_tree::{Bound, Field, Kind, PortType};
 use std::alloc::Global;
@@ -21,7 +21,7 @@ impl Spelled<Bound> for BoundForm {
     fn push(alloc: Global, part: &Bound, out: &mut Vec<Token>) -> Result<(), NoMemory> {
         if let Some(low) = &part.low {
             push_expr(alloc, low, out)?;
-            out.push(Token::Colon)?;
+            push_token(Token::Colon, out)?;
         }
         push_expr(alloc, &part.high, out)
     }
@@ -35,10 +35,9 @@ pub fn push_port_type(
 ) -> Result<(), NoMemory>
     ensures { OnOk result (out.new.items ≡ out.old.items ++ port_type_form.spelled port_type.now) }
 {
-    out.push(Token::Open)?;
+    push_token(Token::Open, out)?;
     push_fields(alloc, port_type, out)?;
-    out.push(Token::Close)?;
-    Ok(())
+    push_token(Token::Close, out)
 }
 
 #[cycle(fields)]
@@ -50,7 +49,7 @@ fn push_fields(alloc: Global, port_type: &PortType, out: &mut Vec<Token>) -> Res
     };
     push_field(alloc, first, out)?;
     for field in rest {
-        out.push(Token::Comma)?;
+        push_token(Token::Comma, out)?;
         push_field(alloc, field, out)?;
     }
     Ok(())
@@ -63,6 +62,22 @@ fn push_field(alloc: Global, field: &Field, out: &mut Vec<Token>) -> Result<(), 
 {
     push_kind(alloc, &field.kind, &field.name, out)?;
     push_bracketed::<Bound, BoundForm>(alloc, field.bounds.as_slice(), out)
+}
+
+// `word (`
+fn push_opened(alloc: Global, word: &[u8], out: &mut Vec<Token>) -> Result<(), NoMemory>
+    ensures { OnOk result (out.new.items ≡ out.old.items ++ Token.Named word.now ∷ Token.Open ∷ []) }
+{
+    push_word(alloc, word, out)?;
+    push_token(Token::Open, out)
+}
+
+// `) [name]`
+fn push_closed(alloc: Global, name: &Option<Name>, out: &mut Vec<Token>) -> Result<(), NoMemory>
+    ensures { OnOk result (out.new.items ≡ out.old.items ++ Token.Close ∷ name_tokens name.now) }
+{
+    push_token(Token::Close, out)?;
+    push_optional_name(alloc, name, out)
 }
 
 #[cycle(fields)]
@@ -78,18 +93,14 @@ fn push_kind(
         Kind::Integer => push_joined(alloc, b"INTEGER", name, out),
         Kind::Logical => push_joined(alloc, b"LOGICAL", name, out),
         Kind::In(fields) => {
-            push_word(alloc, b"INPORT", out)?;
-            out.push(Token::Open)?;
+            push_opened(alloc, b"INPORT", out)?;
             push_fields(alloc, fields, out)?;
-            out.push(Token::Close)?;
-            push_optional_name(alloc, name, out)
+            push_closed(alloc, name, out)
         }
         Kind::Out(fields) => {
-            push_word(alloc, b"OUTPORT", out)?;
-            out.push(Token::Open)?;
+            push_opened(alloc, b"OUTPORT", out)?;
             push_fields(alloc, fields, out)?;
-            out.push(Token::Close)?;
-            push_optional_name(alloc, name, out)
+            push_closed(alloc, name, out)
         }
     }
 }

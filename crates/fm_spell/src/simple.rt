@@ -8,7 +8,7 @@ ghost use Rattle.fm_tree.specs.Statements.{simple_spelling, key, keyed, assignme
 use crate::expression::push_expr;
 use crate::list::{ExprForm, push_arguments, push_list, push_more};
 use crate::part::{ExtraForm, ItemForm, OutForm, VarForm, push_port, push_unit, push_var};
-use crate::word::{push_assigning, push_label, push_name};
+use crate::word::{push_assigning, push_label, push_name, push_token};
 use fm_base::{Class, Label, Name, NoMemory, Op, Seq, Token};
 use fm_tree::{Expr, Extra, Item, Simple, Var, WriteUnit};
 use std::alloc::Global;
@@ -22,7 +22,7 @@ fn push_assignment(
     ensures { OnOk result (out.new.items ≡ out.old.items ++ assignment_form.spelled (target.now, value.now)) }
 {
     push_var(alloc, target, out)?;
-    out.push(Token::Equals)?;
+    push_token(Token::Equals, out)?;
     push_expr(alloc, value, out)
 }
 
@@ -34,7 +34,7 @@ fn push_call(
 ) -> Result<(), NoMemory>
     ensures { OnOk result (out.new.items ≡ out.old.items ++ keyed Class.Call call_form (name.now, arguments.now)) }
 {
-    out.push(Token::Key(Class::Call))?;
+    push_token(Token::Key(Class::Call), out)?;
     push_name(alloc, name, out)?;
     push_arguments::<Expr, ExprForm>(alloc, arguments, out)
 }
@@ -42,8 +42,8 @@ fn push_call(
 fn push_print(alloc: Global, items: &[Item], out: &mut Vec<Token>) -> Result<(), NoMemory>
     ensures { OnOk result (out.new.items ≡ out.old.items ++ keyed Class.Print print_form items.now) }
 {
-    out.push(Token::Key(Class::Print))?;
-    out.push(Token::Sign(Op::Mul))?;
+    push_token(Token::Key(Class::Print), out)?;
+    push_token(Token::Sign(Op::Mul), out)?;
     push_more::<Item, ItemForm>(alloc, items, out)
 }
 
@@ -55,12 +55,12 @@ fn push_write(
 ) -> Result<(), NoMemory>
     ensures { OnOk result (out.new.items ≡ out.old.items ++ keyed Class.Write write_form (unit, items.now)) }
 {
-    out.push(Token::Key(Class::Write))?;
-    out.push(Token::Open)?;
+    push_token(Token::Key(Class::Write), out)?;
+    push_token(Token::Open, out)?;
     push_unit(unit, out)?;
-    out.push(Token::Comma)?;
-    out.push(Token::Sign(Op::Mul))?;
-    out.push(Token::Close)?;
+    push_token(Token::Comma, out)?;
+    push_token(Token::Sign(Op::Mul), out)?;
+    push_token(Token::Close, out)?;
     push_list::<Item, ItemForm>(alloc, items, out)
 }
 
@@ -89,12 +89,11 @@ fn push_two(
     ensures { OnOk result (out.new.items
         ≡ out.old.items ++ (parens (pair (assigned first_word.now var_form) (behind Token.Comma (assigned second_word.now var_form)))).spelled (first.now, second.now)) }
 {
-    out.push(Token::Open)?;
+    push_token(Token::Open, out)?;
     push_assigned(alloc, first_word, first, out)?;
-    out.push(Token::Comma)?;
+    push_token(Token::Comma, out)?;
     push_assigned(alloc, second_word, second, out)?;
-    out.push(Token::Close)?;
-    Ok(())
+    push_token(Token::Close, out)
 }
 
 fn push_channel(
@@ -106,7 +105,7 @@ fn push_channel(
 ) -> Result<(), NoMemory>
     ensures { OnOk result (out.new.items ≡ out.old.items ++ keyed Class.Channel channel_form (in_first, (inport.now, outport.now))) }
 {
-    out.push(Token::Key(Class::Channel))?;
+    push_token(Token::Key(Class::Channel), out)?;
     if in_first {
         push_two(alloc, b"IN", inport, b"OUT", outport, out)
     } else {
@@ -122,13 +121,12 @@ fn push_merger(
 ) -> Result<(), NoMemory>
     ensures { OnOk result (out.new.items ≡ out.old.items ++ keyed Class.Merger merger_form (inport.now, outports.now)) }
 {
-    out.push(Token::Key(Class::Merger))?;
-    out.push(Token::Open)?;
+    push_token(Token::Key(Class::Merger), out)?;
+    push_token(Token::Open, out)?;
     push_assigned(alloc, b"IN", inport, out)?;
-    out.push(Token::Comma)?;
+    push_token(Token::Comma, out)?;
     push_list::<Var, OutForm>(alloc, outports, out)?;
-    out.push(Token::Close)?;
-    Ok(())
+    push_token(Token::Close, out)
 }
 
 fn push_send(
@@ -140,7 +138,7 @@ fn push_send(
 ) -> Result<(), NoMemory>
     ensures { OnOk result (out.new.items ≡ out.old.items ++ keyed Class.Send send_form ((named, port.now), items.now)) }
 {
-    out.push(Token::Key(Class::Send))?;
+    push_token(Token::Key(Class::Send), out)?;
     push_port_alone(alloc, named, port, out)?;
     push_list::<Expr, ExprForm>(alloc, items, out)
 }
@@ -155,11 +153,11 @@ fn push_receive(
 ) -> Result<(), NoMemory>
     ensures { OnOk result (out.new.items ≡ out.old.items ++ keyed Class.Receive receive_form (((named, port.now), extras.now), items.now)) }
 {
-    out.push(Token::Key(Class::Receive))?;
-    out.push(Token::Open)?;
+    push_token(Token::Key(Class::Receive), out)?;
+    push_token(Token::Open, out)?;
     push_port(alloc, named, port, out)?;
     push_more::<Extra, ExtraForm>(alloc, extras, out)?;
-    out.push(Token::Close)?;
+    push_token(Token::Close, out)?;
     push_list::<Var, VarForm>(alloc, items, out)
 }
 
@@ -172,10 +170,9 @@ fn push_port_alone(
 ) -> Result<(), NoMemory>
     ensures { OnOk result (out.new.items ≡ out.old.items ++ end_channel_form.spelled (named, port.now)) }
 {
-    out.push(Token::Open)?;
+    push_token(Token::Open, out)?;
     push_port(alloc, named, port, out)?;
-    out.push(Token::Close)?;
-    Ok(())
+    push_token(Token::Close, out)
 }
 
 fn push_probe(
@@ -187,19 +184,18 @@ fn push_probe(
 ) -> Result<(), NoMemory>
     ensures { OnOk result (out.new.items ≡ out.old.items ++ keyed Class.Probe probe_form ((named, port.now), empty.now)) }
 {
-    out.push(Token::Key(Class::Probe))?;
-    out.push(Token::Open)?;
+    push_token(Token::Key(Class::Probe), out)?;
+    push_token(Token::Open, out)?;
     push_port(alloc, named, port, out)?;
-    out.push(Token::Comma)?;
+    push_token(Token::Comma, out)?;
     push_assigned(alloc, b"EMPTY", empty, out)?;
-    out.push(Token::Close)?;
-    Ok(())
+    push_token(Token::Close, out)
 }
 
 fn push_goto(target: Label, out: &mut Vec<Token>) -> Result<(), NoMemory>
     ensures { OnOk result (out.new.items ≡ out.old.items ++ keyed Class.Goto label target) }
 {
-    out.push(Token::Key(Class::Goto))?;
+    push_token(Token::Key(Class::Goto), out)?;
     push_label(target, out)
 }
 
@@ -211,14 +207,14 @@ fn push_end_channel(
 ) -> Result<(), NoMemory>
     ensures { OnOk result (out.new.items ≡ out.old.items ++ keyed Class.EndChannel end_channel_form (named, port.now)) }
 {
-    out.push(Token::Key(Class::EndChannel))?;
+    push_token(Token::Key(Class::EndChannel), out)?;
     push_port_alone(alloc, named, port, out)
 }
 
 fn push_move_port(alloc: Global, from: &Var, to: &Var, out: &mut Vec<Token>) -> Result<(), NoMemory>
     ensures { OnOk result (out.new.items ≡ out.old.items ++ keyed Class.MovePort move_port_form (from.now, to.now)) }
 {
-    out.push(Token::Key(Class::MovePort))?;
+    push_token(Token::Key(Class::MovePort), out)?;
     push_two(alloc, b"FROM", from, b"TO", to, out)
 }
 
@@ -226,8 +222,7 @@ fn push_move_port(alloc: Global, from: &Var, to: &Var, out: &mut Vec<Token>) -> 
 pub fn push_key(class: Class, out: &mut Vec<Token>) -> Result<(), NoMemory>
     ensures { OnOk result (out.new.items ≡ out.old.items ++ key class) }
 {
-    out.push(Token::Key(class))?;
-    Ok(())
+    push_token(Token::Key(class), out)
 }
 
 /// A statement that may stand behind a logical IF.

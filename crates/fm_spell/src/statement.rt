@@ -10,7 +10,7 @@ use crate::list::{ExprForm, NameForm, push_arguments, push_list, push_parens};
 use crate::part::{ArrayForm, DeclForm, DefinedForm, push_call_part, push_loop_head, push_way};
 use crate::port_type::push_port_type;
 use crate::simple::{push_key, push_simple};
-use crate::word::{push_name, push_word};
+use crate::word::{push_name, push_token, push_word};
 use fm_base::{Class, Name, NoMemory, Seq, Token};
 use fm_tree::{CallPart, Decl, Defined, Expr, LoopHead, PortType, Simple, Stmt, Way};
 use std::alloc::Global;
@@ -18,7 +18,7 @@ use std::alloc::Global;
 fn push_program(alloc: Global, title: &Name, out: &mut Vec<Token>) -> Result<(), NoMemory>
     ensures { OnOk result (out.new.items ≡ out.old.items ++ keyed Class.Program name title.now) }
 {
-    out.push(Token::Key(Class::Program))?;
+    push_token(Token::Key(Class::Program), out)?;
     push_name(alloc, title, out)
 }
 
@@ -31,7 +31,7 @@ fn push_heading(
 ) -> Result<(), NoMemory>
     ensures { OnOk result (out.new.items ≡ out.old.items ++ keyed class heading_form (title.now, formals.now)) }
 {
-    out.push(Token::Key(class))?;
+    push_token(Token::Key(class), out)?;
     push_name(alloc, title, out)?;
     push_arguments::<Name, NameForm>(alloc, formals, out)
 }
@@ -45,7 +45,7 @@ fn push_function(
 ) -> Result<(), NoMemory>
     ensures { OnOk result (out.new.items ≡ out.old.items ++ keyed class function_form (title.now, formals.now)) }
 {
-    out.push(Token::Key(class))?;
+    push_token(Token::Key(class), out)?;
     push_name(alloc, title, out)?;
     push_parens::<Name, NameForm>(alloc, formals, out)
 }
@@ -58,14 +58,14 @@ fn push_declaration(
 ) -> Result<(), NoMemory>
     ensures { OnOk result (out.new.items ≡ out.old.items ++ keyed class declaration_form decls.now) }
 {
-    out.push(Token::Key(class))?;
+    push_token(Token::Key(class), out)?;
     push_list::<Decl, DeclForm>(alloc, decls, out)
 }
 
 fn push_dimension(alloc: Global, decls: &[Decl], out: &mut Vec<Token>) -> Result<(), NoMemory>
     ensures { OnOk result (out.new.items ≡ out.old.items ++ keyed Class.Dimension dimension_form decls.now) }
 {
-    out.push(Token::Key(Class::Dimension))?;
+    push_token(Token::Key(Class::Dimension), out)?;
     push_list::<Decl, ArrayForm>(alloc, decls, out)
 }
 
@@ -76,7 +76,7 @@ fn push_parameter(
 ) -> Result<(), NoMemory>
     ensures { OnOk result (out.new.items ≡ out.old.items ++ keyed Class.Parameter parameter_form constants.now) }
 {
-    out.push(Token::Key(Class::Parameter))?;
+    push_token(Token::Key(Class::Parameter), out)?;
     push_parens::<Defined, DefinedForm>(alloc, constants, out)
 }
 
@@ -89,7 +89,7 @@ fn push_ports(
 ) -> Result<(), NoMemory>
     ensures { OnOk result (out.new.items ≡ out.old.items ++ keyed class ports_form (port_type.now, decls.now)) }
 {
-    out.push(Token::Key(class))?;
+    push_token(Token::Key(class), out)?;
     push_port_type(alloc, port_type, out)?;
     push_list::<Decl, DeclForm>(alloc, decls, out)
 }
@@ -102,17 +102,17 @@ fn push_intent(
 ) -> Result<(), NoMemory>
     ensures { OnOk result (out.new.items ≡ out.old.items ++ keyed Class.Intent intent_form (way, names.now)) }
 {
-    out.push(Token::Key(Class::Intent))?;
-    out.push(Token::Open)?;
+    push_token(Token::Key(Class::Intent), out)?;
+    push_token(Token::Open, out)?;
     push_way(alloc, way, out)?;
-    out.push(Token::Close)?;
+    push_token(Token::Close, out)?;
     push_list::<Name, NameForm>(alloc, names, out)
 }
 
 fn push_processors(alloc: Global, sizes: &[Expr], out: &mut Vec<Token>) -> Result<(), NoMemory>
     ensures { OnOk result (out.new.items ≡ out.old.items ++ keyed Class.Processors processors_form sizes.now) }
 {
-    out.push(Token::Key(Class::Processors))?;
+    push_token(Token::Key(Class::Processors), out)?;
     push_parens::<Expr, ExprForm>(alloc, sizes, out)
 }
 
@@ -125,11 +125,10 @@ fn push_condition(
 ) -> Result<(), NoMemory>
     ensures { OnOk result (out.new.items ≡ out.old.items ++ keyed class (parens expr) condition.now) }
 {
-    out.push(Token::Key(class))?;
-    out.push(Token::Open)?;
+    push_token(Token::Key(class), out)?;
+    push_token(Token::Open, out)?;
     push_expr(alloc, condition, out)?;
-    out.push(Token::Close)?;
-    Ok(())
+    push_token(Token::Close, out)
 }
 
 fn push_logical_if(
@@ -164,7 +163,7 @@ fn push_loop(
 ) -> Result<(), NoMemory>
     ensures { OnOk result (out.new.items ≡ out.old.items ++ keyed class loop_form head.now) }
 {
-    out.push(Token::Key(class))?;
+    push_token(Token::Key(class), out)?;
     push_loop_head(alloc, head, out)
 }
 
@@ -176,12 +175,12 @@ fn push_process_call(
 ) -> Result<(), NoMemory>
     ensures { OnOk result (out.new.items ≡ out.old.items ++ keyed Class.ProcessCall process_call_form (process.now, part.now)) }
 {
-    out.push(Token::Key(Class::ProcessCall))?;
+    push_token(Token::Key(Class::ProcessCall), out)?;
     push_name(alloc, process, out)?;
     let Some(part) = part else {
         return Ok(());
     };
-    out.push(Token::Open)?;
+    push_token(Token::Open, out)?;
     push_call_part(alloc, part, out)
 }
 

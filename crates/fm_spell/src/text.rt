@@ -32,25 +32,37 @@ fn push_doubled(byte: u8, out: &mut Vec<u8>) -> Result<(), NoMemory>
     Ok(())
 }
 
+fn push_text(text: &[u8], out: &mut Vec<u8>) -> Result<(), NoMemory>
+    ensures { OnOk result (out.new.items ≡ out.old.items ++ text.now) }
+{
+    out.extend_from_slice(text)?;
+    Ok(())
+}
+
+fn push_number(alloc: Global, number: i64, out: &mut Vec<u8>) -> Result<(), NoMemory>
+    ensures { OnOk result (out.new.items ≡ out.old.items ++ token_text (Token.Number number)) }
+{
+    push_text(number.to_string(alloc)?.as_bytes(), out)
+}
+
 fn push_token_text(alloc: Global, token: &Token, out: &mut Vec<u8>) -> Result<(), NoMemory>
     ensures { OnOk result (out.new.items ≡ out.old.items ++ token_text token.now) }
 {
     match token {
-        Token::Key(class) => out.extend_from_slice(class.keyword())?,
-        Token::Named(name) => out.extend_from_slice(name.as_bytes())?,
-        Token::Number(n) => out.extend_from_slice(n.to_string(alloc)?.as_bytes())?,
-        Token::Big => {}
-        Token::Constant(bytes) => push_constant_text(bytes.as_slice(), out)?,
-        Token::Open => out.push(b'(')?,
-        Token::Close => out.push(b')')?,
-        Token::Comma => out.push(b',')?,
-        Token::Equals => out.push(b'=')?,
-        Token::Colon => out.push(b':')?,
-        Token::True => out.extend_from_slice(b".TRUE.")?,
-        Token::False => out.extend_from_slice(b".FALSE.")?,
-        Token::Sign(op) => out.extend_from_slice(op.text())?,
+        Token::Key(class) => push_text(class.keyword(), out),
+        Token::Named(name) => push_text(name.as_bytes(), out),
+        Token::Number(n) => push_number(alloc, *n, out),
+        Token::Big => Ok(()),
+        Token::Constant(bytes) => push_constant_text(bytes.as_slice(), out),
+        Token::Open => push_text(b"(", out),
+        Token::Close => push_text(b")", out),
+        Token::Comma => push_text(b",", out),
+        Token::Equals => push_text(b"=", out),
+        Token::Colon => push_text(b":", out),
+        Token::True => push_text(b".TRUE.", out),
+        Token::False => push_text(b".FALSE.", out),
+        Token::Sign(op) => push_text(op.text(), out),
     }
-    Ok(())
 }
 
 fn text_of(alloc: Global, tokens: &[Token]) -> Result<Vec<u8>, NoMemory>

@@ -7,12 +7,19 @@ ghost use Rattle.fm_tree.specs.Parts.{word_with, name_tokens};
 use fm_base::{Label, Name, NoMemory, Token};
 use std::alloc::Global;
 
+/// A token.
+pub fn push_token(token: Token, out: &mut Vec<Token>) -> Result<(), NoMemory>
+    ensures { OnOk result (out.new.items ≡ out.old.items ++ token ∷ []) }
+{
+    out.push(token)?;
+    Ok(())
+}
+
 /// A word of the language, as a name.
 pub fn push_word(alloc: Global, word: &[u8], out: &mut Vec<Token>) -> Result<(), NoMemory>
     ensures { OnOk result (out.new.items ≡ out.old.items ++ Token.Named word.now ∷ []) }
 {
-    out.push(Token::Named(Name::from_bytes(alloc, word)?))?;
-    Ok(())
+    push_token(Token::Named(Name::from_bytes(alloc, word)?), out)
 }
 
 /// A word of the language and an equals sign.
@@ -20,8 +27,7 @@ pub fn push_assigning(alloc: Global, word: &[u8], out: &mut Vec<Token>) -> Resul
     ensures { OnOk result (out.new.items ≡ out.old.items ++ Token.Named word.now ∷ Token.Equals ∷ []) }
 {
     push_word(alloc, word, out)?;
-    out.push(Token::Equals)?;
-    Ok(())
+    push_token(Token::Equals, out)
 }
 
 /// A keyword and the name behind it, if there is one, as one name.
@@ -47,8 +53,7 @@ pub fn push_joined(
 pub fn push_name(alloc: Global, name: &Name, out: &mut Vec<Token>) -> Result<(), NoMemory>
     ensures { OnOk result (out.new.items ≡ out.old.items ++ Token.Named name.now ∷ []) }
 {
-    out.push(Token::Named(name.copy(alloc)?))?;
-    Ok(())
+    push_token(Token::Named(name.copy(alloc)?), out)
 }
 
 /// A name, if there is one.
@@ -69,6 +74,5 @@ pub fn push_optional_name(
 pub fn push_label(at: Label, out: &mut Vec<Token>) -> Result<(), NoMemory>
     ensures { OnOk result (out.new.items ≡ out.old.items ++ label.spelled at) }
 {
-    out.push(Token::Number(at.0 as i64))?;
-    Ok(())
+    push_token(Token::Number(at.0 as i64), out)
 }
