@@ -20,14 +20,15 @@ mod reader;
 
 pub use fields::a_port_type;
 pub use list::{
-    Form, bracketed, listed, more, optional_behind, optional_listed, some, some_in_parens,
+    Form, bracketed, listed, listed_and_closed, more, optional_behind, optional_listed, some,
+    some_in_parens,
 };
 pub use mark::{Mark, Word};
 pub use parts::{
     ArrayForm, BoundForm, DeclForm, DefinedForm, ExprForm, ExtraForm, ItemForm, NameForm, VarForm,
     a_call_part, a_loop_head, a_port, a_unit, a_way, assigned, extras,
 };
-pub use reader::{a_constant, a_label, a_mark, a_name, an_expr, at_end, starts_with};
+pub use reader::{a_constant, a_label, a_mark, a_name, an_expr, at_end, ended_by, starts_with};
 
 /// Each part is read exactly for its form: what is read has the form and is spelled by the tokens
 /// that were taken, and what has the form is read from its spelling, before any token that may
