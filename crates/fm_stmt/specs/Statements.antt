@@ -92,29 +92,45 @@ channel_part = parens two_ports_part
 abbrev pub out_part : Part Var
 out_part = assigned word.Out var_part
 
+-- IN = var , list(OUT = var)
+abbrev pub merged_ports_part : Part (Var × List Var)
+merged_ports_part = pair (assigned word.In var_part) (behind Comma (some_of out_part))
+
 -- MERGER ( IN = var , list(OUT = var) )
 abbrev pub merger_part : Part (Var × List Var)
-merger_part = parens (pair (assigned word.In var_part) (behind Comma (some_of out_part)))
+merger_part = parens merged_ports_part
 
 -- SEND ( [PORT =] var ) [list(expr)]
 abbrev pub send_part : Part ((Bool × Var) × List Tree)
 send_part = pair (parens port_part) (listed expr)
 
+-- ( [PORT =] var {, extra} )
+abbrev pub port_and_extras_part : Part ((Bool × Var) × List Extra)
+port_and_extras_part = parens (pair port_part extras_part)
+
 -- RECEIVE ( [PORT =] var {, extra} ) [list(var)]
 abbrev pub receive_part : Part (((Bool × Var) × List Extra) × List Var)
-receive_part = pair (parens (pair port_part extras_part)) (listed var_part)
+receive_part = pair port_and_extras_part (listed var_part)
 
 -- ENDCHANNEL ( [PORT =] var )
 abbrev pub end_channel_part : Part (Bool × Var)
 end_channel_part = parens port_part
 
+-- FROM = var , TO = var
+abbrev pub from_and_to_part : Part (Var × Var)
+from_and_to_part = pair (assigned word.From var_part) (behind Comma (assigned word.To var_part))
+
 -- MOVEPORT ( FROM = var , TO = var )
 abbrev pub move_port_part : Part (Var × Var)
-move_port_part = parens (pair (assigned word.From var_part) (behind Comma (assigned word.To var_part)))
+move_port_part = parens from_and_to_part
+
+-- [PORT =] var , EMPTY = var
+abbrev pub port_and_empty_part : Part ((Bool × Var) × Var)
+port_and_empty_part = pair port_part (behind Comma (assigned word.Empty var_part))
 
 -- PROBE ( [PORT =] var , EMPTY = var )
 abbrev pub probe_part : Part ((Bool × Var) × Var)
-probe_part = parens (pair port_part (behind Comma (assigned word.Empty var_part)))
+probe_part = parens port_and_empty_part
 
 -- PROCESSCALL name [( [list(expr)] ) [where]]
 abbrev pub process_call_part : Part (List ℕ × Option CallPart)

@@ -1,17 +1,17 @@
 //! Statements that may stand behind a logical IF.
 
 ghost use Rattle.fm_parts.specs.Gives.{Gives};
-ghost use Rattle.fm_parts.specs.Reading.{parens_read};
-ghost use Rattle.fm_parts.specs.Parts.{port_part};
-ghost use Rattle.fm_stmt.specs.Statements.{all, alone, assignment_part, keyed_simple, simple_at, two_ports_part};
+ghost use Rattle.fm_parts.specs.Reading.{behind_read, parens_read};
+ghost use Rattle.fm_parts.specs.Parts.{port_part, var_part};
+ghost use Rattle.fm_stmt.specs.Statements.{all, alone, assignment_part, from_and_to_part, keyed_simple, merged_ports_part, port_and_empty_part, port_and_extras_part, simple_at, two_ports_part};
 ghost use Rattle.fm_tree.specs.declared.statement.Simple.TheVariants as simple;
 
-use fm_base::{Class, ParseFail, Token};
+use fm_base::{Class, ParseFail, Seq, Token};
 use fm_parts::{
     ExprForm, Form, ItemForm, Mark, VarForm, Word, a_label, a_mark, a_name, a_port, a_unit,
-    an_expr, assigned, at_end, extras, listed, more, optional_listed, some, starts_with,
+    an_expr, assigned, at_end, ended_by, extras, listed, more, optional_listed, some, starts_with,
 };
-use fm_tree::{Simple, Var};
+use fm_tree::{Extra, Simple, Var};
 use std::alloc::Global;
 
 /// A statement that is its keyword alone.
@@ -29,8 +29,7 @@ fn an_assignment(alloc: Global, tokens: &[Token]) -> Result<Simple, ParseFail>
     let (target, rest) = VarForm::read_one(alloc, tokens)?;
     let rest = a_mark(Mark::Equals, rest)?;
     let (value, rest) = an_expr(alloc, rest)?;
-    at_end(rest)?;
-    Ok(Simple::Assignment(target, value))
+    alone(Simple::Assignment(target, value), rest)
 }
 
 // label
@@ -38,8 +37,7 @@ fn a_goto(tokens: &[Token]) -> Result<Simple, ParseFail>
     ensures { Gives (λ s. s) result (keyed_simple Class.Goto tokens.now) }
 {
     let (label, rest) = a_label(tokens)?;
-    at_end(rest)?;
-    Ok(Simple::Goto(label))
+    alone(Simple::Goto(label), rest)
 }
 
 // name [( [list(expr)] )]
@@ -48,8 +46,7 @@ fn a_call(alloc: Global, tokens: &[Token]) -> Result<Simple, ParseFail>
 {
     let (name, rest) = a_name(alloc, tokens)?;
     let (arguments, rest) = optional_listed::<ExprForm>(alloc, rest)?;
-    at_end(rest)?;
-    Ok(Simple::Call(name, arguments))
+    alone(Simple::Call(name, arguments), rest)
 }
 
 // * [, list(item)]
@@ -58,8 +55,7 @@ fn a_print(alloc: Global, tokens: &[Token]) -> Result<Simple, ParseFail>
 {
     let rest = a_mark(Mark::Star, tokens)?;
     let (items, rest) = more::<ItemForm>(alloc, rest)?;
-    at_end(rest)?;
-    Ok(Simple::Print(items))
+    alone(Simple::Print(items), rest)
 }
 
 // ( unit , * ) [list(item)]
@@ -72,8 +68,15 @@ fn a_write(alloc: Global, tokens: &[Token]) -> Result<Simple, ParseFail>
     let rest = a_mark(Mark::Star, rest)?;
     let rest = a_mark(Mark::Close, rest)?;
     let (items, rest) = listed::<ItemForm>(alloc, rest)?;
-    at_end(rest)?;
-    Ok(Simple::Write(unit, items))
+    alone(Simple::Write(unit, items), rest)
+}
+
+// , word = var
+fn next_assigned(alloc: Global, word: Word, tokens: &[Token]) -> Result<(Var, &[Token]), ParseFail>
+    ensures { Gives (λ p. (p.0, p.1.now)) result (behind_read Mark.Comma (behind_read (Mark.Word word) (behind_read Mark.Equals var_part.read)) tokens.now) }
+{
+    let rest = a_mark(Mark::Comma, tokens)?;
+    assigned::<VarForm>(alloc, word, rest)
 }
 
 // IN = var , OUT = var, also OUT first
@@ -82,13 +85,11 @@ fn two_ports(alloc: Global, tokens: &[Token]) -> Result<((bool, (Var, Var)), &[T
 {
     if starts_with(Mark::Word(Word::In), tokens) {
         let (inport, rest) = assigned::<VarForm>(alloc, Word::In, tokens)?;
-        let rest = a_mark(Mark::Comma, rest)?;
-        let (outport, rest) = assigned::<VarForm>(alloc, Word::Out, rest)?;
+        let (outport, rest) = next_assigned(alloc, Word::Out, rest)?;
         Ok(((true, (inport, outport)), rest))
     } else {
         let (outport, rest) = assigned::<VarForm>(alloc, Word::Out, tokens)?;
-        let rest = a_mark(Mark::Comma, rest)?;
-        let (inport, rest) = assigned::<VarForm>(alloc, Word::In, rest)?;
+        let (inport, rest) = next_assigned(alloc, Word::In, rest)?;
         Ok(((false, (inport, outport)), rest))
     }
 }
@@ -98,14 +99,16 @@ fn a_channel(alloc: Global, tokens: &[Token]) -> Result<Simple, ParseFail>
     ensures { Gives (λ s. s) result (keyed_simple Class.Channel tokens.now) }
 {
     let rest = a_mark(Mark::Open, tokens)?;
-    let ((in_first, (inport, outport)), rest) = two_ports(alloc, rest)?;
-    let rest = a_mark(Mark::Close, rest)?;
-    at_end(rest)?;
-    Ok(Simple::Channel {
-        in_first,
-        inport,
-        outport,
-    })
+    let (ports, rest) = two_ports(alloc, rest)?;
+    let ((in_first, (inport, outport)), rest) = ended_by(ports, Mark::Close, rest)?;
+    alone(
+        Simple::Channel {
+            in_first,
+            inport,
+            outport,
+        },
+        rest,
+    )
 }
 
 // `OUT = var`.
@@ -123,17 +126,24 @@ impl Form for OutForm {
     }
 }
 
+// IN = var , list(OUT = var)
+fn merged_ports(alloc: Global, tokens: &[Token]) -> Result<((Var, Seq<Var>), &[Token]), ParseFail>
+    ensures { Gives (λ p. (p.0, p.1.now)) result (merged_ports_part.read tokens.now) }
+{
+    let (inport, rest) = assigned::<VarForm>(alloc, Word::In, tokens)?;
+    let rest = a_mark(Mark::Comma, rest)?;
+    let (outports, rest) = some::<OutForm>(alloc, rest)?;
+    Ok(((inport, outports), rest))
+}
+
 // ( IN = var , list(OUT = var) )
 fn a_merger(alloc: Global, tokens: &[Token]) -> Result<Simple, ParseFail>
     ensures { Gives (λ s. s) result (keyed_simple Class.Merger tokens.now) }
 {
     let rest = a_mark(Mark::Open, tokens)?;
-    let (inport, rest) = assigned::<VarForm>(alloc, Word::In, rest)?;
-    let rest = a_mark(Mark::Comma, rest)?;
-    let (outports, rest) = some::<OutForm>(alloc, rest)?;
-    let rest = a_mark(Mark::Close, rest)?;
-    at_end(rest)?;
-    Ok(Simple::Merger(inport, outports))
+    let (ports, rest) = merged_ports(alloc, rest)?;
+    let ((inport, outports), rest) = ended_by(ports, Mark::Close, rest)?;
+    alone(Simple::Merger(inport, outports), rest)
 }
 
 // ( [PORT =] var )
@@ -142,8 +152,7 @@ fn a_port_in_parens(alloc: Global, tokens: &[Token]) -> Result<((bool, Var), &[T
 {
     let rest = a_mark(Mark::Open, tokens)?;
     let (port, rest) = a_port(alloc, rest)?;
-    let rest = a_mark(Mark::Close, rest)?;
-    Ok((port, rest))
+    ended_by(port, Mark::Close, rest)
 }
 
 // ( [PORT =] var ) [list(expr)]
@@ -152,26 +161,37 @@ fn a_send(alloc: Global, tokens: &[Token]) -> Result<Simple, ParseFail>
 {
     let ((named, port), rest) = a_port_in_parens(alloc, tokens)?;
     let (items, rest) = listed::<ExprForm>(alloc, rest)?;
-    at_end(rest)?;
-    Ok(Simple::Send { named, port, items })
+    alone(Simple::Send { named, port, items }, rest)
+}
+
+// ( [PORT =] var {, extra} )
+fn a_port_and_extras(
+    alloc: Global,
+    tokens: &[Token],
+) -> Result<(((bool, Var), Seq<Extra>), &[Token]), ParseFail>
+    ensures { Gives (λ p. (p.0, p.1.now)) result (port_and_extras_part.read tokens.now) }
+{
+    let rest = a_mark(Mark::Open, tokens)?;
+    let (port, rest) = a_port(alloc, rest)?;
+    let (extras, rest) = extras(alloc, rest)?;
+    ended_by((port, extras), Mark::Close, rest)
 }
 
 // ( [PORT =] var {, extra} ) [list(var)]
 fn a_receive(alloc: Global, tokens: &[Token]) -> Result<Simple, ParseFail>
     ensures { Gives (λ s. s) result (keyed_simple Class.Receive tokens.now) }
 {
-    let rest = a_mark(Mark::Open, tokens)?;
-    let ((named, port), rest) = a_port(alloc, rest)?;
-    let (extras, rest) = extras(alloc, rest)?;
-    let rest = a_mark(Mark::Close, rest)?;
+    let (((named, port), extras), rest) = a_port_and_extras(alloc, tokens)?;
     let (items, rest) = listed::<VarForm>(alloc, rest)?;
-    at_end(rest)?;
-    Ok(Simple::Receive {
-        named,
-        port,
-        extras,
-        items,
-    })
+    alone(
+        Simple::Receive {
+            named,
+            port,
+            extras,
+            items,
+        },
+        rest,
+    )
 }
 
 // ( [PORT =] var )
@@ -179,8 +199,16 @@ fn an_end_channel(alloc: Global, tokens: &[Token]) -> Result<Simple, ParseFail>
     ensures { Gives (λ s. s) result (keyed_simple Class.EndChannel tokens.now) }
 {
     let ((named, port), rest) = a_port_in_parens(alloc, tokens)?;
-    at_end(rest)?;
-    Ok(Simple::EndChannel { named, port })
+    alone(Simple::EndChannel { named, port }, rest)
+}
+
+// FROM = var , TO = var
+fn from_and_to(alloc: Global, tokens: &[Token]) -> Result<((Var, Var), &[Token]), ParseFail>
+    ensures { Gives (λ p. (p.0, p.1.now)) result (from_and_to_part.read tokens.now) }
+{
+    let (from, rest) = assigned::<VarForm>(alloc, Word::From, tokens)?;
+    let (to, rest) = next_assigned(alloc, Word::To, rest)?;
+    Ok(((from, to), rest))
 }
 
 // ( FROM = var , TO = var )
@@ -188,12 +216,21 @@ fn a_move_port(alloc: Global, tokens: &[Token]) -> Result<Simple, ParseFail>
     ensures { Gives (λ s. s) result (keyed_simple Class.MovePort tokens.now) }
 {
     let rest = a_mark(Mark::Open, tokens)?;
-    let (from, rest) = assigned::<VarForm>(alloc, Word::From, rest)?;
-    let rest = a_mark(Mark::Comma, rest)?;
-    let (to, rest) = assigned::<VarForm>(alloc, Word::To, rest)?;
-    let rest = a_mark(Mark::Close, rest)?;
-    at_end(rest)?;
-    Ok(Simple::MovePort { from, to })
+    let (ports, rest) = from_and_to(alloc, rest)?;
+    let ((from, to), rest) = ended_by(ports, Mark::Close, rest)?;
+    alone(Simple::MovePort { from, to }, rest)
+}
+
+// [PORT =] var , EMPTY = var
+fn a_port_and_empty(
+    alloc: Global,
+    tokens: &[Token],
+) -> Result<(((bool, Var), Var), &[Token]), ParseFail>
+    ensures { Gives (λ p. (p.0, p.1.now)) result (port_and_empty_part.read tokens.now) }
+{
+    let (port, rest) = a_port(alloc, tokens)?;
+    let (empty, rest) = next_assigned(alloc, Word::Empty, rest)?;
+    Ok(((port, empty), rest))
 }
 
 // ( [PORT =] var , EMPTY = var )
@@ -201,12 +238,9 @@ fn a_probe(alloc: Global, tokens: &[Token]) -> Result<Simple, ParseFail>
     ensures { Gives (λ s. s) result (keyed_simple Class.Probe tokens.now) }
 {
     let rest = a_mark(Mark::Open, tokens)?;
-    let ((named, port), rest) = a_port(alloc, rest)?;
-    let rest = a_mark(Mark::Comma, rest)?;
-    let (empty, rest) = assigned::<VarForm>(alloc, Word::Empty, rest)?;
-    let rest = a_mark(Mark::Close, rest)?;
-    at_end(rest)?;
-    Ok(Simple::Probe { named, port, empty })
+    let (found, rest) = a_port_and_empty(alloc, rest)?;
+    let (((named, port), empty), rest) = ended_by(found, Mark::Close, rest)?;
+    alone(Simple::Probe { named, port, empty }, rest)
 }
 
 /// What stands behind the keyword of a class, all of the tokens.

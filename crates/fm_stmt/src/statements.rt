@@ -1,7 +1,7 @@
 //! The forms of statements.
 
 ghost use Rattle.fm_parts.specs.Gives.{Gives};
-ghost use Rattle.fm_parts.specs.Reading.{expr_read, optional_behind_read, parens_read, whole};
+ghost use Rattle.fm_parts.specs.Reading.{expr_read, listed_read, name_at, optional_behind_read, parens_read, whole};
 ghost use Rattle.fm_parts.specs.Parts.{call_part_part, loop_part};
 ghost use Rattle.fm_stmt.specs.Statements.{keyed_simple, made, declaration_part, function_part, heading_part, keyed_statement, ports_part, statement_at, then_part};
 ghost use Rattle.fm_tree.specs.declared.statement.Stmt.TheVariants as stmt;
@@ -10,8 +10,8 @@ use crate::simple::{alone, keyed_simple, simple};
 use fm_base::{Class, Name, ParseFail, Seq, Token};
 use fm_parts::{
     ArrayForm, DeclForm, DefinedForm, ExprForm, Mark, NameForm, Word, a_call_part, a_loop_head,
-    a_mark, a_name, a_port_type, a_way, an_expr, at_end, listed, optional_listed, some,
-    some_in_parens, starts_with,
+    a_mark, a_name, a_port_type, a_way, an_expr, ended_by, listed_and_closed, optional_listed,
+    some, some_in_parens, starts_with,
 };
 use fm_tree::{CallPart, Decl, Expr, LoopHead, PortType, Stmt, Way};
 use std::alloc::Global;
@@ -21,8 +21,7 @@ fn a_program(alloc: Global, tokens: &[Token]) -> Result<Stmt, ParseFail>
     ensures { Gives (λ s. s) result (keyed_statement Class.Program tokens.now) }
 {
     let (name, rest) = a_name(alloc, tokens)?;
-    at_end(rest)?;
-    Ok(Stmt::Program(name))
+    alone(Stmt::Program(name), rest)
 }
 
 // name [( [list(name)] )]
@@ -31,8 +30,15 @@ fn a_heading(alloc: Global, tokens: &[Token]) -> Result<(Name, Option<Seq<Name>>
 {
     let (name, rest) = a_name(alloc, tokens)?;
     let (formals, rest) = optional_listed::<NameForm>(alloc, rest)?;
-    at_end(rest)?;
-    Ok((name, formals))
+    alone((name, formals), rest)
+}
+
+// ( [list(name)] )
+fn formals(alloc: Global, tokens: &[Token]) -> Result<(Seq<Name>, &[Token]), ParseFail>
+    ensures { Gives (λ p. (p.0, p.1.now)) result (parens_read (listed_read name_at) tokens.now) }
+{
+    let rest = a_mark(Mark::Open, tokens)?;
+    listed_and_closed::<NameForm>(alloc, rest)
 }
 
 // name ( [list(name)] )
@@ -40,11 +46,8 @@ fn a_function(alloc: Global, tokens: &[Token]) -> Result<(Name, Seq<Name>), Pars
     ensures { Gives (λ p. p) result (whole function_part.read tokens.now) }
 {
     let (name, rest) = a_name(alloc, tokens)?;
-    let rest = a_mark(Mark::Open, rest)?;
-    let (formals, rest) = listed::<NameForm>(alloc, rest)?;
-    let rest = a_mark(Mark::Close, rest)?;
-    at_end(rest)?;
-    Ok((name, formals))
+    let (formals, rest) = formals(alloc, rest)?;
+    alone((name, formals), rest)
 }
 
 // list(decl)
@@ -52,8 +55,7 @@ fn decls(alloc: Global, tokens: &[Token]) -> Result<Seq<Decl>, ParseFail>
     ensures { Gives (λ p. p) result (whole declaration_part.read tokens.now) }
 {
     let (decls, rest) = some::<DeclForm>(alloc, tokens)?;
-    at_end(rest)?;
-    Ok(decls)
+    alone(decls, rest)
 }
 
 // list(name ( list(bound) ))
@@ -61,8 +63,7 @@ fn a_dimension(alloc: Global, tokens: &[Token]) -> Result<Stmt, ParseFail>
     ensures { Gives (λ s. s) result (keyed_statement Class.Dimension tokens.now) }
 {
     let (arrays, rest) = some::<ArrayForm>(alloc, tokens)?;
-    at_end(rest)?;
-    Ok(Stmt::Dimension(arrays))
+    alone(Stmt::Dimension(arrays), rest)
 }
 
 // ( list(name = expr) )
@@ -70,8 +71,7 @@ fn a_parameter(alloc: Global, tokens: &[Token]) -> Result<Stmt, ParseFail>
     ensures { Gives (λ s. s) result (keyed_statement Class.Parameter tokens.now) }
 {
     let (constants, rest) = some_in_parens::<DefinedForm>(alloc, tokens)?;
-    at_end(rest)?;
-    Ok(Stmt::Parameter(constants))
+    alone(Stmt::Parameter(constants), rest)
 }
 
 // ( [list(field)] ) list(decl)
@@ -80,8 +80,7 @@ fn ports(alloc: Global, tokens: &[Token]) -> Result<(PortType, Seq<Decl>), Parse
 {
     let (fields, rest) = a_port_type(alloc, tokens)?;
     let (decls, rest) = some::<DeclForm>(alloc, rest)?;
-    at_end(rest)?;
-    Ok((fields, decls))
+    alone((fields, decls), rest)
 }
 
 // ( way ) list(name)
@@ -92,8 +91,7 @@ fn an_intent(alloc: Global, tokens: &[Token]) -> Result<Stmt, ParseFail>
     let (way, rest) = a_way(rest)?;
     let rest = a_mark(Mark::Close, rest)?;
     let (names, rest) = some::<NameForm>(alloc, rest)?;
-    at_end(rest)?;
-    Ok(Stmt::Intent(way, names))
+    alone(Stmt::Intent(way, names), rest)
 }
 
 // ( list(expr) )
@@ -101,8 +99,7 @@ fn processors(alloc: Global, tokens: &[Token]) -> Result<Stmt, ParseFail>
     ensures { Gives (λ s. s) result (keyed_statement Class.Processors tokens.now) }
 {
     let (extents, rest) = some_in_parens::<ExprForm>(alloc, tokens)?;
-    at_end(rest)?;
-    Ok(Stmt::Processors(extents))
+    alone(Stmt::Processors(extents), rest)
 }
 
 // ( expr )
@@ -111,8 +108,7 @@ fn a_condition(alloc: Global, tokens: &[Token]) -> Result<(Expr, &[Token]), Pars
 {
     let rest = a_mark(Mark::Open, tokens)?;
     let (value, rest) = an_expr(alloc, rest)?;
-    let rest = a_mark(Mark::Close, rest)?;
-    Ok((value, rest))
+    ended_by(value, Mark::Close, rest)
 }
 
 // ( expr ) THEN
@@ -120,9 +116,8 @@ fn a_then(alloc: Global, tokens: &[Token]) -> Result<Expr, ParseFail>
     ensures { Gives (λ p. p) result (whole then_part.read tokens.now) }
 {
     let (condition, rest) = a_condition(alloc, tokens)?;
-    let rest = a_mark(Mark::Word(Word::Then), rest)?;
-    at_end(rest)?;
-    Ok(condition)
+    let (condition, rest) = ended_by(condition, Mark::Word(Word::Then), rest)?;
+    alone(condition, rest)
 }
 
 // ( expr ) simple
@@ -139,8 +134,7 @@ fn a_loop(alloc: Global, tokens: &[Token]) -> Result<LoopHead, ParseFail>
     ensures { Gives (λ p. p) result (whole loop_part.read tokens.now) }
 {
     let (head, rest) = a_loop_head(alloc, tokens)?;
-    at_end(rest)?;
-    Ok(head)
+    alone(head, rest)
 }
 
 // ( expr )
@@ -148,8 +142,7 @@ fn a_do_while(alloc: Global, tokens: &[Token]) -> Result<Stmt, ParseFail>
     ensures { Gives (λ s. s) result (keyed_statement Class.DoWhile tokens.now) }
 {
     let (condition, rest) = a_condition(alloc, tokens)?;
-    at_end(rest)?;
-    Ok(Stmt::DoWhile(condition))
+    alone(Stmt::DoWhile(condition), rest)
 }
 
 // [( [list(expr)] ) [where]]
@@ -173,8 +166,7 @@ fn a_process_call(alloc: Global, tokens: &[Token]) -> Result<Stmt, ParseFail>
 {
     let (name, rest) = a_name(alloc, tokens)?;
     let (part, rest) = optional_call_part(alloc, rest)?;
-    at_end(rest)?;
-    Ok(Stmt::ProcessCall(name, part))
+    alone(Stmt::ProcessCall(name, part), rest)
 }
 
 fn a_simple(alloc: Global, class: Class, tokens: &[Token]) -> Result<Stmt, ParseFail>
