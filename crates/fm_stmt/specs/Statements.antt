@@ -116,13 +116,9 @@ receive_part = pair port_and_extras_part (listed var_part)
 abbrev pub end_channel_part : Part (Bool × Var)
 end_channel_part = parens port_part
 
--- FROM = var , TO = var
-abbrev pub from_and_to_part : Part (Var × Var)
-from_and_to_part = pair (assigned word.From var_part) (behind Comma (assigned word.To var_part))
-
 -- MOVEPORT ( FROM = var , TO = var )
 abbrev pub move_port_part : Part (Var × Var)
-move_port_part = parens from_and_to_part
+move_port_part = parens (pair (assigned word.From var_part) (behind Comma (assigned word.To var_part)))
 
 -- [PORT =] var , EMPTY = var
 abbrev pub port_and_empty_part : Part ((Bool × Var) × Var)

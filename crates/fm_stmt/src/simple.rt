@@ -1,9 +1,9 @@
 //! Statements that may stand behind a logical IF.
 
 ghost use Rattle.fm_parts.specs.Gives.{Gives};
-ghost use Rattle.fm_parts.specs.Reading.{behind_read, parens_read};
+ghost use Rattle.fm_parts.specs.Reading.{assigned, behind, pair, parens_read};
 ghost use Rattle.fm_parts.specs.Parts.{port_part, var_part};
-ghost use Rattle.fm_stmt.specs.Statements.{all, alone, assignment_part, from_and_to_part, keyed_simple, merged_ports_part, port_and_empty_part, port_and_extras_part, simple_at, two_ports_part};
+ghost use Rattle.fm_stmt.specs.Statements.{all, alone, assignment_part, keyed_simple, merged_ports_part, port_and_empty_part, port_and_extras_part, simple_at, two_ports_part};
 ghost use Rattle.fm_tree.specs.declared.statement.Simple.TheVariants as simple;
 
 use fm_base::{Class, ParseFail, Seq, Token};
@@ -73,10 +73,24 @@ fn a_write(alloc: Global, tokens: &[Token]) -> Result<Simple, ParseFail>
 
 // , word = var
 fn next_assigned(alloc: Global, word: Word, tokens: &[Token]) -> Result<(Var, &[Token]), ParseFail>
-    ensures { Gives (λ p. (p.0, p.1.now)) result (behind_read Mark.Comma (behind_read (Mark.Word word) (behind_read Mark.Equals var_part.read)) tokens.now) }
+    ensures { Gives (λ p. (p.0, p.1.now)) result ((behind Mark.Comma (assigned word var_part)).read tokens.now) }
 {
     let rest = a_mark(Mark::Comma, tokens)?;
     assigned::<VarForm>(alloc, word, rest)
+}
+
+// word = var , word = var
+fn two_assigned(
+    alloc: Global,
+    first: Word,
+    second: Word,
+    tokens: &[Token],
+) -> Result<((Var, Var), &[Token]), ParseFail>
+    ensures { Gives (λ p. (p.0, p.1.now)) result ((pair (assigned first var_part) (behind Mark.Comma (assigned second var_part))).read tokens.now) }
+{
+    let (one, rest) = assigned::<VarForm>(alloc, first, tokens)?;
+    let (other, rest) = next_assigned(alloc, second, rest)?;
+    Ok(((one, other), rest))
 }
 
 // IN = var , OUT = var, also OUT first
@@ -84,12 +98,10 @@ fn two_ports(alloc: Global, tokens: &[Token]) -> Result<((bool, (Var, Var)), &[T
     ensures { Gives (λ p. (p.0, p.1.now)) result (two_ports_part.read tokens.now) }
 {
     if starts_with(Mark::Word(Word::In), tokens) {
-        let (inport, rest) = assigned::<VarForm>(alloc, Word::In, tokens)?;
-        let (outport, rest) = next_assigned(alloc, Word::Out, rest)?;
+        let ((inport, outport), rest) = two_assigned(alloc, Word::In, Word::Out, tokens)?;
         Ok(((true, (inport, outport)), rest))
     } else {
-        let (outport, rest) = assigned::<VarForm>(alloc, Word::Out, tokens)?;
-        let (inport, rest) = next_assigned(alloc, Word::In, rest)?;
+        let ((outport, inport), rest) = two_assigned(alloc, Word::Out, Word::In, tokens)?;
         Ok(((false, (inport, outport)), rest))
     }
 }
@@ -202,21 +214,12 @@ fn an_end_channel(alloc: Global, tokens: &[Token]) -> Result<Simple, ParseFail>
     alone(Simple::EndChannel { named, port }, rest)
 }
 
-// FROM = var , TO = var
-fn from_and_to(alloc: Global, tokens: &[Token]) -> Result<((Var, Var), &[Token]), ParseFail>
-    ensures { Gives (λ p. (p.0, p.1.now)) result (from_and_to_part.read tokens.now) }
-{
-    let (from, rest) = assigned::<VarForm>(alloc, Word::From, tokens)?;
-    let (to, rest) = next_assigned(alloc, Word::To, rest)?;
-    Ok(((from, to), rest))
-}
-
 // ( FROM = var , TO = var )
 fn a_move_port(alloc: Global, tokens: &[Token]) -> Result<Simple, ParseFail>
     ensures { Gives (λ s. s) result (keyed_simple Class.MovePort tokens.now) }
 {
     let rest = a_mark(Mark::Open, tokens)?;
-    let (ports, rest) = from_and_to(alloc, rest)?;
+    let (ports, rest) = two_assigned(alloc, Word::From, Word::To, rest)?;
     let ((from, to), rest) = ended_by(ports, Mark::Close, rest)?;
     alone(Simple::MovePort { from, to }, rest)
 }

@@ -2,7 +2,7 @@
 
 ghost use Rattle.fm_parts.specs.Gives.{Gives};
 ghost use Rattle.fm_parts.specs.Reading.{expr_read, listed_read, name_at, optional_behind_read, parens_read, whole};
-ghost use Rattle.fm_parts.specs.Parts.{call_part_part, loop_part};
+ghost use Rattle.fm_parts.specs.Parts.{call_part_part, loop_part, way_part};
 ghost use Rattle.fm_stmt.specs.Statements.{keyed_simple, made, declaration_part, function_part, heading_part, keyed_statement, ports_part, statement_at, then_part};
 ghost use Rattle.fm_tree.specs.declared.statement.Stmt.TheVariants as stmt;
 
@@ -83,13 +83,20 @@ fn ports(alloc: Global, tokens: &[Token]) -> Result<(PortType, Seq<Decl>), Parse
     alone((fields, decls), rest)
 }
 
+// ( way )
+fn a_way_in_parens(tokens: &[Token]) -> Result<(Way, &[Token]), ParseFail>
+    ensures { Gives (λ p. (p.0, p.1.now)) result (parens_read way_part.read tokens.now) }
+{
+    let rest = a_mark(Mark::Open, tokens)?;
+    let (way, rest) = a_way(rest)?;
+    ended_by(way, Mark::Close, rest)
+}
+
 // ( way ) list(name)
 fn an_intent(alloc: Global, tokens: &[Token]) -> Result<Stmt, ParseFail>
     ensures { Gives (λ s. s) result (keyed_statement Class.Intent tokens.now) }
 {
-    let rest = a_mark(Mark::Open, tokens)?;
-    let (way, rest) = a_way(rest)?;
-    let rest = a_mark(Mark::Close, rest)?;
+    let (way, rest) = a_way_in_parens(tokens)?;
     let (names, rest) = some::<NameForm>(alloc, rest)?;
     alone(Stmt::Intent(way, names), rest)
 }
