@@ -8,98 +8,148 @@ use fm_token::{class, tokens};
 use std::alloc::Global;
 use std::test::Fail;
 
-// A text, and its statements as lines `LINE LABEL TEXT` or the rule that it breaks.
-const CARDS: [(&[u8], &[u8]); 18] = [
-    (
-        b"  1 0 do 20 i = 1 , 3\n00020 continue\n    90x=1\n",
-        b"1 10 DO20I=1,3\n2 20 CONTINUE\n3 9 X=1\n",
-    ),
-    (b"10\n     0\n     1x\n", b"1 10 \n2 X\n"),
-    (
-        b"C a\n\n      a = 1\n* b\n     1 + 2\n! c\n     ++ 3\nc d\n      \n      b = 4",
-        b"3 A=1+2+3\n10 B=4\n",
-    ),
-    (
-        b"      a=1\r\n     1+2\r\n\r\n      end\r",
-        b"1 A=1+2\n4 END\n",
-    ),
-    (
-        b"      a=                                                               12\n",
-        b"1 A=1\n",
-    ),
-    (
-        b"      PRINT *, 'AB\n     1CD'",
-        b"1 PRINT*,'AB                                                      CD'\n",
-    ),
-    (
-        b"      print *, 'it''s a', ' b' ' c'\n",
-        b"1 PRINT*,'it''s a',' b'' c'\n",
-    ),
-    (b"", b""),
-    (b"\n\n", b""),
-    (b"      A=1\n      B=\t2\n", b"line 2: E01 bad character\n"),
-    (b"      A=1\r\r\n", b"line 1: E01 bad character\n"),
-    (b"1A    X=1\n", b"line 1: E02 bad label field\n"),
-    (b"0 0   X=1\n", b"line 1: E02 bad label field\n"),
-    (b"      X=\n   1 1 2\n", b"line 2: E03 bad continuation\n"),
-    (b"C\n     1X\n", b"line 2: E03 bad continuation\n"),
-    (
-        b"      X='A\n     1 'B'\n",
-        b"line 1: E05 open character constant\n",
-    ),
-    (
-        b"      X='A\n     1\t\n",
-        b"line 1: E05 open character constant\n",
-    ),
-    (
-        b"      X=1\n1    1\t\n0     Y=\n",
-        b"line 2: E01 bad character\n",
-    ),
-];
+// Each text is one constant: an array of constants costs a check for each item.
 
-const CLASSES: [(&[u8], Class); 23] = [
-    (b"DO10I=1", Class::Assignment),
-    (b"DO10I=1,3", Class::Do),
-    (b"DO10I=F(1,3)", Class::Assignment),
-    (b"DO10I=A(')'),3", Class::Do),
-    (b"DOUBLE=1,2", Class::Do),
-    (b"PROCESSDOI=1,2", Class::ProcessDo),
-    (b"PROCESSDO", Class::Process),
-    (b"X=1,2", Class::Nothing),
-    (b"IF(I)=5", Class::Assignment),
-    (b"IF(I)=1,2", Class::Nothing),
-    (b"IF(L)THEN=5", Class::LogicalIf),
-    (b"IF(L)THEN", Class::BlockIf),
-    (b"IF(L)", Class::Nothing),
-    (b"IF(C.EQ.')')STOP", Class::LogicalIf),
-    (b"CALLX(2)=5", Class::Assignment),
-    (b"CALLX(I=2)", Class::Call),
-    (b"PROCESSCALLALOCATION(1)", Class::ProcessCall),
-    (b"END", Class::End),
-    (b"ENDIF", Class::EndIf),
-    (b"ENDED", Class::Nothing),
-    (b"INTEGERFUNCTIONF(I)", Class::IntegerFunction),
-    (b"PRINT*,'A=B'", Class::Print),
-    (b"", Class::Nothing),
-];
+// Texts, and their statements as lines `LINE LABEL TEXT` or the rule that they break.
+const CARDS: &str = "  1 0 do 20 i = 1 , 3
+00020 continue
+    90x=1
+=>
+1 10 DO20I=1,3
+2 20 CONTINUE
+3 9 X=1
+--
+10
+     0
+     1x
+=>
+1 10\x20
+2 X
+--
+C a
 
-// A statement, and its tokens with blanks behind each, or a question mark where there are none.
-const TOKENS: [(&[u8], &[u8]); 14] = [
-    (b"DO10I=1", b"DO10I = 1 "),
-    (b"DO10I=1,3", b"!DO 10 I = 1 , 3 "),
-    (b"IF(L)THEN=5", b"!IF ( L ) THEN = 5 "),
-    (b"IF(L)THEN", b"!IF ( L ) THEN "),
-    (b"IF(L)IF(M)STOP", b"!IF ( L ) !IF ( M ) !STOP "),
-    (b"IF(L)STOPX", b"?"),
-    (b"PROCESSCALLALOCATION(1)", b"!PROCESSCALL ALOCATION ( 1 ) "),
-    (b"L=1.EQ.2.OR..NOT..TRUE.", b"L = 1 .EQ. 2 .OR. .NOT. T "),
-    (b"X=A**B*C_D", b"X = A ** B * C_D "),
-    (b"PRINT*,'A''B','',''''", b"!PRINT * , \"A'B , \" , \"' "),
-    (b"X=9223372036854775807", b"X = 9223372036854775807 "),
-    (b"X=009223372036854775808", b"X = # "),
-    (b"X=1$", b"?"),
-    (b"X='A''", b"?"),
-];
+      a = 1
+* b
+     1 + 2
+! c
+     ++ 3
+c d
+      
+      b = 4=>
+3 A=1+2+3
+10 B=4
+--
+      a=1\r
+     1+2\r
+\r
+      end\r=>
+1 A=1+2
+4 END
+--
+      a=                                                               12
+=>
+1 A=1
+--
+      PRINT *, 'AB
+     1CD'=>
+1 PRINT*,'AB                                                      CD'
+--
+      print *, 'it''s a', ' b' ' c'
+=>
+1 PRINT*,'it''s a',' b'' c'
+--
+=>
+--
+
+
+=>
+--
+      A=1
+      B=\t2
+=>
+line 2: E01 bad character
+--
+      A=1\r\r
+=>
+line 1: E01 bad character
+--
+1A    X=1
+=>
+line 1: E02 bad label field
+--
+0 0   X=1
+=>
+line 1: E02 bad label field
+--
+      X=
+   1 1 2
+=>
+line 2: E03 bad continuation
+--
+C
+     1X
+=>
+line 2: E03 bad continuation
+--
+      X='A
+     1 'B'
+=>
+line 1: E05 open character constant
+--
+      X='A
+     1\t
+=>
+line 1: E05 open character constant
+--
+      X=1
+1    1\t
+0     Y=
+=>
+line 2: E01 bad character
+";
+
+// Statements, and their classes.
+const CLASSES: &str = "DO10I=1 -> assignment
+DO10I=1,3 -> DO
+DO10I=F(1,3) -> assignment
+DO10I=A(')'),3 -> DO
+DOUBLE=1,2 -> DO
+PROCESSDOI=1,2 -> PROCESSDO
+PROCESSDO -> PROCESS
+X=1,2 -> nothing
+IF(I)=5 -> assignment
+IF(I)=1,2 -> nothing
+IF(L)THEN=5 -> logical IF
+IF(L)THEN -> block IF
+IF(L) -> nothing
+IF(C.EQ.')')STOP -> logical IF
+CALLX(2)=5 -> assignment
+CALLX(I=2) -> CALL
+PROCESSCALLALOCATION(1) -> PROCESSCALL
+END -> END
+ENDIF -> ENDIF
+ENDED -> nothing
+INTEGERFUNCTIONF(I) -> INTEGERFUNCTION
+PRINT*,'A=B' -> PRINT
+ -> nothing
+";
+
+// Statements, and their tokens with blanks between, or a question mark where there are none.
+const TOKENS: &str = "DO10I=1 -> DO10I = 1
+DO10I=1,3 -> !DO 10 I = 1 , 3
+IF(L)THEN=5 -> !IF ( L ) THEN = 5
+IF(L)THEN -> !IF ( L ) THEN
+IF(L)IF(M)STOP -> !IF ( L ) !IF ( M ) !STOP
+IF(L)STOPX -> ?
+PROCESSCALLALOCATION(1) -> !PROCESSCALL ALOCATION ( 1 )
+L=1.EQ.2.OR..NOT..TRUE. -> L = 1 .EQ. 2 .OR. .NOT. T
+X=A**B*C_D -> X = A ** B * C_D
+PRINT*,'A''B','','''' -> !PRINT * , \"A'B , \" , \"'
+X=9223372036854775807 -> X = 9223372036854775807
+X=009223372036854775808 -> X = #
+X=1$ -> ?
+X='A'' -> ?
+";
 
 fn shown_cards(alloc: Global, source: &[u8]) -> Result<Vec<u8>, NoMemory>
     requires { length source.now ≤ 1_000_000 }
@@ -121,6 +171,16 @@ fn shown_cards(alloc: Global, source: &[u8]) -> Result<Vec<u8>, NoMemory>
         out.push(b'\n')?;
     }
     Ok(out)
+}
+
+fn name_of(class: Class) -> &'static [u8] {
+    match class {
+        Class::Assignment => b"assignment",
+        Class::LogicalIf => b"logical IF",
+        Class::BlockIf => b"block IF",
+        Class::Nothing => b"nothing",
+        class => class.keyword(),
+    }
 }
 
 fn push_token(alloc: Global, out: &mut Vec<u8>, token: &Token) -> Result<(), NoMemory> {
@@ -153,11 +213,11 @@ fn shown_tokens(alloc: Global, text: &[u8]) -> Result<Vec<u8>, NoMemory> {
     match tokens(alloc, text) {
         Ok(list) => {
             for token in &list {
-                push_token(alloc, &mut out, token)?;
                 out.push(b' ')?;
+                push_token(alloc, &mut out, token)?;
             }
         }
-        Err(ParseFail::Bad) => out.push(b'?')?,
+        Err(ParseFail::Bad) => out.extend_from_slice(b" ?")?,
         Err(ParseFail::NoMemory) => return Err(NoMemory),
     }
     Ok(out)
@@ -165,10 +225,12 @@ fn shown_tokens(alloc: Global, text: &[u8]) -> Result<Vec<u8>, NoMemory> {
 
 #[test]
 fn reads_cards(rt: HostRuntime) -> Result<(), Fail> {
-    for (source, want) in CARDS {
+    for row in CARDS.split("--\n") {
+        let (source, wanted) = row.split_once("=>\n").ok_or("no arrow")?;
+        let source = source.as_bytes();
         assert!(rt; source.len() <= 1_000_000);
         let found = shown_cards(rt.alloc(), source).map_err(|_| "no memory")?;
-        assert_eq!(rt; found.as_slice(), want);
+        assert_eq!(rt; found.as_slice(), wanted.as_bytes());
     }
     Ok(())
 }
@@ -196,17 +258,19 @@ fn counts_continuations(rt: HostRuntime) -> Result<(), Fail> {
 
 #[test]
 fn classes(rt: HostRuntime) -> Result<(), Fail> {
-    for (text, want) in CLASSES {
-        assert_eq!(rt; class(text), want);
+    for line in CLASSES.lines() {
+        let (text, wanted) = line.split_once(" -> ").ok_or("no arrow")?;
+        assert_eq!(rt; name_of(class(text.as_bytes())), wanted.as_bytes());
     }
     Ok(())
 }
 
 #[test]
 fn cuts(rt: HostRuntime) -> Result<(), Fail> {
-    for (text, want) in TOKENS {
-        let found = shown_tokens(rt.alloc(), text).map_err(|_| "no memory")?;
-        assert_eq!(rt; found.as_slice(), want);
+    for line in TOKENS.lines() {
+        let (text, wanted) = line.split_once(" ->").ok_or("no arrow")?;
+        let found = shown_tokens(rt.alloc(), text.as_bytes()).map_err(|_| "no memory")?;
+        assert_eq!(rt; found.as_slice(), wanted.as_bytes());
     }
     Ok(())
 }
