@@ -1,7 +1,7 @@
 //! Whether a name of a statement is too long.
 #![tactic(auto, using(crate::proofs::Long::long_append))]
 
-ghost use Rattle.std.specs.Prelude.{◌≡◌, ◌∷◌, List, ℕ};
+ghost use Rattle.std.specs.Prelude.{◌≡◌, ◌∷◌, ◌++◌, List, ℕ};
 ghost use Rattle.std.specs.List.{flat_map};
 ghost use Rattle.fm_stmt.specs.Names.{bound_names, call_part_names, decl_names, defined_names, extra_names, field_names, fields_names, has_long, is_long, item_names, kind_names, loop_names, names_of, one_name, option_names, simple_names, tree_names, trees_names, var_names, where_names};
 ghost use Rattle.fm_tree.specs.PortReading.{fields_of, kind_of};
@@ -40,6 +40,18 @@ fn option_long<T: Named>(item: &Option<T>) -> bool
         None => false,
         Some(item) => item.has_long(),
     }
+}
+
+fn either_long<A: Named, B: Named>(first: &A, second: &B) -> bool
+    ensures { result ≡ has_long (A.names first.now ++ B.names second.now) }
+{
+    first.has_long() || second.has_long()
+}
+
+fn long_with<A: Named, T: Named>(first: &A, others: &[T]) -> bool
+    ensures { result ≡ has_long (A.names first.now ++ flat_map T.names others.now) }
+{
+    first.has_long() || any_long::<T>(others)
 }
 
 impl Named for Name {
@@ -224,7 +236,7 @@ impl Named for Simple {
 
     fn has_long(&self) -> bool {
         match self {
-            Simple::Assignment(target, value) => target.has_long() || value.has_long(),
+            Simple::Assignment(target, value) => either_long::<Var, Expr>(target, value),
             Simple::Goto(_) => false,
             Simple::Continue => false,
             Simple::Return => false,
@@ -238,15 +250,15 @@ impl Named for Simple {
                 in_first: _,
                 inport,
                 outport,
-            } => inport.has_long() || outport.has_long(),
+            } => either_long::<Var, Var>(inport, outport),
             Simple::Merger(inport, outports) => {
-                inport.has_long() || any_long::<Var>(outports.as_slice())
+                long_with::<Var, Var>(inport, outports.as_slice())
             }
             Simple::Send {
                 named: _,
                 port,
                 items,
-            } => port.has_long() || any_long::<Expr>(items.as_slice()),
+            } => long_with::<Var, Expr>(port, items.as_slice()),
             Simple::Receive {
                 named: _,
                 port,
@@ -258,12 +270,12 @@ impl Named for Simple {
                     || any_long::<Var>(items.as_slice())
             }
             Simple::EndChannel { named: _, port } => port.has_long(),
-            Simple::MovePort { from, to } => from.has_long() || to.has_long(),
+            Simple::MovePort { from, to } => either_long::<Var, Var>(from, to),
             Simple::Probe {
                 named: _,
                 port,
                 empty,
-            } => port.has_long() || empty.has_long(),
+            } => either_long::<Var, Var>(port, empty),
         }
     }
 }
@@ -272,6 +284,12 @@ fn heading_long(name: &Name, formals: &[Name]) -> bool
     ensures { result ≡ has_long (name.now ∷ flat_map one_name formals.now) }
 {
     name.has_long() || any_long::<Name>(formals)
+}
+
+fn ports_long(fields: &PortType, decls: &[Decl]) -> bool
+    ensures { result ≡ has_long (fields_names fields.now ++ flat_map decl_names decls.now) }
+{
+    port_type_long(fields) || any_long::<Decl>(decls)
 }
 
 /// Whether a name of the statement has over 31 characters. The keyword before a field's name does
@@ -291,16 +309,12 @@ pub fn statement_long(statement: &Stmt) -> bool
         Stmt::Logical(decls) => any_long::<Decl>(decls.as_slice()),
         Stmt::Dimension(decls) => any_long::<Decl>(decls.as_slice()),
         Stmt::Parameter(constants) => any_long::<Defined>(constants.as_slice()),
-        Stmt::Inport(fields, decls) => {
-            port_type_long(fields) || any_long::<Decl>(decls.as_slice())
-        }
-        Stmt::Outport(fields, decls) => {
-            port_type_long(fields) || any_long::<Decl>(decls.as_slice())
-        }
+        Stmt::Inport(fields, decls) => ports_long(fields, decls.as_slice()),
+        Stmt::Outport(fields, decls) => ports_long(fields, decls.as_slice()),
         Stmt::Intent(_, names) => any_long::<Name>(names.as_slice()),
         Stmt::Processors(extents) => any_long::<Expr>(extents.as_slice()),
         Stmt::Simple(simple) => simple.has_long(),
-        Stmt::LogicalIf(condition, contained) => condition.has_long() || contained.has_long(),
+        Stmt::LogicalIf(condition, contained) => either_long::<Expr, Simple>(condition, contained),
         Stmt::BlockIf(condition) => condition.has_long(),
         Stmt::ElseIf(condition) => condition.has_long(),
         Stmt::Else => false,
