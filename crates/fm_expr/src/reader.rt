@@ -2,6 +2,7 @@
 
 ghost use Rattle.std.specs.Prelude.{◌≡◌, [], IfOk, None, is_some};
 ghost use Rattle.fm_tree.specs.Shape.{levels, grade};
+ghost use Rattle.fm_tree.specs.Tree.{Signed, Not, Binary};
 ghost use Rattle.fm_expr.specs.Reading.{stack_of, need, demand, operation, reduction, operand_step, call_step, operator_step, close_step, comma_step, behind_step, empty_call, prefix_step, step, whole_around, last_whole, run};
 
 use fm_base::{Name, NoMemory, Op, Seq, Token};
@@ -62,18 +63,36 @@ fn grade_of(tree: &Expr) -> u8
     }
 }
 
+fn joined(alloc: Global, left: Expr, op: Op, right: Expr) -> Result<Expr, NoMemory>
+    ensures { IfOk result (λ e. e ≡ Binary op left right) }
+{
+    let node = ExprNode::Binary(op, Box::new(alloc, left)?, Box::new(alloc, right)?);
+    Ok(Expr { node })
+}
+
+fn negated(alloc: Global, tree: Expr) -> Result<Expr, NoMemory>
+    ensures { IfOk result (λ e. e ≡ Not tree) }
+{
+    let node = ExprNode::Not(Box::new(alloc, tree)?);
+    Ok(Expr { node })
+}
+
+fn signed(alloc: Global, op: Op, tree: Expr) -> Result<Expr, NoMemory>
+    ensures { IfOk result (λ e. e ≡ Signed op tree) }
+{
+    let node = ExprNode::Signed(op, Box::new(alloc, tree)?);
+    Ok(Expr { node })
+}
+
 fn close(alloc: Global, frame: Frame, tree: Expr) -> Result<Expr, NoMemory>
     ensures { IfOk result (λ e. e ≡ operation frame tree) }
 {
-    let node = match frame {
-        Frame::Joins(left, op, _) => {
-            ExprNode::Binary(op, Box::new(alloc, left)?, Box::new(alloc, tree)?)
-        }
-        Frame::Negates => ExprNode::Not(Box::new(alloc, tree)?),
-        Frame::Signs(op) => ExprNode::Signed(op, Box::new(alloc, tree)?),
-        Frame::Opens | Frame::Calls(_, _, _) => return Ok(tree),
-    };
-    Ok(Expr { node })
+    match frame {
+        Frame::Joins(left, op, _) => joined(alloc, left, op, tree),
+        Frame::Negates => negated(alloc, tree),
+        Frame::Signs(op) => signed(alloc, op, tree),
+        Frame::Opens | Frame::Calls(_, _, _) => Ok(tree),
+    }
 }
 
 /// Closes each operator whose operand ends before an operator of this level.
