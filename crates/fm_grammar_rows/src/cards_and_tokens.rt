@@ -235,23 +235,26 @@ fn reads_cards(rt: HostRuntime) -> Result<(), Fail> {
     Ok(())
 }
 
+// What is shown of a card with so many continuations.
+fn shown_continued(alloc: Global, lines: u32) -> Result<Vec<u8>, Fail> {
+    let mut source = Vec::from_slice(alloc, b"      X=1\n")?;
+    for _ in 0..lines {
+        source.extend_from_slice(b"     1+1\n")?;
+    }
+    if source.len() > 1_000_000 {
+        return Err("a shorter text".into());
+    }
+    Ok(shown_cards(alloc, source.as_slice()).map_err(|_| "no memory")?)
+}
+
 #[test]
 fn counts_continuations(rt: HostRuntime) -> Result<(), Fail> {
-    let mut source = Vec::from_slice(rt.alloc(), b"      X=1\n").map_err(|_| "no memory")?;
-    for _ in 0..20 {
-        source
-            .extend_from_slice(b"     1+1\n")
-            .map_err(|_| "no memory")?;
-    }
-    assert!(rt; source.len() <= 1_000_000);
-    let found = shown_cards(rt.alloc(), source.as_slice()).map_err(|_| "no memory")?;
+    let found = shown_continued(rt.alloc(), 20)?;
     assert_eq!(rt;
         found.as_slice(),
         b"line 21: E04 too many continuations\n".as_slice()
     );
-    source.truncate(181);
-    assert!(rt; source.len() <= 1_000_000);
-    let found = shown_cards(rt.alloc(), source.as_slice()).map_err(|_| "no memory")?;
+    let found = shown_continued(rt.alloc(), 19)?;
     assert_eq!(rt; found.len(), 44);
     Ok(())
 }

@@ -5,8 +5,8 @@
 #[cfg(test)]
 mod cards_and_tokens;
 #[cfg(test)]
-mod expressions;
+mod copies;
 #[cfg(test)]
-mod spelling;
+mod expressions;
 #[cfg(test)]
 mod statements;
