@@ -1,9 +1,9 @@
 //! A reader that goes over the tokens once and keeps what stands open on a stack.
 
-ghost use Rattle.std.specs.Prelude.{◌≡◌, [], IfOk, None, is_some};
+ghost use Rattle.std.specs.Prelude.{◌≡◌, [], ◌∷◌, ◌++◌, IfOk, None, Some, is_some};
 ghost use Rattle.fm_tree.specs.Shape.{levels, grade};
-ghost use Rattle.fm_tree.specs.Tree.{Signed, Not, Binary};
-ghost use Rattle.fm_expr.specs.Reading.{stack_of, need, demand, operation, reduction, operand_step, call_step, operator_step, close_step, comma_step, behind_step, empty_call, prefix_step, step, whole_around, last_whole, run};
+ghost use Rattle.fm_tree.specs.Tree.{Ref, Paren, Signed, Not, Binary, trees_from};
+ghost use Rattle.fm_expr.specs.Reading.{stack_of, need, demand, operation, reduction, operand_step, call_step, halt, operator_step, close_step, comma_step, behind_step, empty_call, prefix_step, step, whole_around, last_whole, run};
 
 use fm_base::{Name, NoMemory, Op, Seq, Token};
 use fm_tree::{Expr, ExprNode, left_level, own_level, right_level};
@@ -201,23 +201,58 @@ fn join(
     Ok((true, None))
 }
 
+/// What stands open goes back to its place, and the reader stops behind the operand.
+fn put_back(frames: &mut Vec<Frame>, frame: Frame, tree: Expr) -> Result<Progress, NoMemory>
+    ensures { IfOk result (λ r. (r.0, stack_of frames.new.items, r.1) ≡ halt (frame ∷ stack_of frames.old.items) (Some tree)) }
+{
+    frames.push(frame)?;
+    Ok((false, Some(tree)))
+}
+
+fn in_parentheses(alloc: Global, tree: Expr) -> Result<Expr, NoMemory>
+    ensures { IfOk result (λ e. e ≡ Paren tree) }
+{
+    let node = ExprNode::Paren(Box::new(alloc, tree)?);
+    Ok(Expr { node })
+}
+
+/// A name with its arguments, of which this is the last.
+fn called(name: Name, args: Seq<Expr>, last: Expr) -> Result<Expr, NoMemory>
+    ensures { IfOk result (λ e. e ≡ Ref name (trees_from (args ++ last ∷ []))) }
+{
+    let mut args = args;
+    args.push(last)?;
+    Ok(Expr {
+        node: ExprNode::Ref(name, args.into_vec()),
+    })
+}
+
 /// A closing parenthesis behind the last operand in it.
 fn end(alloc: Global, frames: &mut Vec<Frame>, tree: Expr) -> Result<Progress, NoMemory>
     ensures { IfOk result (λ r. (r.0, stack_of frames.new.items, r.1) ≡ close_step (stack_of frames.old.items) tree) }
 {
-    let node = match frames.pop() {
-        Some(Frame::Opens) => ExprNode::Paren(Box::new(alloc, tree)?),
-        Some(Frame::Calls(name, mut args, _)) => {
-            args.push(tree)?;
-            ExprNode::Ref(name, args.into_vec())
-        }
-        Some(frame) => {
-            frames.push(frame)?;
-            return Ok((false, Some(tree)));
-        }
-        None => return Ok((false, Some(tree))),
-    };
-    Ok((true, Some(Expr { node })))
+    match frames.pop() {
+        Some(Frame::Opens) => Ok((true, Some(in_parentheses(alloc, tree)?))),
+        Some(Frame::Calls(name, args, _)) => Ok((true, Some(called(name, args, tree)?))),
+        Some(frame) => put_back(frames, frame, tree),
+        None => Ok((false, Some(tree))),
+    }
+}
+
+/// The call stands open with one argument more.
+fn with_argument(
+    frames: &mut Vec<Frame>,
+    name: Name,
+    args: Seq<Expr>,
+    at: usize,
+    tree: Expr,
+) -> Result<Progress, NoMemory>
+    ensures { IfOk result (λ r. (r.0, stack_of frames.new.items, r.1) ≡ comma_step (Frame.Calls name args at ∷ stack_of frames.old.items) tree) }
+{
+    let mut args = args;
+    args.push(tree)?;
+    frames.push(Frame::Calls(name, args, at))?;
+    Ok((true, None))
 }
 
 /// A comma behind an argument.
@@ -225,15 +260,8 @@ fn go_on(frames: &mut Vec<Frame>, tree: Expr) -> Result<Progress, NoMemory>
     ensures { IfOk result (λ r. (r.0, stack_of frames.new.items, r.1) ≡ comma_step (stack_of frames.old.items) tree) }
 {
     match frames.pop() {
-        Some(Frame::Calls(name, mut args, at)) => {
-            args.push(tree)?;
-            frames.push(Frame::Calls(name, args, at))?;
-            Ok((true, None))
-        }
-        Some(frame) => {
-            frames.push(frame)?;
-            Ok((false, Some(tree)))
-        }
+        Some(Frame::Calls(name, args, at)) => with_argument(frames, name, args, at, tree),
+        Some(frame) => put_back(frames, frame, tree),
         None => Ok((false, Some(tree))),
     }
 }
