@@ -8,6 +8,7 @@ ghost use Rattle.fm_base.specs.declared.port.PortValue.TheVariants.{Reader, Writ
 ghost use Rattle.fm_chan.specs.Bodies.{chans_of};
 ghost use Rattle.fm_chan.specs.Events.{after_op, after_send as sent_by};
 ghost use Rattle.fm_chan.specs.Received.{got_at, waits_at};
+ghost use Rattle.fm_chan.specs.Woken.{Wakes, WakesAll};
 ghost use Rattle.fm_net.specs.Lawful.{ports_from};
 ghost use Rattle.fm_net.specs.Owned.{name_of};
 ghost use Rattle.fm_rules.specs.declared.program.Program as declared;
@@ -62,6 +63,7 @@ fn discard_one(channels: &mut Channels, ports: &mut Ports, value: PortValue)
     requires { IsKept ports.old value }
     ensures channels { chans_of channels.new ≡ all_shed (value ∷ []) (chans_of channels.old) }
     ensures others { StayBut (value ∷ []) ports.old ports.new }
+    ensures waking { WakesAll channels.old channels.new }
 {
     match ports.take(value) {
         Some(port) => channels.discard(port),
@@ -81,6 +83,7 @@ pub(crate) fn discard_all(
     requires once { AreOnce (let_go_ports program.now let_go) }
     ensures channels { chans_of channels.new ≡ all_shed (let_go_ports program.now let_go) (chans_of channels.old) }
     ensures others { StayBut (let_go_ports program.now let_go) ports.old ports.new }
+    ensures waking { WakesAll channels.old channels.new }
 {
     let mut leaving = Leaving::new(alloc, let_go);
     'ports: while let Some(value) = leaving.next(program) {
@@ -100,6 +103,7 @@ fn discard_both(
     requires once { AreOnce (let_go_ports program.now first ++ let_go_ports program.now second) }
     ensures channels { chans_of channels.new ≡ all_shed (let_go_ports program.now first ++ let_go_ports program.now second) (chans_of channels.old) }
     ensures others { StayBut (let_go_ports program.now first ++ let_go_ports program.now second) ports.old ports.new }
+    ensures waking { WakesAll channels.old channels.new }
 {
     discard_all(alloc, program, channels, ports, first);
     discard_all(alloc, program, channels, ports, second);
@@ -116,6 +120,7 @@ fn discard_each(
     requires once { AreOnce (flat_map (let_go_ports program.now) let_go.items) }
     ensures channels { chans_of channels.new ≡ all_shed (flat_map (let_go_ports program.now) let_go.items) (chans_of channels.old) }
     ensures others { StayBut (flat_map (let_go_ports program.now) let_go.items) ports.old ports.new }
+    ensures waking { WakesAll channels.old channels.new }
 {
     let mut rest = VecDeque::from_vec(let_go);
     'children: while let Some(one) = rest.pop_front() {
@@ -144,6 +149,7 @@ fn new_mute_channel(
     ensures channels { OnOk result (chans_of channels.new ≡ insert (chans_of channels.old) name (fresh 0)) }
     ensures came { OnOk result (AreKept ports.new (ports_from name 0)) }
     ensures others { OnOk result (Stay ports.old ports.new) }
+    ensures waking { OnOk result (WakesAll channels.old channels.new) }
 {
     let ends = channels.make(alloc, name)?;
     channels.close(ends.1);
@@ -162,6 +168,7 @@ fn new_channel(
     ensures channels { OnOk result (chans_of channels.new ≡ insert (chans_of channels.old) name (fresh writers)) }
     ensures came { OnOk result (AreKept ports.new (ports_from name writers)) }
     ensures others { OnOk result (Stay ports.old ports.new) }
+    ensures waking { OnOk result (WakesAll channels.old channels.new) }
 {
     if writers == 0 {
         return new_mute_channel(alloc, channels, ports, name);
@@ -208,7 +215,8 @@ fn make(
 ) -> Result<Done, NoMemory>
     requires event { action_of program.now (proc_of program.now process.old) ≡ action.Meets (action.Make places.now writers cost next) }
     requires can { CanPerform program.now path.now (proc_of program.now process.old) (chans_of channels.old) [] ports.old }
-    ensures { IfOk result (λ done. Performs program.now path.now (proc_of program.now process.old) (chans_of channels.old) [] ports.old (proc_of program.now process.new) (map (proc_of program.now) done.children.items) (chans_of channels.new) ports.new done.cost) }
+    ensures performs { IfOk result (λ done. Performs program.now path.now (proc_of program.now process.old) (chans_of channels.old) [] ports.old (proc_of program.now process.new) (map (proc_of program.now) done.children.items) (chans_of channels.new) ports.new done.cost) }
+    ensures waking { OnOk result (WakesAll channels.old channels.new) }
 {
     let name = next_name(alloc, path, process)?;
     let values = values(alloc, &name, writers)?;
@@ -231,7 +239,8 @@ fn put_message(
     channel: &ChanName,
     message: Message,
 ) -> Result<(), NoMemory>
-    ensures { OnOk result (chans_of channels.new ≡ sent_by (Writer channel.now 0) message (chans_of channels.old)) }
+    ensures channels { OnOk result (chans_of channels.new ≡ sent_by (Writer channel.now 0) message (chans_of channels.old)) }
+    ensures waking { Wakes channels.old channels.new }
 {
     match channels.send_to(channel, message) {
         Ok(()) => Ok(()),
@@ -253,7 +262,8 @@ fn send(
 ) -> Result<Done, NoMemory>
     requires event { action_of program.now (proc_of program.now process.old) ≡ action.Meets (action.Send channel writer items next) }
     requires can { CanPerform program.now path.now (proc_of program.now process.old) (chans_of channels.old) [] ports.old }
-    ensures { IfOk result (λ done. Performs program.now path.now (proc_of program.now process.old) (chans_of channels.old) [] ports.old (proc_of program.now process.new) (map (proc_of program.now) done.children.items) (chans_of channels.new) ports.new done.cost) }
+    ensures performs { IfOk result (λ done. Performs program.now path.now (proc_of program.now process.old) (chans_of channels.old) [] ports.old (proc_of program.now process.new) (map (proc_of program.now) done.children.items) (chans_of channels.new) ports.new done.cost) }
+    ensures waking { OnOk result (WakesAll channels.old channels.new) }
 {
     let items = take_message(alloc, program, process, items, next)?;
     let cost = message_cost(items.as_slice())?;
@@ -278,6 +288,7 @@ fn next_message(channels: &mut Channels, ports: &Ports, channel: &ChanName) -> O
     requires { IsKept ports.now (Reader channel.now) }
     ensures message { result ≡ message_in (got_at [] (get (chans_of channels.old) channel.now)) }
     ensures channels { chans_of channels.new ≡ after_op (Reader channel.now) (Pop []) (chans_of channels.old) }
+    ensures waking { Wakes channels.old channels.new }
 {
     match ports.inport(channel) {
         Some(port) => message_in(channels.receive(port, &[])),
@@ -302,6 +313,7 @@ fn store(
     ensures channels { OnOk result (chans_of channels.new ≡ all_shed (after_message (proc_of program.now process.old) next places.now iostat message).drops (chans_of channels.old)) }
     ensures ports { OnOk result (Carries (message_ports message) (after_message (proc_of program.now process.old) next places.now iostat message).drops ports.old ports.new) }
     ensures cost { IfOk result (λ cost. cost ≡ 1 + words_of message) }
+    ensures waking { OnOk result (WakesAll channels.old channels.new) }
 {
     let items = unpacked(alloc, ports, message)?;
     let cost = message_cost(items.as_slice())?;
@@ -326,7 +338,8 @@ fn receive(
 ) -> Result<Done, NoMemory>
     requires event { action_of program.now (proc_of program.now process.old) ≡ action.Meets (action.Receive channel line.0 places.now iostat at_end next) }
     requires can { CanPerform program.now path.now (proc_of program.now process.old) (chans_of channels.old) [] ports.old }
-    ensures { IfOk result (λ done. Performs program.now path.now (proc_of program.now process.old) (chans_of channels.old) [] ports.old (proc_of program.now process.new) (map (proc_of program.now) done.children.items) (chans_of channels.new) ports.new done.cost) }
+    ensures performs { IfOk result (λ done. Performs program.now path.now (proc_of program.now process.old) (chans_of channels.old) [] ports.old (proc_of program.now process.new) (map (proc_of program.now) done.children.items) (chans_of channels.new) ports.new done.cost) }
+    ensures waking { OnOk result (WakesAll channels.old channels.new) }
 {
     match next_message(channels, ports, &channel) {
         Some(message) => {
@@ -396,6 +409,7 @@ fn finish(
     ensures process { OnOk result (proc_of program.now process.new ≡ (ended program.now (proc_of program.now process.old)).self) }
     ensures channels { OnOk result (chans_of channels.new ≡ all_shed (ended program.now (proc_of program.now process.old)).drops (chans_of channels.old)) }
     ensures others { OnOk result (StayBut (ended program.now (proc_of program.now process.old)).drops ports.old ports.new) }
+    ensures waking { OnOk result (WakesAll channels.old channels.new) }
 {
     let gone = end(alloc, program, process)?;
     discard_both(alloc, program, channels, ports, gone.0, gone.1);
@@ -415,7 +429,8 @@ pub(crate) fn perform(
     requires event { action_of program.now (proc_of program.now process.old) ≡ action.Meets (event_by (proc_of program.now process.old).phase event) }
     requires alone { joined_by event ≡ None }
     requires can { CanPerform program.now path.now (proc_of program.now process.old) (chans_of channels.old) [] ports.old }
-    ensures { IfOk result (λ done. Performs program.now path.now (proc_of program.now process.old) (chans_of channels.old) [] ports.old (proc_of program.now process.new) (map (proc_of program.now) done.children.items) (chans_of channels.new) ports.new done.cost) }
+    ensures performs { IfOk result (λ done. Performs program.now path.now (proc_of program.now process.old) (chans_of channels.old) [] ports.old (proc_of program.now process.new) (map (proc_of program.now) done.children.items) (chans_of channels.new) ports.new done.cost) }
+    ensures waking { OnOk result (WakesAll channels.old channels.new) }
 {
     match event {
         Event::Fail(line, fault) => {
@@ -495,8 +510,9 @@ pub(crate) fn join_all(
     next: u32,
 ) -> Result<u64, NoMemory>
     requires { CanJoin program.now (proc_of program.now process.old) next left.items ports.old }
-    ensures { IfOk result (λ cost. (kids : List Proc) → map frames_in kids ≡ map (left_frames program.now) left.items →
+    ensures joins { IfOk result (λ cost. (kids : List Proc) → map frames_in kids ≡ map (left_frames program.now) left.items →
         Joins (proc_of program.now process.old) next kids ports.old (chans_of channels.old) (proc_of program.now process.new) (chans_of channels.new) ports.new cost) }
+    ensures waking { OnOk result (WakesAll channels.old channels.new) }
 {
     let joined = join(alloc, program, process, left, next)?;
     discard_each(alloc, program, channels, ports, joined.0);

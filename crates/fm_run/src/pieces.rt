@@ -4,6 +4,7 @@ ghost use Rattle.std.specs.Prelude.{◌≡◌, ◌≤◌, ◌+◌, true, is_some
 ghost use Rattle.std.specs.FinMap.{get};
 ghost use Rattle.fm_base.specs.Channels.{all_shed};
 ghost use Rattle.fm_chan.specs.Bodies.{chans_of};
+ghost use Rattle.fm_chan.specs.Woken.{WakesAll};
 ghost use Rattle.fm_sched.specs.Schedule.{IsReached};
 ghost use Rattle.fm_net.specs.Owned.{IsOwned};
 ghost use Rattle.fm_mean.specs.Actions as action;
@@ -101,6 +102,7 @@ impl Net {
         requires next { AreLookedAtBut program.now path.now self.old.processes }
         ensures sound { OnOk result (IsSound program.now self.new) }
         ensures steps { IfOk result (λ r. Steps program.now (state_of program.now self.old) path.now steps cost r (state_of program.now self.new)) }
+        ensures waking { OnOk result (WakesAll self.old.channels self.new.channels) }
     {
         let stepped = step(alloc, self, program, path, event)?;
         self.processes.look(alloc, program, path)?;
@@ -124,6 +126,7 @@ impl Net {
         requires next { AreLookedAtBut program.now path.now self.old.processes }
         ensures sound { OnOk result (IsSound program.now self.new) }
         ensures steps { IfOk result (λ r. StepsOrWaits program.now (state_of program.now self.old) path.now steps cost r (state_of program.now self.new)) }
+        ensures waking { OnOk result (WakesAll self.old.channels self.new.channels) }
     {
         if self.is_served(alloc, program, path, &event)? {
             return self.event_piece(alloc, program, path, steps, cost, event);
@@ -150,6 +153,7 @@ impl Net {
         ensures ports { OnOk result (StayBut (let_go_ports program.now let_go) self.old.ports self.new.ports) }
         ensures next { OnOk result (AreLookedAtBut program.now path.now self.old.processes → AreLookedAt program.now self.new.processes) }
         ensures piece { IfOk result (λ r. r ≡ record { steps = steps + 1; cost = cost + paid; block = 0; started = 0 }) }
+        ensures waking { OnOk result (WakesAll self.old.channels self.new.channels) }
     {
         discard_all(alloc, program, &mut self.channels, &mut self.ports, let_go);
         self.processes.look(alloc, program, path)?;
@@ -179,6 +183,7 @@ impl Net {
         requires next { AreLookedAtBut program.now path.now self.old.processes }
         ensures sound { OnOk result (IsSound program.now self.new) }
         ensures piece { IfOk result (λ r. IsPiece program.now slice (state_of program.now self.old) path.now r (state_of program.now self.new)) }
+        ensures waking { OnOk result (WakesAll self.old.channels self.new.channels) }
     {
         let Advanced { stop, steps, cost } = self.processes.advance(alloc, program, path, slice)?;
         match stop {
@@ -216,6 +221,7 @@ pub fn make_piece(
     requires can { is_some (step program.now (state_of program.now net.old) path.now) ≡ true }
     ensures sound { OnOk result (IsSound program.now net.new) }
     ensures piece { IfOk result (λ r. IsPiece program.now slice (state_of program.now net.old) path.now r (state_of program.now net.new)) }
+    ensures waking { OnOk result (WakesAll net.old.channels net.new.channels) }
 {
     match net.processes.take_next(path) {
         Next::Meets(event) => net.event_piece(alloc, program, path, 0, 0, event),

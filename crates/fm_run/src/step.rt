@@ -3,6 +3,7 @@
 ghost use Rattle.std.specs.Prelude.{◌≡◌, ◌++◌, true, is_some, List, [], map, Some, None, option_map, option_to_list, IfOk, OnOk};
 ghost use Rattle.std.specs.FinMap.{get};
 ghost use Rattle.fm_chan.specs.Bodies.{chans_of};
+ghost use Rattle.fm_chan.specs.Woken.{WakesAll};
 ghost use Rattle.fm_maps.specs.Changes.{alter, alters};
 ghost use Rattle.fm_net.specs.Machine.{Place, start_changes, child_changes, gathered};
 ghost use Rattle.fm_net.specs.Owned.{IsOwned};
@@ -153,6 +154,7 @@ impl Net {
         ensures next { OnOk result (AreLookedAtBut program.now path.now self.old.processes → AreLookedAtBut program.now path.now self.new.processes) }
         ensures performs { IfOk result (λ done. (x : Proc) → get (procs_of program.now self.old.processes) path.now ≡ Some x →
             PerformsAt program.now path.now x (chans_of self.old.channels) [] self.old.ports (procs_of program.now self.old.processes) (procs_of program.now self.new.processes) (map (proc_of program.now) done.children.items) (chans_of self.new.channels) self.new.ports done.cost) }
+        ensures waking { OnOk result (WakesAll self.old.channels self.new.channels) }
     {
         match self.processes.by_path.get_mut(path) {
             Some(slot) => perform(
@@ -182,6 +184,7 @@ impl Net {
         ensures next { OnOk result (AreLookedAtBut program.now path.now self.old.processes → AreLookedAtBut program.now path.now self.new.processes) }
         ensures joins { IfOk result (λ cost. (x : Proc) (kids : List Proc) → get (procs_of program.now self.old.processes) path.now ≡ Some x → map frames_in kids ≡ map (left_frames program.now) left.items →
             JoinsAt path.now x next kids self.old.ports (chans_of self.old.channels) (procs_of program.now self.old.processes) (procs_of program.now self.new.processes) (chans_of self.new.channels) self.new.ports cost) }
+        ensures waking { OnOk result (WakesAll self.old.channels self.new.channels) }
     {
         match self.processes.by_path.get_mut(path) {
             Some(slot) => join_all(
@@ -215,6 +218,7 @@ fn step_join(
     ensures starts { IfOk result (λ r. starts_at (language program.now) (state_of program.now net.old) path.now ≡ child_places path.now r.block 1 r.started) }
     ensures held { OnOk result (HeldAreKept program.now net.new.ports (procs_of program.now net.new.processes)) }
     ensures next { OnOk result (AreLookedAtBut program.now path.now net.old.processes → AreLookedAtBut program.now path.now net.new.processes) }
+    ensures waking { OnOk result (WakesAll net.old.channels net.new.channels) }
 {
     let count = net.kid_count(path);
     let left = net.processes.release_all(alloc, path, block, count)?;
@@ -243,6 +247,7 @@ fn step_alone(
     ensures starts { IfOk result (λ r. starts_at (language program.now) (state_of program.now net.old) path.now ≡ child_places path.now r.block 1 r.started) }
     ensures held { OnOk result (HeldAreKept program.now net.new.ports (procs_of program.now net.new.processes)) }
     ensures next { OnOk result (AreLookedAtBut program.now path.now net.old.processes → AreLookedAtBut program.now path.now net.new.processes) }
+    ensures waking { OnOk result (WakesAll net.old.channels net.new.channels) }
 {
     let block = net.processes.next_block(path);
     let Done { children, cost } = net.perform(alloc, program, path, event)?;
@@ -274,6 +279,7 @@ pub(crate) fn step(
     ensures starts { IfOk result (λ r. starts_at (language program.now) (state_of program.now net.old) path.now ≡ child_places path.now r.block 1 r.started) }
     ensures held { OnOk result (HeldAreKept program.now net.new.ports (procs_of program.now net.new.processes)) }
     ensures next { OnOk result (AreLookedAtBut program.now path.now net.old.processes → AreLookedAtBut program.now path.now net.new.processes) }
+    ensures waking { OnOk result (WakesAll net.old.channels net.new.channels) }
 {
     match joined_block(&event) {
         Some((block, _, next)) => step_join(alloc, net, program, path, block, next),

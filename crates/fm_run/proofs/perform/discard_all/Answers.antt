@@ -8,6 +8,7 @@ use Rattle.fm_net.proofs.Counts.{count-cons, count-nil}
 use Rattle.fm_frame.specs.Leaving.{left_ports}
 use Rattle.fm_run.specs.Held.{AreKept, AreOnce}
 use Rattle.fm_run.proofs.Loads.{first_kept, nothing_left, rest_kept, rest_once}
+use Rattle.fm_chan.proofs.Waking.{wakes_all_then, wakes_nobody}
 use Rattle.fm_run.proofs.perform.discard_all.Goals as goal
 
 pub ports-init : goal.ports-init
@@ -19,6 +20,7 @@ ports-init c =
       channels = ap (λ zs. all_shed zs (chans_of c.args.channels.now)) all;
       others = λ z off k. k;
       among = λ z. omega (arith, ap (count z) all);
+      waking = wakes_nobody c.args.channels.now;
     }
 
 pub discard_one-requires : goal.discard_one-requires
@@ -42,6 +44,7 @@ ports-preserved c =
           ∙ ap (λ zs. all_shed zs (chans_of c.ports.channels)) (sym is) ∙ c.ports.invariant.channels;
       others = λ y off k. c.discard_one.ensures.others y (omega (arith, off, c.ports.invariant.among y, ap (count y) is, count-cons y z left, count-cons y z [], count-nil y)) (c.ports.invariant.others y off k);
       among = λ y. omega (arith, c.ports.invariant.among y, ap (count y) is, count-cons y z left);
+      waking = wakes_all_then c.args.channels.now c.ports.channels c.discard_one.new.channels c.ports.invariant.waking c.discard_one.ensures.waking;
     }
 
 pub returns-clause-channels : goal.returns-clause-channels

@@ -6,6 +6,7 @@ use Rattle.fm_net.specs.Owned.{count}
 use Rattle.fm_frame.specs.LetGo.{let_go_ports}
 use Rattle.fm_frame.specs.Leaving.{left_ports}
 use Rattle.fm_run.specs.Held.{AreKept, AreOnce, StayBut}
+use Rattle.fm_chan.specs.Woken.{WakesAll}
 use Rattle.fm_run.proofs.perform.discard_all.Given as goal
 
 abbrev pub invariant-ports : goal.invariant-ports
@@ -15,6 +16,7 @@ invariant-ports l = record {
   channels : all_shed (left_ports l.program l.leaving) (chans_of l.channels) ≡ all_shed (let_go_ports l.program l.fn.let_go) (chans_of l.fn.channels);
   others : StayBut (let_go_ports l.program l.fn.let_go) l.fn.ports l.ports;
   among : (z : PortValue) → count z (left_ports l.program l.leaving) ≤ count z (let_go_ports l.program l.fn.let_go);
+  waking : WakesAll l.fn.channels l.channels;
 }
 
 abbrev pub decreases-ports : goal.decreases-ports

@@ -4,6 +4,7 @@ use Rattle.fm_chan.specs.Bodies.{chans_of}
 use Rattle.fm_discards.proofs.Order.{all_shed-append}
 use Rattle.fm_frame.specs.LetGo.{let_go_ports}
 use Rattle.fm_run.proofs.Loads.{part_kept, part_once, rest_kept, rest_once, stay_more}
+use Rattle.fm_chan.proofs.Waking.{wakes_all_then}
 use Rattle.fm_run.proofs.perform.discard_both.Goals as goal
 
 pub discard_all-requires-clause-kept : goal.discard_all-requires-clause-kept
@@ -26,3 +27,6 @@ returns-clause-channels c =
 pub returns-clause-others : goal.returns-clause-others
 returns-clause-others c =
     stay_more (let_go_ports c.args.program.now c.args.first) (let_go_ports c.args.program.now c.args.second) c.args.ports.now c.discard_all.new.ports c.discard_all-2.new.ports c.discard_all.ensures.others c.discard_all-2.ensures.others
+
+pub returns-clause-waking : goal.returns-clause-waking
+returns-clause-waking c = wakes_all_then c.args.channels.now c.discard_all.new.channels c.discard_all-2.new.channels c.discard_all.ensures.waking c.discard_all-2.ensures.waking

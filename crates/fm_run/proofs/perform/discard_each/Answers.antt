@@ -9,6 +9,7 @@ use Rattle.fm_net.proofs.Counts.{count-append}
 use Rattle.fm_frame.specs.LetGo.{let_go_ports}
 use Rattle.fm_run.specs.Held.{AreKept, AreOnce}
 use Rattle.fm_run.proofs.Loads.{part_kept, part_once, rest_kept, rest_once}
+use Rattle.fm_chan.proofs.Waking.{wakes_all_then, wakes_nobody}
 use Rattle.fm_run.proofs.perform.discard_each.Goals as goal
 
 pub children-init : goal.children-init
@@ -20,6 +21,7 @@ children-init c =
       channels = ap (λ zs. all_shed zs (chans_of c.args.channels.now)) same;
       others = λ z off k. k;
       among = λ z. omega (arith, ap (count z) same);
+      waking = wakes_nobody c.args.channels.now;
     }
 
 pub discard_all-requires-clause-kept : goal.discard_all-requires-clause-kept
@@ -50,4 +52,5 @@ children-preserved c =
           ∙ ap (λ zs. all_shed zs (chans_of c.children.channels)) (sym is) ∙ c.children.invariant.channels;
       others = λ y off k. c.discard_all.ensures.others y (omega (arith, off, c.children.invariant.among y, ap (count y) is, count-append y first left)) (c.children.invariant.others y off k);
       among = λ y. omega (arith, c.children.invariant.among y, ap (count y) is, count-append y first left);
+      waking = wakes_all_then c.args.channels.now c.children.channels c.discard_all.new.channels c.children.invariant.waking c.discard_all.ensures.waking;
     }

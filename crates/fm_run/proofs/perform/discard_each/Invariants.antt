@@ -6,6 +6,7 @@ use Rattle.fm_chan.specs.Bodies.{chans_of}
 use Rattle.fm_net.specs.Owned.{count}
 use Rattle.fm_frame.specs.LetGo.{let_go_ports}
 use Rattle.fm_run.specs.Held.{AreKept, AreOnce, StayBut}
+use Rattle.fm_chan.specs.Woken.{WakesAll}
 use Rattle.fm_run.proofs.perform.discard_each.Given as goal
 
 abbrev pub invariant-children : goal.invariant-children
@@ -15,6 +16,7 @@ invariant-children l = record {
   channels : all_shed (flat_map (let_go_ports l.program) l.rest.items) (chans_of l.channels) ≡ all_shed (flat_map (let_go_ports l.program) l.fn.let_go.items) (chans_of l.fn.channels);
   others : StayBut (flat_map (let_go_ports l.program) l.fn.let_go.items) l.fn.ports l.ports;
   among : (z : PortValue) → count z (flat_map (let_go_ports l.program) l.rest.items) ≤ count z (flat_map (let_go_ports l.program) l.fn.let_go.items);
+  waking : WakesAll l.fn.channels l.channels;
 }
 
 abbrev pub decreases-children : goal.decreases-children

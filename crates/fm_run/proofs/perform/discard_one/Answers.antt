@@ -2,6 +2,7 @@ use Rattle.std.proofs.Common.{◌≡◌, ◌∷◌, [], ap, sym, ◌∙◌}
 use Rattle.fm_base.specs.Channels.{all_shed}
 use Rattle.fm_chan.specs.Bodies.{chans_of}
 use Rattle.fm_run.proofs.Loads.{stay_without}
+use Rattle.fm_chan.proofs.Waking.{wakes_all}
 use Rattle.fm_run.proofs.perform.discard_one.Goals as goal
 
 pub unreachable-requires : goal.unreachable-requires
@@ -14,3 +15,6 @@ returns-clause-channels c =
 
 pub returns-clause-others : goal.returns-clause-others
 returns-clause-others c = stay_without c.args.value c.args.ports.now c.take.new.self c.take.ensures.others
+
+pub returns-clause-waking : goal.returns-clause-waking
+returns-clause-waking c = wakes_all c.args.channels.now c.discard.new.self c.discard.ensures.waking

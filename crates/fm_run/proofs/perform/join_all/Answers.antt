@@ -13,8 +13,8 @@ discard_each-requires-clause-kept c =
 pub discard_each-requires-clause-once : goal.discard_each-requires-clause-once
 discard_each-requires-clause-once c = subst AreOnce (sym (c.in_ok-joined.ensures.drops c.requires.kids c.requires.frames)) c.requires.drops.once
 
-pub returns : goal.returns
-returns c = λ kids frames.
+pub returns-clause-joins : goal.returns-clause-joins
+returns-clause-joins c = λ kids frames.
     record {
       self_is = c.in_ok-joined.ensures.process kids frames;
       chans_are = c.discard_each.ensures.channels ∙ ap (λ zs. all_shed zs (chans_of c.args.channels.now)) (c.in_ok-joined.ensures.drops kids frames);

@@ -8,6 +8,7 @@ use Rattle.fm_frame.specs.Frames.{proc_of}
 use Rattle.fm_onward.specs.Goes.{after_make}
 use Rattle.fm_run.specs.Held.{AreKept, AreOnce, StayBut}
 use Rattle.fm_run.proofs.Performing.{comes_and_goes, dropped_kept, make_drops, makes, nobody}
+use Rattle.fm_chan.proofs.Waking.{wakes_all_then}
 use Rattle.fm_run.proofs.perform.make.Goals as goal
 
 pub new_channel-requires : goal.new_channel-requires
@@ -45,8 +46,8 @@ discard_all-requires-clause-once c =
     let came = subst (λ d. AreKept mid (ports_from d n)) named c.in_ok-new_channel.ensures.came in
     subst AreOnce (sym out.1) may.once
 
-pub returns : goal.returns
-returns c =
+pub returns-clause-performs : goal.returns-clause-performs
+returns-clause-performs c =
     let P = c.args.program.now in
     let p = c.args.path.now in
     let x = proc_of P c.args.process.now in
@@ -66,3 +67,6 @@ returns c =
     (chans_of c.discard_all.new.channels) (c.discard_all.ensures.channels ∙ ap (λ zs. all_shed zs (chans_of c.new_channel.new.channels)) out.1 ∙ ap (all_shed drops) (c.in_ok-new_channel.ensures.channels ∙ ap (λ d. insert m d (fresh n)) named))
     (comes_and_goes (ports_from name n) drops ports mid later came c.in_ok-new_channel.ensures.others (subst (λ zs. StayBut zs mid later) out.1 c.discard_all.ensures.others)))
     c.alone.result.children.items c.alone.ensures.children c.alone.result.cost c.alone.ensures.cost
+
+pub returns-clause-waking : goal.returns-clause-waking
+returns-clause-waking c = wakes_all_then c.args.channels.now c.new_channel.new.channels c.discard_all.new.channels c.in_ok-new_channel.ensures.waking c.discard_all.ensures.waking

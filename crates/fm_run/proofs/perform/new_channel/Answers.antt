@@ -9,6 +9,7 @@ use Rattle.fm_net.specs.Lawful.{ports_from}
 use Rattle.fm_run.specs.Held.{AreKept}
 use Rattle.fm_run.proofs.Loads.{kept_more, kept_one, kept_stay, stay_on, stay_with}
 use Rattle.fm_run.proofs.Results.{on_ok_two}
+use Rattle.fm_chan.proofs.Waking.{wakes_all}
 use Rattle.fm_run.proofs.perform.new_channel.Goals as goal
 
 pub returns-then-writers-eq0-clause-channels : goal.returns-then-writers-eq0-clause-channels
@@ -34,3 +35,6 @@ returns-clause-came c =
 
 pub returns-clause-others : goal.returns-clause-others
 returns-clause-others c = IfOk-weaker c.put_each.result _ _ (λ u others. stay_on c.args.ports.now c.put.new.self c.put_each.new.ports (stay_with c.in_ok-ends.ends.0 c.args.ports.now c.put.new.self c.in_ok-put.ensures.here c.in_ok-put.ensures.others) others) c.put_each.ensures.others
+
+pub returns-clause-waking : goal.returns-clause-waking
+returns-clause-waking c = IfOk-weaker c.put_each.result _ _ (λ u came. wakes_all c.args.channels.now c.merge.new.self c.in_ok-ends.ensures.waking) c.put_each.ensures.came

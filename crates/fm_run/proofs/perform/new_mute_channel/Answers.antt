@@ -8,6 +8,7 @@ use Rattle.fm_run.specs.Held.{AreKept}
 use Rattle.fm_run.proofs.Channels.{no_writer}
 use Rattle.fm_run.proofs.Loads.{kept_one, stay_with}
 use Rattle.fm_run.proofs.Results.{on_ok_two}
+use Rattle.fm_chan.proofs.Waking.{wakes_all, wakes_all_then}
 use Rattle.fm_run.proofs.perform.new_mute_channel.Goals as goal
 
 pub close-requires : goal.close-requires
@@ -22,3 +23,7 @@ returns-clause-came c = IfOk-weaker c.put.result _ _ (λ u here. subst (λ z. Ar
 
 pub returns-clause-others : goal.returns-clause-others
 returns-clause-others c = on_ok_two c.put.result c.put.ensures.here c.put.ensures.others (λ here others. stay_with c.in_ok-ends.ends.0 c.args.ports.now c.put.new.self here others)
+
+pub returns-clause-waking : goal.returns-clause-waking
+returns-clause-waking c = IfOk-weaker c.put.result _ _ (λ u here.
+    wakes_all_then c.args.channels.now c.make.new.self c.close.new.self (wakes_all c.args.channels.now c.make.new.self c.in_ok-ends.ensures.waking) (wakes_all c.make.new.self c.close.new.self c.close.ensures.waking)) c.put.ensures.here

@@ -7,10 +7,12 @@ use Rattle.fm_plain.specs.Events.{event_by}
 use Rattle.fm_run.specs.Goes.{joined_by}
 use Rattle.fm_run.proofs.Results.{if_ok_three}
 use Rattle.fm_run.proofs.Performing.{begins, dropped_there, end_drops, ends, fails, nobody}
+use Rattle.fm_chan.proofs.Waking.{wakes_nobody}
+use Rattle.std.proofs.lemmas.Result.{IfOk-weaker}
 use Rattle.fm_run.proofs.perform.perform.Goals as goal
 
-pub returns-in-Fail : goal.returns-in-Fail
-returns-in-Fail c =
+pub returns-in-Fail-clause-performs : goal.returns-in-Fail-clause-performs
+returns-in-Fail-clause-performs c =
     let P = c.args.program.now in
     let p = c.args.path.now in
     let x = proc_of P c.args.process.now in
@@ -32,8 +34,8 @@ receive-requires-clause-event c = c.requires.event ∙ ap (λ e. Meets (event_by
 pub probe-requires-clause-event : goal.probe-requires-clause-event
 probe-requires-clause-event c = c.requires.event ∙ ap (λ e. Meets (event_by (proc_of c.args.program.now c.args.process.now).phase e)) c.in-Probe.is
 
-pub returns-in-Begin : goal.returns-in-Begin
-returns-in-Begin c =
+pub returns-in-Begin-clause-performs : goal.returns-in-Begin-clause-performs
+returns-in-Begin-clause-performs c =
     let P = c.args.program.now in
     let p = c.args.path.now in
     let x = proc_of P c.args.process.now in
@@ -66,8 +68,8 @@ finish-requires-clause-once c =
     let does = c.requires.event ∙ ap (λ e. Meets (event_by x.phase e)) c.in-End.is in
     (end_drops P p x m [] ports ports does c.requires.can).once
 
-pub returns-in_ok-finish-in-End : goal.returns-in_ok-finish-in-End
-returns-in_ok-finish-in-End c =
+pub returns-in_ok-finish-in-End-clause-performs : goal.returns-in_ok-finish-in-End-clause-performs
+returns-in_ok-finish-in-End-clause-performs c =
     let P = c.args.program.now in
     let p = c.args.path.now in
     let x = proc_of P c.args.process.now in
@@ -77,3 +79,12 @@ returns-in_ok-finish-in-End c =
     nobody P p x m [] ports (proc_of P c.finish.new.process) (chans_of c.finish.new.channels) c.finish.new.ports 1
     (ends P p x m [] ports c.finish.new.ports does c.requires.can (proc_of P c.finish.new.process) c.in_ok-finish-in-End.ensures.process (chans_of c.finish.new.channels) c.in_ok-finish-in-End.ensures.channels c.in_ok-finish-in-End.ensures.others)
     c.alone-in-End.result.children.items c.alone-in-End.ensures.children c.alone-in-End.result.cost c.alone-in-End.ensures.cost
+
+pub returns-in-Fail-clause-waking : goal.returns-in-Fail-clause-waking
+returns-in-Fail-clause-waking c = wakes_nobody c.args.channels.now
+
+pub returns-in-Probe-clause-waking : goal.returns-in-Probe-clause-waking
+returns-in-Probe-clause-waking c = wakes_nobody c.args.channels.now
+
+pub returns-in-Begin-clause-waking : goal.returns-in-Begin-clause-waking
+returns-in-Begin-clause-waking c = IfOk-weaker c.start.result _ _ (λ done paid. wakes_nobody c.args.channels.now) c.start.ensures.cost

@@ -4,6 +4,7 @@ use Rattle.fm_chan.specs.Bodies.{chans_of}
 use Rattle.fm_run.specs.Held.{HeldAreKept}
 use Rattle.fm_run.specs.Readings.{state_of}
 use Rattle.fm_run.proofs.Nexts.{next_waits}
+use Rattle.fm_chan.proofs.Waking.{wakes_nobody}
 use Rattle.fm_run.proofs.processes.Net.event_or_wait.Goals as goal
 
 pub is_served-requires-clause-event : goal.is_served-requires-clause-event
@@ -38,3 +39,6 @@ returns-clause-steps c =
       stays = ap (λ m. record { procs = m; chans = chans_of c.args.self.now.channels }) (c.keep_next.ensures.processes P);
       piece = c.local_piece.ensures;
     })
+
+pub returns-clause-waking : goal.returns-clause-waking
+returns-clause-waking c = wakes_nobody c.args.self.now.channels

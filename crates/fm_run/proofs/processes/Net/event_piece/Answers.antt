@@ -20,3 +20,6 @@ returns-clause-steps c = IfOk-weaker c.with_step.result _ _ (λ r is. record {
   steps_are = ap (λ (q : Piece). q.steps) is;
   cost_is = ap (λ (q : Piece). q.cost) is;
 }) c.with_step.ensures
+
+pub returns-clause-waking : goal.returns-clause-waking
+returns-clause-waking c = IfOk-weaker c.with_step.result _ _ (λ r is. c.in_ok-stepped.ensures.waking) c.with_step.ensures

@@ -22,7 +22,7 @@ returns-clause-joins c =
     let is = there P c.args.self.now.processes c.args.path.now (Some c.in-Some.slot.now) c.in-Some.ensures.value in
     IfOk-weaker c.join_all.result _ _ (λ cost told x kids at frames.
     joins_at P c.args.path.now x (proc_in P c.in-Some.slot.now) (sym is ∙ at) c.args.next kids c.args.self.now.ports (chans_of c.args.self.now.channels) c.args.self.now.processes (record { by_path = c.get_mut.follows.lender y }) y
-    (c.get_mut.follows.holds y (some_is _ c.in-Some.slot.now c.in-Some.ensures.value)) _ _ _ (told kids frames)) c.join_all.ensures
+    (c.get_mut.follows.holds y (some_is _ c.in-Some.slot.now c.in-Some.ensures.value)) _ _ _ (told kids frames)) c.join_all.ensures.joins
 
 pub returns-clause-next : goal.returns-clause-next
 returns-clause-next c =
@@ -30,4 +30,4 @@ returns-clause-next c =
     let y = record c.in-Some.slot.now { process = c.join_all.new.process } in
     IfOk-weaker c.join_all.result _ _ (λ a told but.
     looked_put P c.args.path.now c.args.self.now.processes (record { by_path = c.get_mut.follows.lender y }) c.args.path.now y
-    (c.get_mut.follows.holds y (some_is _ c.in-Some.slot.now c.in-Some.ensures.value)) (inl refl) but) c.join_all.ensures
+    (c.get_mut.follows.holds y (some_is _ c.in-Some.slot.now c.in-Some.ensures.value)) (inl refl) but) c.join_all.ensures.joins

@@ -20,6 +20,7 @@ use Rattle.fm_run.proofs.Letting.{event_shared, own_drops, own_held, own_shared,
 use Rattle.fm_run.proofs.Parts.{behind, event_told, held_behind, owned_behind, same_behind, there_behind}
 use Rattle.fm_run.proofs.Performing.{dropped_there}
 use Rattle.fm_run.proofs.Slices.{event_or_wait_piece, resting_piece, step_piece, whole_piece}
+use Rattle.fm_chan.proofs.Waking.{wakes_nobody}
 use Rattle.fm_run.proofs.processes.Net.local_piece.Goals as goal
 
 pub returns-in_ok-look-in-More-clause-piece : goal.returns-in_ok-look-in-More-clause-piece
@@ -209,3 +210,9 @@ returns-in-LetsGo-clause-piece c =
     (step_piece P c.args.slice s p who.0 who.1 a m at stops.0 (own_shared P stood p at.advanced.stopped here owned c.args.self.now.ports held at.after _ _ stops.1 stops.2) (state_of P c.discard_piece.new.self) c.in-LetsGo.paid 0 0
     (own_step P stood p at.advanced.stopped here owned c.args.self.now.ports held at.after _ _ stops.1 ∙ λ i. Some (record { procs = (again ∙ sym same) i; chans = sym chans i }, c.in-LetsGo.paid))
     (own_starts P stood p at.advanced.stopped here owned c.args.self.now.ports held at.after _ _ stops.1)))
+
+pub returns-in_ok-look-in-More-clause-waking : goal.returns-in_ok-look-in-More-clause-waking
+returns-in_ok-look-in-More-clause-waking c = wakes_nobody c.args.self.now.channels
+
+pub returns-in_ok-look-in-Rest-clause-waking : goal.returns-in_ok-look-in-Rest-clause-waking
+returns-in_ok-look-in-Rest-clause-waking c = wakes_nobody c.args.self.now.channels

@@ -25,7 +25,7 @@ returns-clause-performs c =
     let is = there P c.args.self.now.processes c.args.path.now (Some c.in-Some.slot.now) c.in-Some.ensures.value in
     IfOk-weaker c.perform.result _ _ (λ done told x at.
     performs_at P c.args.path.now x (proc_in P c.in-Some.slot.now) (sym is ∙ at) (chans_of c.args.self.now.channels) [] c.args.self.now.ports c.args.self.now.processes (record { by_path = c.get_mut.follows.lender y }) y
-    (c.get_mut.follows.holds y (some_is _ c.in-Some.slot.now c.in-Some.ensures.value)) _ _ _ _ told) c.perform.ensures
+    (c.get_mut.follows.holds y (some_is _ c.in-Some.slot.now c.in-Some.ensures.value)) _ _ _ _ told) c.perform.ensures.performs
 
 pub returns-clause-next : goal.returns-clause-next
 returns-clause-next c =
@@ -33,4 +33,4 @@ returns-clause-next c =
     let y = record c.in-Some.slot.now { process = c.perform.new.process } in
     IfOk-weaker c.perform.result _ _ (λ a told but.
     looked_put P c.args.path.now c.args.self.now.processes (record { by_path = c.get_mut.follows.lender y }) c.args.path.now y
-    (c.get_mut.follows.holds y (some_is _ c.in-Some.slot.now c.in-Some.ensures.value)) (inl refl) but) c.perform.ensures
+    (c.get_mut.follows.holds y (some_is _ c.in-Some.slot.now c.in-Some.ensures.value)) (inl refl) but) c.perform.ensures.performs
