@@ -17,7 +17,7 @@ use Rattle.fm_run.specs.declared.processes.Processes.{Processes}
 use Rattle.fm_run.specs.Held.{AreLookedAt, AreLookedAtBut, HeldAreKept}
 use Rattle.fm_run.proofs.Playing.{first_owned}
 
-none_open : (program : Program) (z : PortValue) → opened (first program).chans z ≡ 0
+pub none_open : (program : Program) (z : PortValue) → opened (first program).chans z ≡ 0
 unfolding open_at
 none_open program z = ap (open_at z) (get-empty {X = Chan} channel_cmp (channel_of z))
 

@@ -24,3 +24,10 @@ pub mod Owns
 pub mod Holding
 pub mod Firsts
 pub mod Following
+pub mod Others
+pub mod Noting
+pub mod Queueing
+pub mod Becomes
+pub mod Waited
+pub mod Serving
+pub mod Taking

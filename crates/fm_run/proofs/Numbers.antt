@@ -1,6 +1,5 @@
 -- Numbers of processes in a list.
-use Rattle.std.proofs.Common.{◌≡◌, ◌⊎◌, ◌≢◌, inl, inr, ℕ, zero, suc, ◌+◌, ◌<◌, ◌≤◌, Bool, true, false, cond, not, ◌==◌, ◌&&◌, ◌||◌, Option, Some, None, List, [], ◌∷◌, ◌++◌, length, get_or, filter, refl, sym, ap, ◌∙◌, subst, arith, eqb-true, eq-eqb, append_assoc, append-nil, take}
-use Rattle.std.proofs.lemmas.List.{take_more}
+use Rattle.std.proofs.Common.{◌≡◌, ◌⊎◌, ◌≢◌, inl, inr, ℕ, zero, suc, ◌+◌, ◌<◌, ◌≤◌, Bool, true, false, cond, not, ◌==◌, ◌&&◌, ◌||◌, Option, Some, None, List, [], ◌∷◌, ◌++◌, length, get_or, filter, refl, sym, ap, ◌∙◌, subst, arith, eqb-true, eq-eqb}
 use Rattle.std.specs.Prelude.{slice_get}
 use Rattle.std.specs.List.{range_with_len}
 use Rattle.std.proofs.lemmas.Bool.{ne_eqb}
@@ -14,7 +13,7 @@ among_left n [] ys h = absurd h
 among_left n (x ∷ xs) ys (inl e) = inl e
 among_left n (x ∷ xs) ys (inr h) = inr (among_left n xs ys h)
 
-among_right : (n : ℕ) (xs ys : List ℕ) → Among n ys → Among n (xs ++ ys)
+pub among_right : (n : ℕ) (xs ys : List ℕ) → Among n ys → Among n (xs ++ ys)
 among_right n [] ys h = h
 among_right n (x ∷ xs) ys h = inr (among_right n xs ys h)
 
@@ -66,20 +65,9 @@ filter_among p (x ∷ xs) n h = go (λ h'. filter_among p xs n h') (p x) refl h
 pub filter_more : (p : ℕ → Bool) (xs : List ℕ) (n : ℕ) → filter p (xs ++ n ∷ []) ≡ filter p xs ++ cond (p n) (n ∷ []) []
 filter_more p xs n = filter-append p xs (n ∷ [])
 
--- one of the list more, which is the own one or another
-pub others_more : (own : ℕ) (xs : List ℕ) (i : ℕ) → i < length xs → get_or xs i 0 ≢ own → others_in own (take (i + 1) xs) ≡ others_in own (take i xs) ++ get_or xs i 0 ∷ []
-others_more own xs i low differs =
-    ap (others_in own) (take_more xs i 0 low) ∙ filter_more (λ m. not (m == own)) (take i xs) (get_or xs i 0)
-    ∙ ap (λ (b : Bool). others_in own (take i xs) ++ cond (not b) (get_or xs i 0 ∷ []) []) (ne_eqb (get_or xs i 0) own differs)
-
-pub others_same : (own : ℕ) (xs : List ℕ) (i : ℕ) → i < length xs → get_or xs i 0 ≡ own → others_in own (take (i + 1) xs) ≡ others_in own (take i xs)
-others_same own xs i low same =
-    ap (others_in own) (take_more xs i 0 low) ∙ filter_more (λ m. not (m == own)) (take i xs) (get_or xs i 0)
-    ∙ ap (λ (b : Bool). others_in own (take i xs) ++ cond (not b) (get_or xs i 0 ∷ []) []) (eq-eqb (get_or xs i 0) own same) ∙ append-nil (others_in own (take i xs))
-
 -- ---- whether a number is in the list
 
-among_is : (ns : List ℕ) (n : ℕ) → is_among ns n ≡ true → Among n ns
+pub among_is : (ns : List ℕ) (n : ℕ) → is_among ns n ≡ true → Among n ns
 among_is [] n e = absurd (cc e)
 among_is (m ∷ ns) n e = go (λ e'. among_is ns n e') (m == n) refl e
   where
@@ -88,7 +76,7 @@ among_is (m ∷ ns) n e = go (λ e'. among_is ns n e') (m == n) refl e
     go rest false same e' = inr (rest e')
 
 -- the own number tells nothing of another
-is_among_others : (own n : ℕ) → n ≢ own → (ns : List ℕ) → is_among (others_in own ns) n ≡ is_among ns n
+pub is_among_others : (own n : ℕ) → n ≢ own → (ns : List ℕ) → is_among (others_in own ns) n ≡ is_among ns n
 is_among_others own n other [] = refl
 is_among_others own n other (m ∷ ns) = go (ℕ_discrete m own) (is_among_others own n other ns)
   where
@@ -118,42 +106,13 @@ put_marked count marks later numbers new x before same marked is = record {
       ∙ sym (is_among_more numbers x n) ∙ ap (λ (ns : List ℕ). is_among ns n) (sym is);
 }
 
--- nobody is marked
-pub none_marked : (count : ℕ) (marks : List Bool) (numbers : List ℕ) → length marks ≡ count → ((n : ℕ) → n < count → get_or marks n false ≡ false) → numbers ≡ [] → AreMarked count marks numbers
-none_marked count marks numbers whole none is = record {
-  whole = whole;
-  marked = λ n low. none n low ∙ ap (λ (ns : List ℕ). is_among ns n) (sym is);
-}
-
--- the marks tell who is new
-pub new_by_marks : (own : ℕ) (old : List ℕ) (count : ℕ) (marks : List Bool) → AreMarked count marks (others_in own old) → (n : ℕ) → n < count
-    → (not (n == own) && not (get_or marks n false)) ≡ is_new own old n
-new_by_marks own old count marks are n low = go (ℕ_discrete n own)
-  where
-    go : Dec (n ≡ own) → (not (n == own) && not (get_or marks n false)) ≡ (not (n == own) && not (is_among old n))
-    go (yes same) =
-        let is : (n == own) ≡ true = eq-eqb n own same in
-        ap (λ (b : Bool). not b && not (get_or marks n false)) is ∙ sym (ap (λ (b : Bool). not b && not (is_among old n)) is)
-    go (no differs) = ap (λ (b : Bool). not (n == own) && not b) (are.marked n low ∙ is_among_others own n differs old)
-
 -- ---- all numbers in turn
 
-range_more : (a n : ℕ) → range_with_len a (suc n) ≡ range_with_len a n ++ (a + n) ∷ []
+pub range_more : (a n : ℕ) → range_with_len a (suc n) ≡ range_with_len a n ++ (a + n) ∷ []
 range_more a zero = ap (λ (k : ℕ). k ∷ []) (omega arith)
 range_more a (suc n) = ap (λ ks. a ∷ ks) (range_more (a + 1) n ∙ ap (λ (k : ℕ). range_with_len (a + 1) n ++ k ∷ []) (omega arith))
 
--- one process more was asked whether it's new
-pub asked_more : (p : ℕ → Bool) (front : List ℕ) (n : ℕ) → (front ++ filter p (range_with_len 0 n)) ++ cond (p n) (n ∷ []) [] ≡ front ++ filter p (range_with_len 0 (n + 1))
-asked_more p front n =
-    let next : n + 1 ≡ suc n = omega arith in
-    let last : 0 + n ≡ n = omega arith in
-    append_assoc front (filter p (range_with_len 0 n)) (cond (p n) (n ∷ []) [])
-    ∙ ap (λ ns. front ++ ns) (
-    sym (filter_more p (range_with_len 0 n) n) ∙ ap (λ (k : ℕ). filter p (range_with_len 0 n ++ k ∷ [])) (sym last)
-    ∙ ap (filter p) (sym (range_more 0 n)) ∙ ap (λ (k : ℕ). filter p (range_with_len 0 k)) (sym next)
-    )
-
-among_range : (a n k : ℕ) → a ≤ k → k < a + n → Among k (range_with_len a n)
+pub among_range : (a n k : ℕ) → a ≤ k → k < a + n → Among k (range_with_len a n)
 among_range a zero k low high = absurd (omega arith)
 among_range a (suc n) k low high = elim (ℕ_discrete k a) [
   | yes same ↦ inl same
@@ -179,7 +138,7 @@ all_in_turn own old count n low = elim (ℕ_discrete n own) [
 
 -- ---- no number twice
 
-in_filter : (p : ℕ → Bool) (xs : List ℕ) (n : ℕ) → Among n (filter p xs) → Among n xs
+pub in_filter : (p : ℕ → Bool) (xs : List ℕ) (n : ℕ) → Among n (filter p xs) → Among n xs
 in_filter p [] n h = absurd h
 in_filter p (x ∷ xs) n h = go (λ h'. in_filter p xs n h') (p x) h
   where
@@ -196,7 +155,7 @@ once_filter p (x ∷ xs) once = go (p x) (once_filter p xs once.1)
     go true rest = (λ h. once.0 (in_filter p xs x h), rest)
     go false rest = rest
 
-among_either : (n : ℕ) (xs ys : List ℕ) → Among n (xs ++ ys) → Among n xs ⊎ Among n ys
+pub among_either : (n : ℕ) (xs ys : List ℕ) → Among n (xs ++ ys) → Among n xs ⊎ Among n ys
 among_either n [] ys h = inr h
 among_either n (x ∷ xs) ys (inl e) = inl (inl e)
 among_either n (x ∷ xs) ys (inr h) = go (among_either n xs ys h)
@@ -223,7 +182,7 @@ once_range : (a n : ℕ) → EachOnce (range_with_len a n)
 once_range a zero = tt
 once_range a (suc n) = (λ h. let low = from_start (a + 1) n a h in omega (arith, low), once_range (a + 1) n)
 
-is_among_from : (ns : List ℕ) (n : ℕ) → Among n ns → is_among ns n ≡ true
+pub is_among_from : (ns : List ℕ) (n : ℕ) → Among n ns → is_among ns n ≡ true
 is_among_from [] n h = absurd h
 is_among_from (m ∷ ns) n (inl e) = ap (λ (b : Bool). b || is_among ns n) (eq-eqb m n (sym e))
 is_among_from (m ∷ ns) n (inr h) = ap (λ (b : Bool). m == n || b) (is_among_from ns n h) ∙ or_true (m == n)
@@ -232,7 +191,7 @@ is_among_from (m ∷ ns) n (inr h) = ap (λ (b : Bool). m == n || b) (is_among_f
     or_true true = refl
     or_true false = refl
 
-not_own : (own : ℕ) → not (own == own) ≡ false
+pub not_own : (own : ℕ) → not (own == own) ≡ false
 not_own own = ap not (eq-eqb own own refl)
 
 -- where no number was twice in the list, none is in turn twice

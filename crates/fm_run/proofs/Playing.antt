@@ -113,7 +113,7 @@ module _ (program : Program) where
   -- ---- who can step
 
   module _ (s : State Proc) (ps : List Place) where
-    known : (n : ℕ) → can_at program s ps n ≡ true → n < length ps
+    pub known : (n : ℕ) → can_at program s ps n ≡ true → n < length ps
     known n can = go (slice_get ps n) refl can
       where
         go : (o : Option Place) → slice_get ps n ≡ o → can_in program s o ≡ true → n < length ps
@@ -148,7 +148,7 @@ module _ (program : Program) where
       let at = everybody (language program) (first_proc program) kept.choices kept.legal p x (ap (λ (u : State Proc). get u.procs p) kept.there ∙ is) in
       (at.0, ap (λ qs. slice_get qs at.0) kept.places_are ∙ at.1)
 
-  pub run_ended : (turns : ℕ) (player : Player) → IsPlayed program player → player.able.items ≡ [] → player.used ≤ turns → IsFrontWithin program turns player.history.items (places_of player.paths.items) → (o : Outcome) → o ≡ outcome_of program player.used (state_of program player.net)
+  pub run_ended : (turns : ℕ) (player : Player) → IsPlayed program player → player.able.numbers.items ≡ [] → player.used ≤ turns → IsFrontWithin program turns player.history.items (places_of player.paths.items) → (o : Outcome) → o ≡ outcome_of program player.used (state_of program player.net)
       → (r : Run) → r.history ≡ player.history → r.paths ≡ player.paths → r.ending ≡ Ended o → IsRun program turns r
   run_ended turns player played none within front o o_is r h p e =
       let k = played.history in

@@ -16,3 +16,7 @@ on_ok_two (Err e) a b f = tt
 pub if_ok_three : {T E : Type 0} {A : Type 0} {B C D : T → Type 0} (r : Result T E) → OnOk r A → IfOk r B → IfOk r C → ((x : T) → A → B x → C x → D x) → IfOk r D
 if_ok_three (Ok x) a b c f = f x a b c
 if_ok_three (Err e) a b c f = tt
+
+pub on_ok_six : {T E : Type 0} {A B C D F G H : Type 0} (r : Result T E) → OnOk r A → OnOk r B → OnOk r C → OnOk r D → OnOk r F → OnOk r G → (A → B → C → D → F → G → H) → OnOk r H
+on_ok_six (Ok x) a b c d f g h = h a b c d f g
+on_ok_six (Err e) a b c d f g h = tt

@@ -5,4 +5,5 @@ pub mod Pieces
 pub mod Orders
 pub mod Shown
 pub mod Holding
+pub mod Noted
 pub mod Runs

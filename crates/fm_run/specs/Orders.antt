@@ -43,6 +43,11 @@ place_chosen (Some choice) count = choice % count
 abbrev pub chosen : Option ℕ → (able : List ℕ) → Option ℕ
 chosen choice able = slice_get able (place_chosen choice (length able))
 
+-- the place of a number in a list, or none where it isn't there
+abbrev pub IsPlaceOf : List ℕ → ℕ → Option ℕ → Type 0
+IsPlaceOf ns n None = Among n ns → ⊥
+IsPlaceOf ns n (Some k) = slice_get ns k ≡ Some n
+
 -- ---- who can step, before the first piece and after a piece
 
 abbrev pub is_among : List ℕ → ℕ → Bool
@@ -55,6 +60,10 @@ others_in own = filter (λ n. not (n == own))
 -- neither this one nor in the list
 abbrev pub is_new : (own : ℕ) → (old : List ℕ) → ℕ → Bool
 is_new own old n = not (n == own) && not (is_among old n)
+
+-- neither this one nor in the list, and able
+abbrev pub newly : (can : ℕ → Bool) (own : ℕ) (old : List ℕ) → ℕ → Bool
+newly can own old n = is_new own old n && can n
 
 -- all numbers of so many processes: those of the list but this one, in their order; then those that
 -- aren't in the list, in the order of starting; and behind them this one

@@ -1,6 +1,6 @@
 -- What a run of a program is.
 -- Source: this profile.
-use Rattle.std.specs.Prelude.{◌≡◌, ℕ, suc, ◌<◌, ◌≤◌, true, Option, Some, List, [], ◌∷◌, ◌++◌, replicate, slice_get, slice_index_or}
+use Rattle.std.specs.Prelude.{◌≡◌, ℕ, suc, ◌<◌, ◌≤◌, true, Option, Some, List, [], ◌∷◌, ◌++◌, length, replicate, slice_get, slice_index_or}
 use Rattle.fm_base.specs.declared.schedule.Turn.{Turn}
 use Rattle.fm_sched.specs.Schedule.{play, used, IsLegal, IsFinal}
 use Rattle.fm_net.specs.Machine.{Place, State}
@@ -13,7 +13,8 @@ use Rattle.fm_run.specs.declared.run.Ending.{Ending}
 use Rattle.fm_run.specs.declared.run.Ending.TheVariants.{Ended, Spent}
 use Rattle.fm_run.specs.declared.run.Run.{Run}
 use Rattle.fm_run.specs.declared.player.Player.{Player}
-use Rattle.fm_run.specs.Orders.{Among, EachOnce, places_of, can_at, chosen, ready_first, ready_after}
+use Rattle.fm_run.specs.Noted.{AreNoted, AreParents}
+use Rattle.fm_run.specs.Orders.{Among, AreMarked, EachOnce, places_of, can_at, chosen, ready_first, ready_after}
 use Rattle.fm_run.specs.Held.{IsSound}
 use Rattle.fm_run.specs.Pieces.{IsFull}
 use Rattle.fm_run.specs.Readings.{state_of}
@@ -45,11 +46,19 @@ pub record AreAble (program : Program) (s : State Proc) (places : List Place) (a
   pub whole : (n : ℕ) → can_at program s places n ≡ true → Among n able
   pub once : EachOnce able
 
+-- the processes have numbers: who started each is told, and whether each is in the queue
+pub record AreNumbered (player : Player) : Type 0 where
+  pub started : AreParents (places_of player.paths.items) player.parents.items
+  pub counted : length player.parents.items ≡ length (places_of player.paths.items)
+  pub marked : AreMarked (length (places_of player.paths.items)) player.able.marks.items player.able.numbers.items
+
 -- a run between two pieces
 pub record IsPlayed (program : Program) (player : Player) : Type 0 where
   pub history : IsPlayedBy program player.history.items (places_of player.paths.items) (state_of program player.net) player.used
-  pub able : AreAble program (state_of program player.net) (places_of player.paths.items) player.able.items
+  pub able : AreAble program (state_of program player.net) (places_of player.paths.items) player.able.numbers.items
   pub sound : IsSound program player.net
+  pub noted : AreNoted program (state_of program player.net) player.net.channels (places_of player.paths.items)
+  pub numbered : AreNumbered player
 
 -- ---- a run that follows its choices
 
@@ -61,7 +70,7 @@ pub record Stand : Type 0 where
   pub able : List ℕ
 
 abbrev pub stand_of : Program → Player → Stand
-stand_of program player = record { state = state_of program player.net; places = places_of player.paths.items; able = player.able.items }
+stand_of program player = record { state = state_of program player.net; places = places_of player.paths.items; able = player.able.numbers.items }
 
 -- main has started, and can step or can't
 abbrev pub first_stand : Program → Stand

@@ -9,6 +9,7 @@
 //! new channel is new, follow from the laws of the meaning: no premise is on the program.
 #![tactic(auto)]
 
+mod becoming;
 mod holders;
 mod messages;
 mod orders;

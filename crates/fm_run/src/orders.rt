@@ -1,29 +1,33 @@
 //! Who can step, and in which order they are served.
 
-ghost use Rattle.std.specs.Prelude.{◌≡◌, ◌<◌, ◌++◌, ◌∷◌, ◌==◌, ◌&&◌, ◌||◌, ℕ, true, false, cond, not, [], length, filter, slice_index_or, IfOk, OnOk};
+ghost use Rattle.std.specs.Prelude.{◌≡◌, ◌<◌, ◌≤◌, ◌++◌, ◌∷◌, ◌==◌, ◌&&◌, ◌||◌, ℕ, not, false, [], length, slice_index_or, IfOk, OnOk};
 ghost use Rattle.fm_net.specs.Owned.{IsOwned};
 ghost use Rattle.fm_mean.specs.Steps.{language};
 ghost use Rattle.fm_run.specs.Held.{IsSound};
 ghost use Rattle.fm_run.specs.Readings.{state_of};
-ghost use Rattle.fm_run.specs.Orders.{AreMarked, places_of, can_at, chosen, others_in, in_turn};
+ghost use Rattle.fm_run.specs.Orders.{Among, AreMarked, EachOnce, IsPlaceOf, places_of, can_at, chosen, others_in};
 
 use crate::processes::Net;
 use crate::ready::can_step;
 use fm_base::{NoMemory, Path};
 use fm_rules::Program;
 use std::alloc::Global;
+use std::collections::VecDeque;
 use std::sync::Arc;
 
-/// Numbers of processes in an order, and a mark for each process that is among them.
+/// The numbers of those that can step, in the order in which they are served, and a mark for each process
+/// that is among them.
 #[derive(Drop)]
-struct Order {
-    numbers: Vec<u32>,
-    marks: Vec<bool>,
+pub(crate) struct Queue {
+    /// Who can step.
+    pub numbers: VecDeque<u32>,
+    /// For each process whether it's among them.
+    pub marks: Vec<bool>,
 }
 
 /// The one at the place of a choice, modulo their number, or without a choice the first one.
-pub(crate) fn chosen(able: &[u32], choice: Option<u64>) -> Option<u32>
-    ensures { result ≡ chosen choice able.now }
+pub(crate) fn chosen(able: &VecDeque<u32>, choice: Option<u64>) -> Option<u32>
+    ensures { result ≡ chosen choice able.now.items }
 {
     if able.is_empty() {
         return None;
@@ -35,8 +39,8 @@ pub(crate) fn chosen(able: &[u32], choice: Option<u64>) -> Option<u32>
     Some(able[place as usize])
 }
 
-// Whether the process of a number can step.
-fn is_able(
+/// Whether the process of a number can step.
+pub(crate) fn is_able(
     alloc: Global,
     net: &Net,
     program: &Program,
@@ -53,35 +57,6 @@ fn is_able(
     }
 }
 
-fn push_if(numbers: &mut Vec<u32>, number: u32, is_wanted: bool) -> Result<(), NoMemory>
-    ensures { OnOk result (numbers.new.items ≡ numbers.old.items ++ cond is_wanted (number ∷ []) []) }
-{
-    if is_wanted {
-        numbers.push(number)?;
-    }
-    Ok(())
-}
-
-/// Those of the numbers whose processes can step.
-pub(crate) fn keep_able(
-    alloc: Global,
-    net: &Net,
-    program: &Program,
-    paths: &[Arc<Path>],
-    numbers: &[u32],
-) -> Result<Vec<u32>, NoMemory>
-    requires owned { IsOwned (language program.now) (state_of program.now net.now) }
-    requires sound { IsSound program.now net.now }
-    ensures { IfOk result (λ v. v.items ≡ filter (can_at program.now (state_of program.now net.now) (places_of paths.now)) numbers.now) }
-{
-    let mut able = Vec::new(alloc);
-    'numbers: for number in numbers {
-        let is_able = is_able(alloc, net, program, paths, *number)?;
-        push_if(&mut able, *number, is_able)?;
-    }
-    Ok(able)
-}
-
 fn mark(marks: &mut Vec<bool>, number: u32)
     ensures length { length marks.new.items ≡ length marks.old.items }
     ensures marked { (n : ℕ) → n < length marks.old.items → slice_index_or marks.new.items n false ≡ (slice_index_or marks.old.items n false || number == n) }
@@ -92,80 +67,87 @@ fn mark(marks: &mut Vec<bool>, number: u32)
     }
 }
 
-fn is_marked(marks: &[bool], number: usize) -> bool
+fn unmark(marks: &mut Vec<bool>, number: u32)
+    ensures length { length marks.new.items ≡ length marks.old.items }
+    ensures marked { (n : ℕ) → n < length marks.old.items → slice_index_or marks.new.items n false ≡ (slice_index_or marks.old.items n false && not (number == n)) }
+{
+    let place = number as usize;
+    if place < marks.len() {
+        marks[place] = false;
+    }
+}
+
+fn is_marked(marks: &[bool], number: u32) -> bool
     ensures { result ≡ slice_index_or marks.now number false }
 {
-    match marks.get(number) {
+    match marks.get(number as usize) {
         Some(mark) => *mark,
         None => false,
     }
 }
 
-impl Order {
-    fn put(&mut self, number: u32) -> Result<(), NoMemory>
+// The place of a number in a queue. Who is served next has the first one.
+fn place_of(numbers: &VecDeque<u32>, number: u32) -> Option<usize>
+    ensures { IsPlaceOf numbers.now.items number result }
+{
+    'places: for place in 0..numbers.len() {
+        if numbers[place] == number {
+            return Some(place);
+        }
+    }
+    None
+}
+
+impl Queue {
+    /// Nobody can step. Takes no memory.
+    pub fn new(alloc: Global) -> Queue
+        ensures numbers { result.numbers.items ≡ [] }
+        ensures marks { result.marks.items ≡ [] }
+    {
+        Queue {
+            numbers: VecDeque::new(alloc),
+            marks: Vec::new(alloc),
+        }
+    }
+
+    /// Whether a process is in the queue.
+    pub fn contains(&self, number: u32) -> bool
+        ensures { result ≡ slice_index_or self.now.marks.items number false }
+    {
+        is_marked(&self.marks, number)
+    }
+
+    /// Puts a process behind the others.
+    pub fn put(&mut self, number: u32) -> Result<(), NoMemory>
         ensures numbers { OnOk result (self.new.numbers.items ≡ self.old.numbers.items ++ number ∷ []) }
         ensures marks { OnOk result ((count : ℕ) → AreMarked count self.old.marks.items self.old.numbers.items → AreMarked count self.new.marks.items self.new.numbers.items) }
     {
-        self.numbers.push(number)?;
+        self.numbers.push_back(number)?;
         mark(&mut self.marks, number);
         Ok(())
     }
-}
 
-// Those that could step before, but the one that made its piece.
-fn others(alloc: Global, able: &[u32], own: u32, count: usize) -> Result<Order, NoMemory>
-    ensures numbers { IfOk result (λ o. o.numbers.items ≡ others_in own able.now) }
-    ensures marks { IfOk result (λ o. AreMarked count o.marks.items o.numbers.items) }
-{
-    let mut order = Order {
-        numbers: Vec::new(alloc),
-        marks: vec![in alloc; false; count]?,
-    };
-    'able: for number in able {
-        if *number != own {
-            order.put(*number)?;
+    /// A process leaves its place.
+    pub fn leave(&mut self, number: u32)
+        requires { EachOnce self.old.numbers.items }
+        ensures numbers { self.new.numbers.items ≡ others_in number self.old.numbers.items }
+        ensures marks { (count : ℕ) → AreMarked count self.old.marks.items self.old.numbers.items → AreMarked count self.new.marks.items self.new.numbers.items }
+    {
+        unmark(&mut self.marks, number);
+        match place_of(&self.numbers, number) {
+            Some(place) => {
+                self.numbers.remove(place);
+            }
+            None => {}
         }
     }
-    Ok(order)
-}
 
-fn put_other(
-    numbers: &mut Vec<u32>,
-    marks: &[bool],
-    own: u32,
-    number: usize,
-) -> Result<(), NoMemory>
-    ensures { OnOk result (numbers.new.items ≡ numbers.old.items ++ cond (not (number == own) && not (slice_index_or marks.now number false)) (number ∷ []) []) }
-{
-    if number == own as usize {
-        return Ok(());
+    /// There are so many processes, and who is new isn't in the queue.
+    pub fn grow(&mut self, count: usize) -> Result<(), NoMemory>
+        ensures numbers { self.new.numbers.items ≡ self.old.numbers.items }
+        ensures marks { OnOk result ((before : ℕ) → before ≤ count → ((n : ℕ) → Among n self.old.numbers.items → n < before) → AreMarked before self.old.marks.items self.old.numbers.items → AreMarked count self.new.marks.items self.new.numbers.items) }
+    {
+        self.marks.resize(count, false)?;
+        Ok(())
     }
-    if is_marked(marks, number) {
-        return Ok(());
-    }
-    match u32::try_from(number) {
-        Ok(number) => {
-            numbers.push(number)?;
-            Ok(())
-        }
-        Err(_) => Err(NoMemory),
-    }
-}
-
-/// All numbers of so many processes: first those that could step before, in their order; then the
-/// others; and last the one that made its piece.
-pub(crate) fn candidates(
-    alloc: Global,
-    able: &[u32],
-    own: u32,
-    count: usize,
-) -> Result<Vec<u32>, NoMemory>
-    ensures { IfOk result (λ v. v.items ≡ in_turn own able.now count) }
-{
-    let Order { mut numbers, marks } = others(alloc, able, own, count)?;
-    'others: for number in 0..count {
-        put_other(&mut numbers, &marks, own, number)?;
-    }
-    numbers.push(own)?;
-    Ok(numbers)
 }

@@ -6,9 +6,11 @@ ghost use Rattle.fm_net.specs.Starts.{child_places};
 ghost use Rattle.fm_run.specs.Orders.{Among, places_of, can_at, chosen, ready_after};
 ghost use Rattle.fm_run.specs.Held.{AreLookedAt, IsSound};
 ghost use Rattle.fm_run.specs.Readings.{procs_of, state_of};
-ghost use Rattle.fm_run.specs.Runs.{IsFrontWithin, IsPlayedBy, IsPlayed, IsEntry, first_stand, stand_of};
+ghost use Rattle.fm_run.specs.Runs.{AreNumbered, IsFrontWithin, IsPlayedBy, IsPlayed, IsEntry, first_stand, stand_of};
+ghost use Rattle.fm_chan.specs.Woken.{WakesAll};
 
-use crate::orders::{candidates, chosen, keep_able};
+use crate::becoming::{candidates, settle, settle_all};
+use crate::orders::{Queue, chosen};
 use crate::pieces::make_piece;
 use crate::ports::Ports;
 use crate::processes::{Net, Processes, Slot};
@@ -28,8 +30,10 @@ pub(crate) struct Player {
     pub net: Net,
     /// The processes, in the order of starting.
     pub paths: Vec<Arc<Path>>,
-    /// The numbers of those that can step, in the order in which they are served.
-    pub able: Vec<u32>,
+    /// For each the number of the one that started it, and for main its own.
+    pub parents: Vec<u32>,
+    /// Those that can step.
+    pub able: Queue,
     /// The pieces.
     pub history: Vec<Turn>,
     /// The cost in turns.
@@ -88,12 +92,16 @@ impl Player {
         ensures history { IfOk result (λ player. player.history.items ≡ []) }
         ensures stand { IfOk result (λ player. stand_of program.now player ≡ first_stand program.now) }
     {
-        let net = first_net(alloc, program)?;
+        let mut net = first_net(alloc, program)?;
         let paths = vec![in alloc; Arc::new(alloc, Path::main(alloc))?]?;
-        let able = keep_able(alloc, &net, program, &paths, &[0])?;
+        let parents = vec![in alloc; 0]?;
+        let mut able = Queue::new(alloc);
+        able.grow(1)?;
+        settle(alloc, &mut net, program, &paths, &mut able, 0)?;
         Ok(Player {
             net,
             paths,
+            parents,
             able,
             history: Vec::new(alloc),
             used: 0,
@@ -103,10 +111,10 @@ impl Player {
     /// The number of the process that makes the next piece: the one that the next choice tells, or the
     /// first one when the choices are used up. None where no process can step.
     pub fn next(&self, choices: &[u64]) -> Option<u32>
-        ensures { result ≡ chosen (slice_get choices.now (length self.now.history.items)) self.now.able.items }
+        ensures { result ≡ chosen (slice_get choices.now (length self.now.history.items)) self.now.able.numbers.items }
     {
         let choice = choices.get(self.history.len()).copied();
-        chosen(&self.able, choice)
+        chosen(&self.able.numbers, choice)
     }
 
     // Makes a piece of a process, and keeps it.
@@ -121,12 +129,16 @@ impl Player {
         requires sound { IsSound program.now self.old.net }
         requires kept { IsPlayedBy program.now self.old.history.items (places_of self.old.paths.items) (state_of program.now self.old.net) self.old.used }
         requires able { can_at program.now (state_of program.now self.old.net) (places_of self.old.paths.items) number ≡ true }
+        requires within { (n : ℕ) → Among n self.old.able.numbers.items → n < length (places_of self.old.paths.items) }
+        requires numbered { AreNumbered self.old }
         ensures sound { OnOk result (IsSound program.now self.new.net) }
         ensures kept { OnOk result (IsPlayedBy program.now self.new.history.items (places_of self.new.paths.items) (state_of program.now self.new.net) self.new.used) }
         ensures used { OnOk result (self.old.used < self.new.used) }
         ensures front { OnOk result ((turns : ℕ) → self.old.used ≤ turns → IsFrontWithin program.now turns self.new.history.items (places_of self.new.paths.items)) }
         ensures entry { OnOk result (IsEntry program.now slice number (state_of program.now self.old.net) (places_of self.old.paths.items) self.old.history.items (state_of program.now self.new.net) (places_of self.new.paths.items) self.new.history.items) }
-        ensures able { OnOk result (self.new.able.items ≡ self.old.able.items) }
+        ensures able { OnOk result (self.new.able.numbers.items ≡ self.old.able.numbers.items) }
+        ensures numbered { OnOk result (AreNumbered self.new) }
+        ensures waking { OnOk result (WakesAll self.old.net.channels self.new.net.channels) }
     {
         let path = match self.paths.get(number as usize) {
             Some(path) => path,
@@ -139,6 +151,9 @@ impl Player {
             steps: piece.steps,
         })?;
         self.paths.append(&mut children)?;
+        let count = self.paths.len();
+        self.parents.resize(count, number)?;
+        self.able.grow(count)?;
         self.used = both(self.used, piece.cost)?;
         Ok(())
     }
@@ -155,16 +170,28 @@ impl Player {
     ) -> Result<(), NoMemory>
         requires some { 1 ≤ slice }
         requires played { IsPlayed program.now self.old }
-        requires able { Among number self.old.able.items }
+        requires able { Among number self.old.able.numbers.items }
         ensures played { OnOk result (IsPlayed program.now self.new) }
         ensures used { OnOk result (self.old.used < self.new.used) }
         ensures front { OnOk result ((turns : ℕ) → self.old.used ≤ turns → IsFrontWithin program.now turns self.new.history.items (places_of self.new.paths.items)) }
         ensures entry { OnOk result (IsEntry program.now slice number (state_of program.now self.old.net) (places_of self.old.paths.items) self.old.history.items (state_of program.now self.new.net) (places_of self.new.paths.items) self.new.history.items) }
-        ensures able { OnOk result (self.new.able.items ≡ ready_after program.now (state_of program.now self.new.net) (places_of self.new.paths.items) self.old.able.items number) }
+        ensures able { OnOk result (self.new.able.numbers.items ≡ ready_after program.now (state_of program.now self.new.net) (places_of self.new.paths.items) self.old.able.numbers.items number) }
     {
+        let before = self.paths.len();
         self.keep_piece(alloc, program, number, slice)?;
-        let order = candidates(alloc, &self.able, number, self.paths.len())?;
-        self.able = keep_able(alloc, &self.net, program, &self.paths, &order)?;
-        Ok(())
+        self.able.leave(number);
+        let paths = self.paths.as_slice();
+        let parents = self.parents.as_slice();
+        let asked = candidates(alloc, &mut self.net, paths, parents, number, before)?;
+        settle_all(
+            alloc,
+            &mut self.net,
+            program,
+            paths,
+            &mut self.able,
+            number,
+            asked.as_slice(),
+        )?;
+        settle(alloc, &mut self.net, program, paths, &mut self.able, number)
     }
 }

@@ -1,10 +1,13 @@
 //! Which processes can step.
 
-ghost use Rattle.std.specs.Prelude.{◌≡◌, ◌+◌, ℕ, length, true, is_some, Some, Option, IfOk};
-ghost use Rattle.std.specs.FinMap.{get};
+ghost use Rattle.std.specs.Prelude.{◌≡◌, ◌+◌, ℕ, length, true, false, is_some, Some, Option, IfOk, OnOk};
+ghost use Rattle.std.specs.FinMap.{contains_key, get};
+ghost use Rattle.std.specs.Option.{option_copied};
+ghost use Rattle.fm_base.specs.declared.path.ChanName as declared_channel;
 ghost use Rattle.fm_base.specs.declared.port.PortValue.TheVariants.{Reader};
 ghost use Rattle.fm_chan.specs.Bodies.{chans_of};
 ghost use Rattle.fm_chan.specs.Received.{pops_at};
+ghost use Rattle.fm_chan.specs.Woken.{WakesAll, waiting_reader};
 ghost use Rattle.fm_net.specs.Machine.{child, gathered};
 ghost use Rattle.fm_net.specs.Owned.{IsOwned};
 ghost use Rattle.fm_rules.specs.declared.program.Program as declared;
@@ -17,10 +20,12 @@ ghost use Rattle.fm_frame.specs.Frames.{phase_of};
 ghost use Rattle.fm_onward.specs.Joins.{kids_in};
 ghost use Rattle.fm_plain.specs.Events.{event_by};
 ghost use Rattle.fm_run.specs.Held.{HeldAreKept, IsKept, IsSound};
+ghost use Rattle.fm_run.specs.Noted.{IsNoted, channel_received, channel_waited};
 ghost use Rattle.fm_run.specs.Readings.{procs_of, state_of};
 
 use crate::processes::{Net, Processes};
 use fm_base::{ChanName, NoMemory, Path};
+use fm_chan::Channels;
 use fm_frame::{Phase, PlainProc};
 use fm_plain::{Event, Next};
 use fm_rules::Program;
@@ -152,5 +157,69 @@ pub fn can_step(alloc: Global, net: &Net, program: &Program, path: &Path) -> Res
             Next::Meets(event) => net.is_served(alloc, program, path, event),
         },
         None => Ok(false),
+    }
+}
+
+fn received_channel(event: &Event) -> Option<&ChanName>
+    ensures { option_copied result ≡ channel_received event.now }
+{
+    match event {
+        Event::Receive { channel, .. } => Some(channel),
+        Event::Fail(_, _) => None,
+        Event::Make { .. } => None,
+        Event::Send { .. } => None,
+        Event::Probe { .. } => None,
+        Event::Begin => None,
+        Event::Join { .. } => None,
+        Event::End => None,
+    }
+}
+
+// The channel at which a process waits that does this next.
+fn waited_channel(next: &Next) -> Option<&ChanName>
+    ensures { option_copied result ≡ channel_waited next.now }
+{
+    match next {
+        Next::Steps => None,
+        Next::Rests => None,
+        Next::Meets(event) => received_channel(event),
+    }
+}
+
+// Notes the number of a process that does this next at the channel at which it waits, if it waits at one.
+fn note_at(channels: &mut Channels, next: &Next, number: u32) -> Result<(), NoMemory>
+    requires there { (c : declared_channel.ChanName) → channel_waited next.now ≡ Some c → contains_key (chans_of channels.old) c ≡ true }
+    requires waits { (c : declared_channel.ChanName) → channel_waited next.now ≡ Some c → pops_at (get (chans_of channels.old) c) ≡ false }
+    ensures channels { OnOk result (chans_of channels.new ≡ chans_of channels.old) }
+    ensures noted { OnOk result ((c : declared_channel.ChanName) → channel_waited next.now ≡ Some c → waiting_reader channels.new c ≡ Some number) }
+    ensures waking { OnOk result (WakesAll channels.old channels.new) }
+{
+    match waited_channel(next) {
+        Some(channel) => channels.wait(channel, number),
+        None => Ok(()),
+    }
+}
+
+impl Net {
+    /// Notes the number of the process at a path, which can't step, at the channel at which it waits, if it
+    /// waits at one.
+    pub(crate) fn note(
+        &mut self,
+        program: &Program,
+        path: &Path,
+        number: u32,
+    ) -> Result<(), NoMemory>
+        requires owned { IsOwned (language program.now) (state_of program.now self.old) }
+        requires sound { IsSound program.now self.old }
+        requires waits { is_some (step program.now (state_of program.now self.old) path.now) ≡ false }
+        ensures state { OnOk result (state_of program.now self.new ≡ state_of program.now self.old) }
+        ensures sound { OnOk result (IsSound program.now self.new) }
+        ensures noted { OnOk result ((x : Proc) → get (procs_of program.now self.old.processes) path.now ≡ Some x → IsNoted program.now self.new.channels number x) }
+        ensures waking { OnOk result (WakesAll self.old.channels self.new.channels) }
+    {
+        match self.processes.by_path.get(path) {
+            Some(slot) => note_at(&mut self.channels, &slot.next, number),
+            None => Ok(()),
+        }
     }
 }

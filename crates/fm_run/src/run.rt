@@ -66,7 +66,7 @@ impl Player {
 /// Those that can step stand in a queue. The one that makes its piece leaves its place; others that have
 /// become able come behind, in the order of starting, and behind them the one itself, where it can step
 /// still. A piece ends where it has `slice` steps, with an event, with the process's end or a fault, or
-/// where the process can't step. Each look at the queue takes time in proportion to the number of processes.
+/// where the process can't step. Who waits isn't asked again before it's woken.
 pub fn run_program(
     alloc: Global,
     program: &Program,

@@ -9,7 +9,7 @@ use Rattle.fm_run.proofs.run.run_program.Goals as goal
 
 pub returns-clause-run : goal.returns-clause-run
 returns-clause-run c =
-    run_ended c.args.program.now c.args.turns c.pieces.player c.pieces.invariant.played (none_left _ c.pieces.player.able.items c.next.result c.next.ensures c.in_default.not-Some) c.pieces.invariant.within c.pieces.invariant.front c.in_ok-outcome.outcome c.in_ok-outcome.ensures
+    run_ended c.args.program.now c.args.turns c.pieces.player c.pieces.invariant.played (none_left _ c.pieces.player.able.numbers.items c.next.result c.next.ensures c.in_default.not-Some) c.pieces.invariant.within c.pieces.invariant.front c.in_ok-outcome.outcome c.in_ok-outcome.ensures
     c.ended.result c.ended.ensures.history c.ended.ensures.paths c.ended.ensures.ending
 
 pub pieces-init : goal.pieces-init
@@ -31,7 +31,7 @@ pieces-preserved c = record {
 }
 
 pub play-requires-clause-able : goal.play-requires-clause-able
-play-requires-clause-able c = among_get c.pieces.player.able.items _ c.in-Some.number (sym c.in-Some.ensures)
+play-requires-clause-able c = among_get c.pieces.player.able.numbers.items _ c.in-Some.number (sym c.in-Some.ensures)
 
 pub returns-clause-follows : goal.returns-clause-follows
 returns-clause-follows c = subst (λ (ts : List Turn). Follows c.args.program.now c.args.slice c.args.choices.now ts) (ap (λ v. v.items) (sym c.ended.ensures.history)) c.pieces.invariant.followed.follows

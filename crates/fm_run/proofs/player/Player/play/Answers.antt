@@ -1,29 +1,129 @@
-use Rattle.std.proofs.Common.{ℕ, List, filter, ap₂, sym, subst, ◌∙◌, arith}
+use Rattle.std.proofs.Common.{◌≡◌, ◌∷◌, ◌++◌, ℕ, [], List, cond, length, true, false, ◌≤◌, ◌<◌, refl, ap, ap₂, sym, subst, ◌∙◌, arith, rules}
 use Rattle.std.proofs.lemmas.List.{length-map}
-use Rattle.std.specs.declared.alloc.Global.{Global}
-use Rattle.std.specs.declared.sync.Arc.{Arc}
-use Rattle.fm_base.specs.declared.path.Path.{Path}
-use Rattle.fm_run.specs.Orders.{Among, EachOnce, place_in, places_of, can_at}
+use Rattle.fm_chan.specs.Bodies.{chans_of}
+use Rattle.fm_chan.specs.Woken.{woken_of}
+use Rattle.fm_net.specs.Machine.{Place, State}
+use Rattle.fm_net.specs.Owned.{IsOwned}
+use Rattle.fm_mean.specs.Steps.{language, step}
+use Rattle.std.specs.Prelude.{Contains, Some, is_some, slice_get}
+use Rattle.std.specs.List.Sorted.{IsNonDecreasing}
+use Rattle.std.specs.FinMap.{get}
+use Rattle.fm_mean.specs.Outcome.{ended_at}
+use Rattle.fm_mean.specs.Process.{Proc}
+use Rattle.fm_run.specs.Noted.{AreNoted, AreParents, IsNoted}
+use Rattle.fm_run.specs.Runs.{AreAble, IsEntry, IsPlayedBy}
+use Rattle.fm_run.specs.Orders.{Among, AreMarked, EachOnce, can_at, in_turn, others_in, place_in, places_of, ready_after}
 use Rattle.fm_run.specs.Readings.{state_of}
 use Rattle.fm_run.proofs.Numbers.{all_in_turn, once_in_turn}
-use Rattle.fm_run.proofs.Playing.{kept_owned, are_able}
+use Rattle.fm_run.proofs.Playing.{are_able, kept_owned, known}
+use Rattle.fm_run.proofs.Results.{on_ok_six, on_ok_two}
+use Rattle.fm_run.proofs.Serving.{candidates_whole, noted_all, noted_taken, others_ready, queue_is, stands_later}
 use Rattle.fm_run.proofs.player.Player.play.Goals as goal
 
-pub keep_able-requires-clause-owned : goal.keep_able-requires-clause-owned
-keep_able-requires-clause-owned c =
-    let new = c.keep_piece.new.self in
-    kept_owned c.args.program.now new.history.items (places_of new.paths.items) (state_of c.args.program.now new.net) new.used c.in_ok-keep_piece.ensures.kept
+pub keep_piece-requires-clause-able : goal.keep_piece-requires-clause-able
+keep_piece-requires-clause-able c = c.requires.played.able.within c.args.number c.requires.able
 
-pub returns-clause-played : goal.returns-clause-played
-returns-clause-played c =
-    let new = c.keep_piece.new.self in
+pub keep_piece-requires-clause-within : goal.keep_piece-requires-clause-within
+keep_piece-requires-clause-within c = λ n h.
+    let old = c.args.self.now in
+    known c.args.program.now (state_of c.args.program.now old.net) (places_of old.paths.items) n (c.requires.played.able.within n h)
+
+pub leave-requires : goal.leave-requires
+leave-requires c = subst EachOnce (sym c.in_ok-keep_piece.ensures.able) c.requires.played.able.once
+
+pub settle_all-requires-clause-owned : goal.settle_all-requires-clause-owned
+settle_all-requires-clause-owned c =
+    let P = c.args.program.now in
+    let mid = c.keep_piece.new.self in
+    subst (IsOwned (language P)) (sym (c.in_ok-asked.ensures.state P))
+    (kept_owned P mid.history.items (places_of mid.paths.items) (state_of P mid.net) mid.used c.in_ok-keep_piece.ensures.kept)
+
+pub settle_all-requires-clause-sound : goal.settle_all-requires-clause-sound
+settle_all-requires-clause-sound c = c.in_ok-asked.ensures.sound c.args.program.now c.in_ok-keep_piece.ensures.sound
+
+pub settle_all-requires-clause-sorted : goal.settle_all-requires-clause-sorted
+settle_all-requires-clause-sorted c = subst IsNonDecreasing (sym c.as_slice.ensures.value) c.in_ok-asked.ensures.sorted
+
+pub settle_all-requires-clause-marked : goal.settle_all-requires-clause-marked
+settle_all-requires-clause-marked c =
+    subst (λ (rs : List Place). AreMarked (length rs) c.leave.new.self.marks.items c.leave.new.self.numbers.items) (sym (ap places_of c.as_slice-paths.ensures.value))
+    (c.leave.ensures.marks (length (places_of c.keep_piece.new.self.paths.items)) c.in_ok-keep_piece.ensures.numbered.marked)
+
+pub settle-requires-clause-owned : goal.settle-requires-clause-owned
+settle-requires-clause-owned c =
+    let P = c.args.program.now in
+    let mid = c.keep_piece.new.self in
+    subst (IsOwned (language P)) (sym (c.in_ok-settle_all.ensures.state ∙ c.in_ok-asked.ensures.state P))
+    (kept_owned P mid.history.items (places_of mid.paths.items) (state_of P mid.net) mid.used c.in_ok-keep_piece.ensures.kept)
+
+-- `candidates`, `settle_all` and `settle` leave the state as it is. `leave` leaves the others in the queue, `settle_all` puts those that became able
+-- behind them, and `settle` the process itself: this is `ready_after`. Who can't step is noted, or left, until `settle`
+pub returns : goal.returns
+returns c =
+    let P = c.args.program.now in
     let number = c.args.number in
-    let able = c.deref.result.now in
-    let count = c.len.result in
+    let old = c.args.self.now in
+    let mid = c.keep_piece.new.self in
+    let s = state_of P old.net in
+    let t = state_of P c.candidates.new.net in
+    let ps = places_of old.paths.items in
+    let qs = places_of c.as_slice-paths.result.now in
+    let parents = c.as_slice-parents.result.now in
+    let cs = c.as_slice.result.now in
+    let able = old.able.numbers.items in
+    let kept = c.requires.played.history in
+    let exact = c.requires.played.able in
+    let noted = c.requires.played.noted in
+    let waking = c.in_ok-keep_piece.ensures.waking in
+    let whole : qs ≡ places_of mid.paths.items = ap places_of c.as_slice-paths.ensures.value in
+    let same : t ≡ state_of P mid.net = c.in_ok-asked.ensures.state P in
+    let of_new : chans_of mid.net.channels ≡ t.chans = ap (λ (u : State Proc). u.chans) (sym same) in
+    let entry : IsEntry P c.args.slice number s ps old.history.items t qs mid.history.items =
+    subst (λ (u : State Proc). IsEntry P c.args.slice number s ps old.history.items u qs mid.history.items) (sym same)
+    (subst (λ (rs : List Place). IsEntry P c.args.slice number s ps old.history.items (state_of P mid.net) rs mid.history.items) (sym whole) c.in_ok-keep_piece.ensures.entry) in
+    let later : IsPlayedBy P mid.history.items qs t mid.used =
+    subst (λ (u : State Proc). IsPlayedBy P mid.history.items qs u mid.used) (sym same) (subst (λ (rs : List Place). IsPlayedBy P mid.history.items rs (state_of P mid.net) mid.used) (sym whole) c.in_ok-keep_piece.ensures.kept) in
+    let started : AreParents qs parents =
+    subst (AreParents qs) (sym c.as_slice-parents.ensures.value) (subst (λ (rs : List Place). AreParents rs mid.parents.items) (sym whole) c.in_ok-keep_piece.ensures.numbered.started) in
+    let woken_in : (n : ℕ) → Contains (woken_of mid.net.channels) n → Contains cs n = λ n k. subst (λ (ns : List ℕ). Contains ns n) (sym c.as_slice.ensures.value) (c.in_ok-asked.ensures.woken n k) in
+    let parent_in : (q : Place) (n : ℕ) → slice_get ps number ≡ Some q → ended_at (get t.procs q) ≡ true → slice_get parents number ≡ Some n → Contains cs n = λ q n at ended is.
+    subst (λ (ns : List ℕ). Contains ns n) (sym c.as_slice.ensures.value)
+    (c.in_ok-asked.ensures.parent P q n (stands_later P c.args.slice number s t ps qs old.history.items mid.history.items old.used kept entry able exact c.requires.able old.net.channels mid.net.channels refl of_new waking noted q at) (subst (λ (u : State Proc). ended_at (get u.procs q) ≡ true) same ended) is) in
+    let before : c.len-before.result ≡ length ps = omega (arith, length-map old.paths.items place_in, c.len-before.ensures, old.paths.ok.0) in
+    let new_in : (n : ℕ) → length ps ≤ n → n < length qs → Contains cs n = λ n high within.
+    subst (λ (ns : List ℕ). Contains ns n) (sym c.as_slice.ensures.value) (c.in_ok-asked.ensures.new n (omega (arith, high, before)) (omega (arith, within, length-map c.as_slice-paths.result.now place_in))) in
+    let others : c.leave.new.self.numbers.items ≡ others_in number able = c.leave.ensures.numbers ∙ ap (others_in number) c.in_ok-keep_piece.ensures.able in
+    let served = c.in_ok-settle_all.ensures.queue able others (candidates_whole P c.args.slice number s t ps qs old.history.items mid.history.items old.used kept entry able exact c.requires.able old.net.channels mid.net.channels refl of_new waking noted mid.used later parents started cs woken_in parent_in new_in) in
+    let ready : (n : ℕ) → Among n c.leave.new.self.numbers.items → can_at P t qs n ≡ true = subst (λ (ns : List ℕ). (n : ℕ) → Among n ns → can_at P t qs n ≡ true) (sym others) (others_ready P c.args.slice number s t ps qs old.history.items mid.history.items old.used kept entry able exact c.requires.able old.net.channels mid.net.channels refl of_new waking noted) in
+    let left = c.in_ok-settle_all.ensures.noted ready (noted_taken P c.args.slice number s t ps qs old.history.items mid.history.items old.used kept entry able exact c.requires.able old.net.channels mid.net.channels refl of_new waking noted mid.used later parents started cs woken_in parent_in new_in c.candidates.new.net.channels c.in_ok-asked.ensures.readers) in
+    let stays = c.in_ok-settle_all.ensures.state in
+    let queued : c.settle.new.able.numbers.items ≡ c.settle_all.new.able.numbers.items ++ cond (can_at P (state_of P c.settle_all.new.net) qs number) (number ∷ []) [] → c.settle.new.able.numbers.items ≡ ready_after P t qs able number = λ last.
+    queue_is P c.args.slice number s t ps qs old.history.items mid.history.items old.used kept entry able exact c.requires.able old.net.channels mid.net.channels refl of_new waking noted c.settle_all.new.able.numbers.items c.settle.new.able.numbers.items served
+    (last ∙ ap (λ (u : State Proc). c.settle_all.new.able.numbers.items ++ cond (can_at P u qs number) (number ∷ []) []) stays) in
     record {
-      history = c.in_ok-keep_piece.ensures.kept;
-      sound = c.in_ok-keep_piece.ensures.sound;
-      able = are_able c.args.program.now (state_of c.args.program.now new.net) (places_of new.paths.items) c.in_ok-order.order.items c.in_ok-self.field-0.items (c.in_ok-self.ensures ∙ ap₂ (λ (ps : List (Arc Path Global)) (ns : List ℕ). filter (can_at c.args.program.now (state_of c.args.program.now new.net) (places_of ps)) ns) c.deref-2.ensures.value c.deref-3.ensures.value)
-          (λ n low. subst (Among n) (sym c.in_ok-order.ensures) (all_in_turn number able count n (omega (arith, length-map new.paths.items place_in, c.len.ensures))))
-          (subst EachOnce (sym c.in_ok-order.ensures) (once_in_turn number able count (subst EachOnce (sym (c.deref.ensures.value ∙ c.in_ok-keep_piece.ensures.able)) c.requires.played.able.once)));
+      played = on_ok_six c.settle.result c.settle.ensures.state c.settle.ensures.queue c.settle.ensures.sound c.settle.ensures.noted c.settle.ensures.waking c.settle.ensures.marks (λ ends last sound own wakes marks.
+          let final = ends ∙ stays in
+          record {
+            history = subst (λ (u : State Proc). IsPlayedBy P mid.history.items (places_of mid.paths.items) u mid.used) (sym (final ∙ same)) c.in_ok-keep_piece.ensures.kept;
+            sound = sound;
+            able =
+                subst (λ (rs : List Place). AreAble P (state_of P c.settle.new.net) rs c.settle.new.able.numbers.items) whole
+                (subst (λ (u : State Proc). AreAble P u qs c.settle.new.able.numbers.items) (sym final)
+                (are_able P t qs (in_turn number able (length qs)) c.settle.new.able.numbers.items (queued last) (all_in_turn number able (length qs)) (once_in_turn number able (length qs) exact.once)));
+            noted =
+                subst (λ (rs : List Place). AreNoted P (state_of P c.settle.new.net) c.settle.new.net.channels rs) whole
+                (subst (λ (u : State Proc). AreNoted P u c.settle.new.net.channels qs) (sym final)
+                (noted_all P t qs number cs c.settle_all.new.net.channels c.settle.new.net.channels wakes left
+                (subst (λ (u : State Proc). (q : Place) (x : Proc) → slice_get qs number ≡ Some q → get u.procs q ≡ Some x → is_some (step P u q) ≡ false → IsNoted P c.settle.new.net.channels number x) stays own)));
+            numbered = record {
+              started = c.in_ok-keep_piece.ensures.numbered.started;
+              counted = c.in_ok-keep_piece.ensures.numbered.counted;
+              marked = marks (length (places_of mid.paths.items)) (subst (λ (rs : List Place). AreMarked (length rs) c.settle_all.new.able.marks.items c.settle_all.new.able.numbers.items) whole c.in_ok-settle_all.ensures.marks);
+            };
+          });
+      used = search rules;
+      front = search rules;
+      entry = search rules;
+      able = on_ok_two c.settle.result c.settle.ensures.queue c.settle.ensures.state (λ last ends.
+          queued last ∙ ap₂ (λ (u : State Proc) (rs : List Place). ready_after P u rs able number) (sym (ends ∙ stays)) whole);
     }

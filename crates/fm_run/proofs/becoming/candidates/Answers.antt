@@ -1,0 +1,23 @@
+use Rattle.std.proofs.Common.{ap, ◌∙◌}
+use Rattle.std.proofs.lemmas.List.Sorted.{Contains-permutation, IsNonDecreasingBy-from_sort}
+use Rattle.fm_run.specs.Readings.{procs_of}
+use Rattle.fm_run.proofs.becoming.candidates.Goals as goal
+
+pub returns-clause-state : goal.returns-clause-state
+returns-clause-state c = λ p. ap (λ m. record { procs = procs_of p c.args.net.now.processes; chans = m }) c.in_ok-numbers.ensures.channels
+
+pub returns-clause-sound : goal.returns-clause-sound
+returns-clause-sound c = λ p sound. record { held = sound.held; next = sound.next }
+
+pub returns-clause-sorted : goal.returns-clause-sorted
+returns-clause-sorted c = IsNonDecreasingBy-from_sort (λ n. n) c.sort.new.self.items c.in_ok-sort.ensures.sorted
+
+pub returns-clause-woken : goal.returns-clause-woken
+returns-clause-woken c = λ n k. Contains-permutation c.push_new.new.numbers.items c.sort.new.self.items n c.in_ok-sort.ensures.permutation (c.in_ok-push_new.ensures.kept n (c.in_ok-push_parent.ensures.kept n (c.in_ok-numbers.ensures.woken n k)))
+
+pub returns-clause-parent : goal.returns-clause-parent
+returns-clause-parent c = λ p q n at ended is.
+    Contains-permutation c.push_new.new.numbers.items c.sort.new.self.items n c.in_ok-sort.ensures.permutation (c.in_ok-push_new.ensures.kept n (c.in_ok-push_parent.ensures.parent n (c.has_ended-has_ended.ensures p q at ∙ ended) is))
+
+pub returns-clause-new : goal.returns-clause-new
+returns-clause-new c = λ n low high. Contains-permutation c.push_new.new.numbers.items c.sort.new.self.items n c.in_ok-sort.ensures.permutation (c.in_ok-push_new.ensures.new n low high)

@@ -1,0 +1,56 @@
+-- Who is noted at the channel at which it waits, and who started whom.
+-- Source: this profile.
+use Rattle.std.specs.Prelude.{◌≡◌, ◌⊎◌, ℕ, ◌<◌, ◌≤◌, false, is_some, length, slice_index_or, Contains, Option, Some, None, List, slice_get}
+use Rattle.std.specs.FinMap.{get}
+use Rattle.fm_base.specs.declared.path.ChanName.{ChanName}
+use Rattle.fm_base.specs.Channels.{Limits, Pop}
+use Rattle.fm_chan.specs.declared.channels.Channels.{Channels}
+use Rattle.fm_chan.specs.Woken.{waiting_reader, woken_of}
+use Rattle.fm_net.specs.Machine.{Place, State, Event, child}
+use Rattle.fm_rules.specs.declared.program.Program.{Program}
+use Rattle.fm_mean.specs.Outcome.{need_of}
+use Rattle.fm_mean.specs.Process.{Proc}
+use Rattle.fm_mean.specs.Steps.{step}
+use Rattle.fm_plain.specs.declared.event.Event as plain
+use Rattle.fm_plain.specs.declared.event.Event.TheVariants as event
+use Rattle.fm_plain.specs.declared.looking.Next.{Next}
+use Rattle.fm_plain.specs.declared.looking.Next.TheVariants as next
+
+-- the channel of a receive
+abbrev pub channel_received : plain.Event → Option ChanName
+channel_received (event.Fail line fault) = None
+channel_received (event.Make places writers cost next) = None
+channel_received (event.Send channel writer items next) = None
+channel_received (event.Receive channel line items iostat at_end next) = Some channel
+channel_received (event.Probe channel empty next) = None
+channel_received event.Begin = None
+channel_received (event.Join block count next) = None
+channel_received event.End = None
+
+-- the channel at which a process waits that does this next
+abbrev pub channel_waited : Next → Option ChanName
+channel_waited next.Steps = None
+channel_waited next.Rests = None
+channel_waited (next.Meets e) = channel_received e
+
+-- a process of this number that needs a message of a channel is noted there, or was woken
+abbrev pub IsNoted : Program → Channels → (number : ℕ) → Proc → Type 0
+IsNoted program channels number x = (c : ChanName) (limits : Limits) → need_of program x ≡ Some (Event c (Pop limits))
+    → (waiting_reader channels c ≡ Some number) ⊎ Contains (woken_of channels) number
+
+-- so is each that can't step, but these
+abbrev pub AreNotedBut : Program → State Proc → Channels → List Place → (but : ℕ → Type 0) → Type 0
+AreNotedBut program s channels places but = (n : ℕ) (q : Place) (x : Proc) → slice_get places n ≡ Some q → get s.procs q ≡ Some x → is_some (step program s q) ≡ false
+    → but n ⊎ IsNoted program channels n x
+
+-- the one that made the piece, or one of the list from the i-th on
+abbrev pub OwnOrLeft : (own : ℕ) → (numbers : List ℕ) → (i : ℕ) → ℕ → Type 0
+OwnOrLeft own numbers i n = (n ≡ own) ⊎ ((j : ℕ) × (i ≤ j) × (j < length numbers) × (slice_index_or numbers j n ≡ n))
+
+abbrev pub AreNoted : Program → State Proc → Channels → List Place → Type 0
+AreNoted program s channels places = AreNotedBut program s channels places (λ n. ⊥)
+
+-- the numbers of those that started the processes
+abbrev pub AreParents : List Place → (parents : List ℕ) → Type 0
+AreParents places parents = (o : ℕ) (q : Place) (b i : ℕ) → slice_get places o ≡ Some (child q b i)
+    → (m : ℕ) × (slice_get parents o ≡ Some m) × (slice_get places m ≡ Some q)
