@@ -29,6 +29,7 @@ use Rattle.fm_run.specs.Held.{HeldAreKept, MayDrop, StayBut}
 use Rattle.fm_run.proofs.Able.{served_there, fresh_there}
 use Rattle.fm_run.proofs.Balance.{held_after, may_go_on}
 use Rattle.fm_run.proofs.Performing.{InFrame, drops_these}
+use Rattle.fm_run.proofs.Waiting.{has_frame}
 
 reply_served : (m : Procs Proc) (cs : Chans) (p : Place) (kids : List Proc) (need : Need) (r : Reply Proc) → Replies cs kids need r → kids_by m p (joined_in (Some need)) ≡ Some kids → served has_ended m cs p need ≡ Some r
 reply_served m cs p kids Nothing r is all = ap Some (sym is)
@@ -161,6 +162,10 @@ module _ (program : Program) (p : Place) (x : Proc) (m : Chans) (ports : Ports) 
 
   joined_is : (i : InFrame x) (kids : List Proc) → after_join x next kids ≡ joined x i.below i.top next (kids_in x.phase) kids
   joined_is i kids = ap (in_frames x (λ below f. joined x below f next (kids_in x.phase) kids)) i.is
+
+  -- who has joined runs
+  pub joined_runs : (kids : List Proc) → (after_join x next kids).self.phase ≡ Running
+  joined_runs kids = ap (λ (o : Onward Proc). o.self.phase) (joined_is (has_frame program x (Join block (kids_in x.phase) next) does) kids)
 
   -- the block that it joins
   pub joins_block : InFrame x → joined_in (need_of program x) ≡ Some (block, length (kids_in x.phase))

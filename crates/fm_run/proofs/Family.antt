@@ -30,6 +30,10 @@ starts_more p b xs x m =
     alters_past path_order (start_changes p b 1 xs) m (child p b (length xs + 1)) (λ o. Some x) (off_before p b 1 (length xs + 1) xs (omega arith))
     ∙ sym (ap (λ ws. alters ws m) (starts_snoc p b 1 xs x) ∙ alters-append path_order (start_changes p b 1 xs) ((child p b (length xs + 1), λ o. Some x) ∷ []) m)
 
+-- the next child is as it was
+pub next_as_before : (p : Place) (b : ℕ) (xs : List Proc) (m : Procs Proc) → get (alters (start_changes p b 1 xs) m) (child p b (length xs + 1)) ≡ get m (child p b (length xs + 1))
+next_as_before p b xs m = alters_there path_order (start_changes p b 1 xs) m (child p b (length xs + 1)) (off_before p b 1 (length xs + 1) xs (omega arith))
+
 -- ---- joining
 
 children_snoc : (p : Place) (b i n : ℕ) → child_changes emptied p b i (suc n) ≡ child_changes emptied p b i n ++ (child p b (n + i), option_map emptied) ∷ []

@@ -31,3 +31,6 @@ pub mod Becomes
 pub mod Waited
 pub mod Serving
 pub mod Taking
+pub mod Born
+pub mod Families
+pub mod Phases

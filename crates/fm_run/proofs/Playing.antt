@@ -1,12 +1,9 @@
 -- Runs between two pieces, and their ends.
-use Rattle.std.proofs.Common.{◌≡◌, ℕ, ◌+◌, ◌<◌, ◌≤◌, true, Option, Some, None, List, [], ◌∷◌, ◌++◌, length, get_or, filter, replicate, refl, sym, ap, ap₂, ◌∙◌, subst, arith}
-use Rattle.std.specs.Prelude.{is_some, slice_get, option_map}
+use Rattle.std.proofs.Common.{◌≡◌, ℕ, ◌+◌, ◌<◌, ◌≤◌, true, Option, Some, None, List, [], ◌∷◌, ◌++◌, length, filter, replicate, refl, sym, ap, ap₂, ◌∙◌, subst, arith}
+use Rattle.std.specs.Prelude.{is_some, slice_get}
 use Rattle.std.specs.FinMap.{get}
 use Rattle.std.proofs.lemmas.List.{length-replicate}
-use Rattle.std.proofs.lemmas.Option.{slice_get_within, slice_get-map, slice_get-get_or}
-use Rattle.std.specs.declared.alloc.Global.{Global}
-use Rattle.std.specs.declared.sync.Arc.{Arc}
-use Rattle.fm_base.specs.declared.path.Path.{Path}
+use Rattle.std.proofs.lemmas.Option.{slice_get_within}
 use Rattle.fm_base.specs.declared.schedule.Turn.{Turn}
 use Rattle.fm_sched.specs.Schedule.{Can, cost, play, used, IsLegal, IsFinal, IsReached}
 use Rattle.fm_sched.proofs.Runs.{IsLegal-append, play-append, used-append, length-le-used, cost-Some}
@@ -26,9 +23,9 @@ use Rattle.fm_run.specs.declared.player.Player.{Player}
 use Rattle.fm_run.specs.declared.run.Ending.{Ending}
 use Rattle.fm_run.specs.declared.run.Ending.TheVariants.{Ended, Spent}
 use Rattle.fm_run.specs.declared.run.Run.{Run}
-use Rattle.fm_run.specs.Orders.{Among, EachOnce, place_in, places_of, can_in, can_at, chosen}
+use Rattle.fm_run.specs.Orders.{Among, EachOnce, places_of, can_in, can_at, chosen}
 use Rattle.fm_run.specs.Pieces.{IsPiece}
-use Rattle.fm_run.specs.Readings.{state_of}
+use Rattle.fm_run.specs.Readings.{order_of, state_of}
 use Rattle.fm_run.specs.Runs.{HaveSteps, IsFrontWithin, IsPlayedBy, AreAble, IsPlayed, EndsSo, IsRun}
 use Rattle.fm_run.proofs.Able.{steps_there}
 use Rattle.fm_run.proofs.Numbers.{among_filter, filter_among, none_chosen, once_filter}
@@ -127,6 +124,14 @@ module _ (program : Program) where
       once = subst EachOnce (sym is) (once_filter (can_at program s ps) order once);
     }
 
+    -- who can step has a number
+    pub known_place : (n : ℕ) → can_at program s ps n ≡ true → is_some (slice_get ps n) ≡ true
+    known_place n can = go (slice_get ps n) refl
+      where
+        go : (o : Option Place) → slice_get ps n ≡ o → is_some o ≡ true
+        go None is = absurd (cc (sym (ap (can_in program s) is) ∙ can))
+        go (Some p) is = refl
+
     pub who_is : (n : ℕ) → can_at program s ps n ≡ true → (p : Place) → slice_get ps n ≡ Some p → is_some (step program s p) ≡ true
     who_is n can p is = sym (ap (can_in program s) is) ∙ can
 
@@ -148,22 +153,22 @@ module _ (program : Program) where
       let at = everybody (language program) (first_proc program) kept.choices kept.legal p x (ap (λ (u : State Proc). get u.procs p) kept.there ∙ is) in
       (at.0, ap (λ qs. slice_get qs at.0) kept.places_are ∙ at.1)
 
-  pub run_ended : (turns : ℕ) (player : Player) → IsPlayed program player → player.able.numbers.items ≡ [] → player.used ≤ turns → IsFrontWithin program turns player.history.items (places_of player.paths.items) → (o : Outcome) → o ≡ outcome_of program player.used (state_of program player.net)
-      → (r : Run) → r.history ≡ player.history → r.paths ≡ player.paths → r.ending ≡ Ended o → IsRun program turns r
+  pub run_ended : (turns : ℕ) (player : Player) → IsPlayed program player → player.able.numbers.items ≡ [] → player.used ≤ turns → IsFrontWithin program turns player.history.items (order_of player.net.processes) → (o : Outcome) → o ≡ outcome_of program player.used (state_of program player.net)
+      → (r : Run) → r.history ≡ player.history → places_of r.paths.items ≡ order_of player.net.processes → r.ending ≡ Ended o → IsRun program turns r
   run_ended turns player played none within front o o_is r h p e =
       let k = played.history in
       let s = state_of program player.net in
-      let ps = places_of player.paths.items in
+      let ps = order_of player.net.processes in
       let final : IsFinal (step program) s = nobody_can s ps (subst (λ (ns : List ℕ). AreAble program s ps ns) none played.able) (started_all player.history.items ps s player.used k) in
       record {
         choices = k.choices;
-        kept = ap (λ v. choices_of v.items (places_of r.paths.items)) h ∙ ap (λ v. choices_of player.history.items (places_of v.items)) p ∙ k.kept;
-        places = ap (λ v. places_of v.items) p ∙ k.places_are;
+        kept = ap (λ v. choices_of v.items (places_of r.paths.items)) h ∙ ap (λ (ps : List Place). choices_of player.history.items ps) p ∙ k.kept;
+        places = p ∙ k.places_are;
         legal = k.legal;
         some_steps = subst HaveSteps (ap (λ v. v.items) (sym h)) k.some_steps;
         front_within =
             subst (λ (ts : List Turn). IsFrontWithin program turns ts (places_of r.paths.items)) (ap (λ v. v.items) (sym h))
-            (subst (λ (qs : List Place). IsFrontWithin program turns player.history.items qs) (ap (λ v. places_of v.items) (sym p)) front);
+            (subst (λ (qs : List Place). IsFrontWithin program turns player.history.items qs) (sym p) front);
         ends = subst (λ (z : Ending). EndsSo program turns k.choices z) (sym e) (
           subst (IsFinal (step program)) (sym k.there) final,
           omega (arith, k.used_is),
@@ -171,18 +176,22 @@ module _ (program : Program) where
         );
       }
 
-  pub run_spent : (turns : ℕ) (player : Player) → IsPlayed program player → turns < player.used → IsFrontWithin program turns player.history.items (places_of player.paths.items) → (r : Run) → r.history ≡ player.history → r.paths ≡ player.paths → r.ending ≡ Spent → IsRun program turns r
+  -- main is the first one
+  pub main_first : (hs : List Turn) (ps : List Place) (s : State Proc) (paid : ℕ) → IsPlayedBy program hs ps s paid → slice_get ps 0 ≡ Some []
+  main_first hs ps s paid kept = ap (λ (qs : List Place). slice_get qs 0) kept.places_are
+
+  pub run_spent : (turns : ℕ) (player : Player) → IsPlayed program player → turns < player.used → IsFrontWithin program turns player.history.items (order_of player.net.processes) → (r : Run) → r.history ≡ player.history → places_of r.paths.items ≡ order_of player.net.processes → r.ending ≡ Spent → IsRun program turns r
   run_spent turns player played over front r h p e =
       let k = played.history in
       record {
         choices = k.choices;
-        kept = ap (λ v. choices_of v.items (places_of r.paths.items)) h ∙ ap (λ v. choices_of player.history.items (places_of v.items)) p ∙ k.kept;
-        places = ap (λ v. places_of v.items) p ∙ k.places_are;
+        kept = ap (λ v. choices_of v.items (places_of r.paths.items)) h ∙ ap (λ (ps : List Place). choices_of player.history.items ps) p ∙ k.kept;
+        places = p ∙ k.places_are;
         legal = k.legal;
         some_steps = subst HaveSteps (ap (λ v. v.items) (sym h)) k.some_steps;
         front_within =
             subst (λ (ts : List Turn). IsFrontWithin program turns ts (places_of r.paths.items)) (ap (λ v. v.items) (sym h))
-            (subst (λ (qs : List Place). IsFrontWithin program turns player.history.items qs) (ap (λ v. places_of v.items) (sym p)) front);
+            (subst (λ (qs : List Place). IsFrontWithin program turns player.history.items qs) (sym p) front);
         ends = subst (λ (z : Ending). EndsSo program turns k.choices z) (sym e) (omega (arith, k.used_is));
       }
 
@@ -190,7 +199,3 @@ module _ (program : Program) where
 pub none_left : (choice : Option ℕ) (able : List ℕ) (o : Option ℕ) → o ≡ chosen choice able → ((n : ℕ) → o ≡ Some n → ⊥) → able ≡ []
 none_left choice able None told none = none_chosen choice able (sym told)
 none_left choice able (Some n) told none = absurd (none n refl)
-
--- a path that was read is the place of its number
-pub stands : (paths : List (Arc Path Global)) (n : ℕ) (a : Arc Path Global) → n < length paths → a ≡ get_or paths n a → slice_get (places_of paths) n ≡ Some (place_in a)
-stands paths n a low e = slice_get-map place_in paths n ∙ ap (option_map place_in) (slice_get-get_or paths n a low ∙ ap Some (sym e))

@@ -17,6 +17,14 @@ pub if_ok_three : {T E : Type 0} {A : Type 0} {B C D : T → Type 0} (r : Result
 if_ok_three (Ok x) a b c f = f x a b c
 if_ok_three (Err e) a b c f = tt
 
-pub on_ok_six : {T E : Type 0} {A B C D F G H : Type 0} (r : Result T E) → OnOk r A → OnOk r B → OnOk r C → OnOk r D → OnOk r F → OnOk r G → (A → B → C → D → F → G → H) → OnOk r H
-on_ok_six (Ok x) a b c d f g h = h a b c d f g
-on_ok_six (Err e) a b c d f g h = tt
+pub on_ok_four : {T E : Type 0} {A B C D F : Type 0} (r : Result T E) → OnOk r A → OnOk r B → OnOk r C → OnOk r D → (A → B → C → D → F) → OnOk r F
+on_ok_four (Ok x) a b c d f = f a b c d
+on_ok_four (Err e) a b c d f = tt
+
+pub on_ok_if : {T E : Type 0} {A : Type 0} {B C : T → Type 0} (r : Result T E) → OnOk r A → IfOk r B → ((x : T) → A → B x → C x) → IfOk r C
+on_ok_if (Ok x) a b f = f x a b
+on_ok_if (Err e) a b f = tt
+
+pub on_ok_seven : {T E : Type 0} {A B C D F G H I : Type 0} (r : Result T E) → OnOk r A → OnOk r B → OnOk r C → OnOk r D → OnOk r F → OnOk r G → OnOk r H → (A → B → C → D → F → G → H → I) → OnOk r I
+on_ok_seven (Ok x) a b c d f g h i = i a b c d f g h
+on_ok_seven (Err e) a b c d f g h i = tt

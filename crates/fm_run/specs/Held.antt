@@ -1,25 +1,24 @@
 -- The ports that processes hold are kept, each under its value.
 -- Source: this profile.
-use Rattle.std.specs.Prelude.{◌≡◌, ◌≢◌, ◌⊎◌, ◌≤◌, Some, List, ◌++◌}
+use Rattle.std.specs.Prelude.{◌≡◌, ◌≢◌, ◌⊎◌, ◌≤◌, ◌<◌, ◌+◌, ℕ, Some, List, ◌++◌, length, slice_get}
 use Rattle.std.specs.FinMap.{get}
 use Rattle.fm_base.specs.declared.path.ChanName.{ChanName}
 use Rattle.fm_base.specs.declared.port.PortValue.{PortValue}
-use Rattle.fm_base.specs.PathOrder.{path_cmp}
 use Rattle.fm_base.specs.Channels.{ChannelOp}
-use Rattle.fm_maps.specs.Map.{map_of}
 use Rattle.fm_maps.specs.Sums.{total}
-use Rattle.fm_net.specs.Machine.{Place, Procs, Need, Event, Reply, Onward, made}
+use Rattle.fm_net.specs.Machine.{Place, Procs, Need, Event, Reply, Onward, child, made}
 use Rattle.fm_net.specs.Lawful.{holds, port_of, got, given_by, made_by}
 use Rattle.fm_net.specs.Owned.{count}
 use Rattle.fm_rules.specs.declared.program.Program.{Program}
-use Rattle.fm_mean.specs.Process.{Proc}
+use Rattle.fm_numbered.specs.Rows.{numbered_map}
+use Rattle.fm_mean.specs.Process.{Joining, Kid, Phase, Proc}
 use Rattle.fm_mean.specs.Steps.{language}
 use Rattle.fm_plain.specs.Looking.{IsNext}
 use Rattle.fm_run.specs.declared.ports.Ports.{Ports}
 use Rattle.fm_run.specs.declared.processes.Slot.{Slot}
 use Rattle.fm_run.specs.declared.processes.Processes.{Processes}
 use Rattle.fm_run.specs.declared.processes.Net.{Net}
-use Rattle.fm_run.specs.Readings.{kept, proc_in, procs_of}
+use Rattle.fm_run.specs.Readings.{kept, order_of, proc_in, procs_of}
 
 -- the port is kept under its value
 abbrev pub IsKept : Ports → PortValue → Type 0
@@ -70,13 +69,29 @@ HeldAreKept program ports m = (z : PortValue) → 1 ≤ total (holds (language p
 
 -- what each process does next is told
 abbrev pub AreLookedAt : Program → Processes → Type 0
-AreLookedAt program x = (q : Place) (s : Slot) → get (map_of path_cmp x.by_path) q ≡ Some s → IsNext program (proc_in program s) s.next
+AreLookedAt program x = (q : Place) (s : Slot) → get (numbered_map x.slots) q ≡ Some s → IsNext program (proc_in program s) s.next
 
 -- what each process but that at one place does next is told
 abbrev pub AreLookedAtBut : Program → (own : Place) → Processes → Type 0
-AreLookedAtBut program own x = (q : Place) (s : Slot) → q ≢ own → get (map_of path_cmp x.by_path) q ≡ Some s → IsNext program (proc_in program s) s.next
+AreLookedAtBut program own x = (q : Place) (s : Slot) → q ≢ own → get (numbered_map x.slots) q ≡ Some s → IsNext program (proc_in program s) s.next
+
+-- so many children of a block have numbers one behind the other, the first one this
+abbrev pub AreChildren : (places : List Place) → (first : ℕ) → Place → (block count : ℕ) → Type 0
+AreChildren places first p b n = (i : ℕ) → i < n → slice_get places (first + i) ≡ Some (child p b (i + 1))
+
+-- so have the children for which a process in this phase waits
+abbrev pub HasFamily : (places : List Place) → Place → Phase → (first : ℕ) → Type 0
+HasFamily places p phase first = (b : ℕ) (kids : List Kid) → phase ≡ Joining b kids → AreChildren places first p b (length kids)
+
+-- the first child of each is told
+abbrev pub AreFamilies : Program → Processes → Type 0
+AreFamilies program x = (q : Place) (s : Slot) → get (numbered_map x.slots) q ≡ Some s → HasFamily (order_of x) q (proc_in program s).phase s.first_child
+
+abbrev pub AreFamiliesBut : Program → (own : Place) → Processes → Type 0
+AreFamiliesBut program own x = (q : Place) (s : Slot) → q ≢ own → get (numbered_map x.slots) q ≡ Some s → HasFamily (order_of x) q (proc_in program s).phase s.first_child
 
 -- between two pieces
 pub record IsSound (program : Program) (net : Net) : Type 0 where
   pub held : HeldAreKept program net.ports (procs_of program net.processes)
   pub next : AreLookedAt program net.processes
+  pub families : AreFamilies program net.processes

@@ -1,13 +1,15 @@
 -- The processes, channels and ports in memory as the meaning's state, and the ports by their values.
 -- Source: this profile.
-use Rattle.std.specs.Prelude.{Option}
+use Rattle.std.specs.Prelude.{◌≡◌, Option, Some, List}
+use Rattle.std.specs.Arc.{arc_value}
 use Rattle.std.specs.FinMap.{get}
 use Rattle.fm_base.specs.declared.port.PortValue.{PortValue}
 use Rattle.fm_base.specs.declared.port.PortValue.TheVariants.{Writer, Reader}
-use Rattle.fm_base.specs.PathOrder.{path_cmp, channel_cmp}
+use Rattle.fm_base.specs.PathOrder.{channel_cmp}
 use Rattle.fm_chan.specs.Bodies.{chans_of}
 use Rattle.fm_maps.specs.Map.{map_of, map_values}
-use Rattle.fm_net.specs.Machine.{Procs, State}
+use Rattle.fm_numbered.specs.Rows.{numbered_map, place_at, places}
+use Rattle.fm_net.specs.Machine.{Place, Procs, State}
 use Rattle.fm_rules.specs.declared.program.Program.{Program}
 use Rattle.fm_mean.specs.Outports.{outport_cmp}
 use Rattle.fm_mean.specs.Process.{Proc}
@@ -15,6 +17,7 @@ use Rattle.fm_frame.specs.Frames.{proc_of}
 use Rattle.fm_run.specs.declared.ports.Ports.{Ports}
 use Rattle.fm_run.specs.declared.processes.Slot.{Slot}
 use Rattle.fm_run.specs.declared.processes.Processes.{Processes}
+use Rattle.fm_run.specs.declared.processes.Actor.{Actor}
 use Rattle.fm_run.specs.declared.processes.Net.{Net}
 
 abbrev pub proc_in : Program → Slot → Proc
@@ -22,7 +25,18 @@ proc_in program s = proc_of program s.process
 
 -- the processes by their paths
 unfoldable pub procs_of : Program → Processes → Procs Proc
-procs_of program x = map_values (proc_in program) (map_of path_cmp x.by_path)
+procs_of program x = map_values (proc_in program) (numbered_map x.slots)
+
+-- their places, in the order of their numbers
+abbrev pub order_of : Processes → List Place
+order_of x = places x.slots
+
+abbrev pub actor_place : Actor → Place
+actor_place a = arc_value a.path
+
+-- the number of a process is that of its path
+abbrev pub IsActor : Processes → Actor → Type 0
+IsActor x a = place_at x.slots a.number ≡ Some (actor_place a)
 
 abbrev pub state_of : Program → Net → State Proc
 state_of program n = record { procs = procs_of program n.processes; chans = chans_of n.channels }

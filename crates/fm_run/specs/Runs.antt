@@ -17,7 +17,7 @@ use Rattle.fm_run.specs.Noted.{AreNoted, AreParents}
 use Rattle.fm_run.specs.Orders.{Among, AreMarked, EachOnce, places_of, can_at, chosen, ready_first, ready_after}
 use Rattle.fm_run.specs.Held.{IsSound}
 use Rattle.fm_run.specs.Pieces.{IsFull}
-use Rattle.fm_run.specs.Readings.{state_of}
+use Rattle.fm_run.specs.Readings.{order_of, state_of}
 
 -- each entry has at least one step
 abbrev pub HaveSteps : List Turn → Type 0
@@ -48,16 +48,16 @@ pub record AreAble (program : Program) (s : State Proc) (places : List Place) (a
 
 -- the processes have numbers: who started each is told, and whether each is in the queue
 pub record AreNumbered (player : Player) : Type 0 where
-  pub started : AreParents (places_of player.paths.items) player.parents.items
-  pub counted : length player.parents.items ≡ length (places_of player.paths.items)
-  pub marked : AreMarked (length (places_of player.paths.items)) player.able.marks.items player.able.numbers.items
+  pub started : AreParents (order_of player.net.processes) player.parents.items
+  pub counted : length player.parents.items ≡ length (order_of player.net.processes)
+  pub marked : AreMarked (length (order_of player.net.processes)) player.able.marks.items player.able.numbers.items
 
 -- a run between two pieces
 pub record IsPlayed (program : Program) (player : Player) : Type 0 where
-  pub history : IsPlayedBy program player.history.items (places_of player.paths.items) (state_of program player.net) player.used
-  pub able : AreAble program (state_of program player.net) (places_of player.paths.items) player.able.numbers.items
+  pub history : IsPlayedBy program player.history.items (order_of player.net.processes) (state_of program player.net) player.used
+  pub able : AreAble program (state_of program player.net) (order_of player.net.processes) player.able.numbers.items
   pub sound : IsSound program player.net
-  pub noted : AreNoted program (state_of program player.net) player.net.channels (places_of player.paths.items)
+  pub noted : AreNoted program (state_of program player.net) player.net.channels (order_of player.net.processes)
   pub numbered : AreNumbered player
 
 -- ---- a run that follows its choices
@@ -70,7 +70,7 @@ pub record Stand : Type 0 where
   pub able : List ℕ
 
 abbrev pub stand_of : Program → Player → Stand
-stand_of program player = record { state = state_of program player.net; places = places_of player.paths.items; able = player.able.numbers.items }
+stand_of program player = record { state = state_of program player.net; places = order_of player.net.processes; able = player.able.numbers.items }
 
 -- main has started, and can step or can't
 abbrev pub first_stand : Program → Stand

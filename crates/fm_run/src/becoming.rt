@@ -13,18 +13,19 @@ ghost use Rattle.fm_rules.specs.declared.program.Program as declared;
 ghost use Rattle.fm_mean.specs.Outcome.{ended_at};
 ghost use Rattle.fm_mean.specs.Process.{Proc};
 ghost use Rattle.fm_mean.specs.Steps.{language, step};
+ghost use Rattle.fm_numbered.specs.Rows.{place_at};
 ghost use Rattle.fm_run.specs.Held.{IsSound};
 ghost use Rattle.fm_run.specs.Noted.{AreNotedBut, IsNoted, OwnOrLeft};
-ghost use Rattle.fm_run.specs.Orders.{Among, AreMarked, can_at, newly, others_in, places_of};
-ghost use Rattle.fm_run.specs.Readings.{procs_of, state_of};
+ghost use Rattle.fm_run.specs.Orders.{Among, AreMarked, can_at, newly, others_in};
+ghost use Rattle.fm_run.specs.Readings.{order_of, procs_of, state_of};
 
-use crate::orders::{Queue, is_able};
+use crate::orders::Queue;
 use crate::processes::Net;
-use fm_base::{NoMemory, Path};
+use crate::ready::can_step;
+use fm_base::NoMemory;
 use fm_chan::Channels;
 use fm_rules::Program;
 use std::alloc::Global;
-use std::sync::Arc;
 
 // All who were woken. Nobody is then any more.
 fn take_woken(alloc: Global, channels: &mut Channels) -> Result<Vec<u32>, NoMemory>
@@ -46,16 +47,6 @@ fn push_if(numbers: &mut Vec<u32>, number: u32, is_wanted: bool) -> Result<(), N
         numbers.push(number)?;
     }
     Ok(())
-}
-
-// Whether the process of a number has ended.
-fn has_ended(net: &Net, paths: &[Arc<Path>], number: u32) -> bool
-    ensures { (p : declared.Program) (q : Place) → slice_get (places_of paths.now) number ≡ Some q → result ≡ ended_at (get (procs_of p net.now.processes) q) }
-{
-    match paths.get(number as usize) {
-        Some(path) => net.processes.has_ended(path),
-        None => false,
-    }
 }
 
 // The one that started the process of a number, where it's wanted.
@@ -94,72 +85,67 @@ fn push_new(numbers: &mut Vec<u32>, from: usize, to: usize) -> Result<(), NoMemo
 pub(crate) fn candidates(
     alloc: Global,
     net: &mut Net,
-    paths: &[Arc<Path>],
     parents: &[u32],
     number: u32,
     before: usize,
 ) -> Result<Vec<u32>, NoMemory>
+    ensures processes { OnOk result (net.new.processes ≡ net.old.processes) }
     ensures state { OnOk result ((p : declared.Program) → state_of p net.new ≡ state_of p net.old) }
     ensures sound { OnOk result ((p : declared.Program) → IsSound p net.old → IsSound p net.new) }
     ensures readers { OnOk result ((c : declared_channel.ChanName) → waiting_reader net.new.channels c ≡ waiting_reader net.old.channels c) }
     ensures sorted { IfOk result (λ v. IsNonDecreasing v.items) }
     ensures woken { IfOk result (λ v. (n : ℕ) → Contains (woken_of net.old.channels) n → Contains v.items n) }
-    ensures parent { IfOk result (λ v. (p : declared.Program) (q : Place) (n : ℕ) → slice_get (places_of paths.now) number ≡ Some q → ended_at (get (procs_of p net.old.processes) q) ≡ true → slice_get parents.now number ≡ Some n → Contains v.items n) }
-    ensures new { IfOk result (λ v. (n : ℕ) → before ≤ n → n < length paths.now → Contains v.items n) }
+    ensures parent { IfOk result (λ v. (p : declared.Program) (q : Place) (n : ℕ) → place_at net.old.processes.slots number ≡ Some q → ended_at (get (procs_of p net.old.processes) q) ≡ true → slice_get parents.now number ≡ Some n → Contains v.items n) }
+    ensures new { IfOk result (λ v. (n : ℕ) → before ≤ n → n < length (order_of net.old.processes) → Contains v.items n) }
 {
     let mut numbers = take_woken(alloc, &mut net.channels)?;
-    let has_ended = has_ended(net, paths, number);
+    let has_ended = net.processes.has_ended(number);
     push_parent(&mut numbers, parents, number, has_ended)?;
-    push_new(&mut numbers, before, paths.len())?;
+    push_new(&mut numbers, before, net.processes.slots.len())?;
     numbers.sort()?;
     Ok(numbers)
 }
 
 /// The process of a number goes behind the others where it can step, and is noted where it waits.
 pub(crate) fn settle(
-    alloc: Global,
     net: &mut Net,
     program: &Program,
-    paths: &[Arc<Path>],
     able: &mut Queue,
     number: u32,
 ) -> Result<(), NoMemory>
     requires owned { IsOwned (language program.now) (state_of program.now net.old) }
     requires sound { IsSound program.now net.old }
-    ensures queue { OnOk result (able.new.numbers.items ≡ able.old.numbers.items ++ cond (can_at program.now (state_of program.now net.old) (places_of paths.now) number) (number ∷ []) []) }
+    ensures queue { OnOk result (able.new.numbers.items ≡ able.old.numbers.items ++ cond (can_at program.now (state_of program.now net.old) (order_of net.old.processes) number) (number ∷ []) []) }
     ensures marks { OnOk result ((count : ℕ) → AreMarked count able.old.marks.items able.old.numbers.items → AreMarked count able.new.marks.items able.new.numbers.items) }
+    ensures processes { OnOk result (net.new.processes ≡ net.old.processes) }
     ensures state { OnOk result (state_of program.now net.new ≡ state_of program.now net.old) }
     ensures sound { OnOk result (IsSound program.now net.new) }
     ensures waking { OnOk result (WakesAll net.old.channels net.new.channels) }
-    ensures noted { OnOk result ((q : Place) (x : Proc) → slice_get (places_of paths.now) number ≡ Some q → get (procs_of program.now net.old.processes) q ≡ Some x → is_some (step program.now (state_of program.now net.old) q) ≡ false → IsNoted program.now net.new.channels number x) }
+    ensures noted { OnOk result ((q : Place) (x : Proc) → place_at net.old.processes.slots number ≡ Some q → get (procs_of program.now net.old.processes) q ≡ Some x → is_some (step program.now (state_of program.now net.old) q) ≡ false → IsNoted program.now net.new.channels number x) }
 {
-    if is_able(alloc, net, program, paths, number)? {
+    if can_step(net, program, number)? {
         return able.put(number);
     }
-    match paths.get(number as usize) {
-        Some(path) => net.note(program, path, number),
-        None => Ok(()),
-    }
+    net.note(program, number)
 }
 
 // A candidate is settled, unless it's the one that made the piece or is in the queue.
 fn ask(
-    alloc: Global,
     net: &mut Net,
     program: &Program,
-    paths: &[Arc<Path>],
     able: &mut Queue,
     own: u32,
     number: u32,
 ) -> Result<(), NoMemory>
     requires owned { IsOwned (language program.now) (state_of program.now net.old) }
     requires sound { IsSound program.now net.old }
-    ensures queue { OnOk result (able.new.numbers.items ≡ able.old.numbers.items ++ cond ((not (number == own) && not (slice_index_or able.old.marks.items number false)) && can_at program.now (state_of program.now net.old) (places_of paths.now) number) (number ∷ []) []) }
+    ensures queue { OnOk result (able.new.numbers.items ≡ able.old.numbers.items ++ cond ((not (number == own) && not (slice_index_or able.old.marks.items number false)) && can_at program.now (state_of program.now net.old) (order_of net.old.processes) number) (number ∷ []) []) }
     ensures marks { OnOk result ((count : ℕ) → AreMarked count able.old.marks.items able.old.numbers.items → AreMarked count able.new.marks.items able.new.numbers.items) }
+    ensures processes { OnOk result (net.new.processes ≡ net.old.processes) }
     ensures state { OnOk result (state_of program.now net.new ≡ state_of program.now net.old) }
     ensures sound { OnOk result (IsSound program.now net.new) }
     ensures waking { OnOk result (WakesAll net.old.channels net.new.channels) }
-    ensures noted { OnOk result (number ≢ own → slice_index_or able.old.marks.items number false ≡ false → (q : Place) (x : Proc) → slice_get (places_of paths.now) number ≡ Some q → get (procs_of program.now net.old.processes) q ≡ Some x → is_some (step program.now (state_of program.now net.old) q) ≡ false → IsNoted program.now net.new.channels number x) }
+    ensures noted { OnOk result (number ≢ own → slice_index_or able.old.marks.items number false ≡ false → (q : Place) (x : Proc) → place_at net.old.processes.slots number ≡ Some q → get (procs_of program.now net.old.processes) q ≡ Some x → is_some (step program.now (state_of program.now net.old) q) ≡ false → IsNoted program.now net.new.channels number x) }
 {
     if number == own {
         return Ok(());
@@ -167,15 +153,13 @@ fn ask(
     if able.contains(number) {
         return Ok(());
     }
-    settle(alloc, net, program, paths, able, number)
+    settle(net, program, able, number)
 }
 
 /// The candidates that became able go behind the others, in the order of starting, and those that wait are noted.
 pub(crate) fn settle_all(
-    alloc: Global,
     net: &mut Net,
     program: &Program,
-    paths: &[Arc<Path>],
     able: &mut Queue,
     own: u32,
     candidates: &[u32],
@@ -183,18 +167,19 @@ pub(crate) fn settle_all(
     requires owned { IsOwned (language program.now) (state_of program.now net.old) }
     requires sound { IsSound program.now net.old }
     requires sorted { IsNonDecreasing candidates.now }
-    requires marked { AreMarked (length (places_of paths.now)) able.old.marks.items able.old.numbers.items }
-    ensures queue { OnOk result ((old : List ℕ) → able.old.numbers.items ≡ others_in own old → ((n : ℕ) → newly (can_at program.now (state_of program.now net.old) (places_of paths.now)) own old n ≡ true → Contains candidates.now n)
-        → able.new.numbers.items ≡ others_in own old ++ filter (newly (can_at program.now (state_of program.now net.old) (places_of paths.now)) own old) (range_with_len 0 (length (places_of paths.now)))) }
-    ensures marks { OnOk result (AreMarked (length (places_of paths.now)) able.new.marks.items able.new.numbers.items) }
+    requires marked { AreMarked (length (order_of net.old.processes)) able.old.marks.items able.old.numbers.items }
+    ensures queue { OnOk result ((old : List ℕ) → able.old.numbers.items ≡ others_in own old → ((n : ℕ) → newly (can_at program.now (state_of program.now net.old) (order_of net.old.processes)) own old n ≡ true → Contains candidates.now n)
+        → able.new.numbers.items ≡ others_in own old ++ filter (newly (can_at program.now (state_of program.now net.old) (order_of net.old.processes)) own old) (range_with_len 0 (length (order_of net.old.processes)))) }
+    ensures marks { OnOk result (AreMarked (length (order_of net.old.processes)) able.new.marks.items able.new.numbers.items) }
+    ensures processes { OnOk result (net.new.processes ≡ net.old.processes) }
     ensures state { OnOk result (state_of program.now net.new ≡ state_of program.now net.old) }
     ensures sound { OnOk result (IsSound program.now net.new) }
-    ensures noted { OnOk result (((n : ℕ) → Among n able.old.numbers.items → can_at program.now (state_of program.now net.old) (places_of paths.now) n ≡ true)
-        → AreNotedBut program.now (state_of program.now net.old) net.old.channels (places_of paths.now) (OwnOrLeft own candidates.now 0)
-        → AreNotedBut program.now (state_of program.now net.old) net.new.channels (places_of paths.now) (OwnOrLeft own candidates.now (length candidates.now))) }
+    ensures noted { OnOk result (((n : ℕ) → Among n able.old.numbers.items → can_at program.now (state_of program.now net.old) (order_of net.old.processes) n ≡ true)
+        → AreNotedBut program.now (state_of program.now net.old) net.old.channels (order_of net.old.processes) (OwnOrLeft own candidates.now 0)
+        → AreNotedBut program.now (state_of program.now net.old) net.new.channels (order_of net.old.processes) (OwnOrLeft own candidates.now (length candidates.now))) }
 {
     'candidates: for number in candidates {
-        ask(alloc, net, program, paths, able, own, *number)?;
+        ask(net, program, able, own, *number)?;
     }
     Ok(())
 }

@@ -248,8 +248,9 @@ impl Processes {
         ensures { IfOk result (λ m. map_of outport_cmp m ≡ from_entries (holdings (procs_of program.now self.now))) }
     {
         let mut all = Map::new(alloc);
-        'processes: for (path, slot) in self.by_path.iter() {
-            put_process(alloc, program, &mut all, path, &slot.process)?;
+        let rows = self.slots.in_path_order(alloc)?;
+        'processes: for row in &rows {
+            put_process(alloc, program, &mut all, row.0, &row.1.process)?;
         }
         Ok(all)
     }

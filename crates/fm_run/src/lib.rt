@@ -4,8 +4,9 @@
 //! piece of a run is so many local steps of one process, and then one event, if it comes to one that it
 //! can do (`make_piece`); the run is a list of pieces, each of the process that its choice tells among
 //! those that can step, in the order in which they are served (`run_program`).
-//! The runner keeps each port that a process holds under its value, and what each process does next
-//! (`IsSound`). That a process can step at all, that its channels and ports are there, and that the name of a
+//! Processes are kept by number, in the order of starting (`Processes`). The runner keeps each port that a
+//! process holds under its value, what each process does next, and the number of the first of the children
+//! that it waits for (`IsSound`). That a process can step at all, that its channels and ports are there, and that the name of a
 //! new channel is new, follow from the laws of the meaning: no premise is on the program.
 #![tactic(auto)]
 
@@ -26,6 +27,6 @@ mod step;
 
 pub use pieces::{Piece, make_piece};
 pub use ports::Ports;
-pub use processes::{Net, Processes, Slot};
+pub use processes::{Actor, Net, Processes, Slot};
 pub use ready::can_step;
 pub use run::{Ending, Run, run_program};

@@ -1,19 +1,11 @@
 //! Who can step, and in which order they are served.
 
 ghost use Rattle.std.specs.Prelude.{◌≡◌, ◌<◌, ◌≤◌, ◌++◌, ◌∷◌, ◌==◌, ◌&&◌, ◌||◌, ℕ, not, false, [], length, slice_index_or, IfOk, OnOk};
-ghost use Rattle.fm_net.specs.Owned.{IsOwned};
-ghost use Rattle.fm_mean.specs.Steps.{language};
-ghost use Rattle.fm_run.specs.Held.{IsSound};
-ghost use Rattle.fm_run.specs.Readings.{state_of};
-ghost use Rattle.fm_run.specs.Orders.{Among, AreMarked, EachOnce, IsPlaceOf, places_of, can_at, chosen, others_in};
+ghost use Rattle.fm_run.specs.Orders.{Among, AreMarked, EachOnce, IsPlaceOf, chosen, others_in};
 
-use crate::processes::Net;
-use crate::ready::can_step;
-use fm_base::{NoMemory, Path};
-use fm_rules::Program;
+use fm_base::NoMemory;
 use std::alloc::Global;
 use std::collections::VecDeque;
-use std::sync::Arc;
 
 /// The numbers of those that can step, in the order in which they are served, and a mark for each process
 /// that is among them.
@@ -37,24 +29,6 @@ pub(crate) fn chosen(able: &VecDeque<u32>, choice: Option<u64>) -> Option<u32>
         None => 0,
     };
     Some(able[place as usize])
-}
-
-/// Whether the process of a number can step.
-pub(crate) fn is_able(
-    alloc: Global,
-    net: &Net,
-    program: &Program,
-    paths: &[Arc<Path>],
-    number: u32,
-) -> Result<bool, NoMemory>
-    requires owned { IsOwned (language program.now) (state_of program.now net.now) }
-    requires sound { IsSound program.now net.now }
-    ensures { IfOk result (λ r. r ≡ can_at program.now (state_of program.now net.now) (places_of paths.now) number) }
-{
-    match paths.get(number as usize) {
-        Some(path) => can_step(alloc, net, program, path),
-        None => Ok(false),
-    }
 }
 
 fn mark(marks: &mut Vec<bool>, number: u32)

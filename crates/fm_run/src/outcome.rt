@@ -1,6 +1,6 @@
 //! What a run shows when it has ended.
 
-ghost use Rattle.std.specs.Prelude.{◌≡◌, ◌++◌, ◌∷◌, [], map, option_map, IfOk, OnOk};
+ghost use Rattle.std.specs.Prelude.{◌≡◌, ◌++◌, ◌∷◌, ℕ, Some, [], map, option_map, IfOk, OnOk};
 ghost use Rattle.std.specs.List.{flat_map};
 ghost use Rattle.std.specs.FinMap.{entries};
 ghost use Rattle.std.specs.Option.{option_copied};
@@ -13,13 +13,15 @@ ghost use Rattle.fm_mean.specs.Outcome.{lines_at, fault_at, awaited, line_at, li
 ghost use Rattle.fm_frame.specs.Frames.{proc_of};
 ghost use Rattle.fm_plain.specs.Events.{event_by};
 ghost use Rattle.fm_plain.specs.Looking.{IsNext};
-ghost use Rattle.fm_run.specs.Held.{AreLookedAt};
-ghost use Rattle.fm_run.specs.Readings.{proc_in, procs_of, state_of};
+ghost use Rattle.fm_net.specs.Machine.{Place};
+ghost use Rattle.fm_numbered.specs.Rows.{place_at};
+ghost use Rattle.fm_run.specs.Held.{AreChildren, AreFamilies, AreLookedAt, HasFamily};
+ghost use Rattle.fm_run.specs.Readings.{order_of, proc_in, procs_of, state_of};
 ghost use Rattle.fm_run.specs.Shown.{line_of_frame};
 
 use crate::holders::holders;
 use crate::processes::{Net, Processes, Slot};
-use crate::ready::{child_path, kid_count};
+use crate::ready::{Family, number_behind};
 use crate::shown::shown_all;
 use fm_base::{Line, NoMemory, Path, Seq};
 use fm_frame::{Frame, Phase, PlainProc, UnitView};
@@ -94,43 +96,41 @@ fn join_of(child: Option<Path>) -> Option<At>
 }
 
 impl Processes {
-    // The first of so many children of a block that hasn't ended.
-    fn awaited(
-        &self,
-        alloc: Global,
-        path: &Path,
-        block: u32,
-        count: usize,
-    ) -> Result<Option<Path>, NoMemory>
-        ensures { IfOk result (λ o. (p : declared.Program) → o ≡ awaited (procs_of p self.now) path.now block 1 count) }
+    // A copy of the path of a number.
+    fn path_of(&self, alloc: Global, number: u32) -> Result<Option<Path>, NoMemory>
+        ensures { IfOk result (λ o. o ≡ place_at self.now.slots number) }
     {
-        'children: for place in 0..count {
-            let child = child_path(alloc, path, block, place)?;
-            if !self.has_ended(&child) {
-                return Ok(Some(child));
+        match self.slots.path(number) {
+            Some(path) => Ok(Some(path.copy(alloc)?)),
+            None => Ok(None),
+        }
+    }
+
+    // The first of children that hasn't ended.
+    fn awaited(&self, alloc: Global, family: Family) -> Result<Option<Path>, NoMemory>
+        ensures { IfOk result (λ o. (p : declared.Program) (q : Place) (b : ℕ) → AreChildren (order_of self.now) family.first q b family.count → o ≡ awaited (procs_of p self.now) q b 1 family.count) }
+    {
+        'children: for place in 0..family.count {
+            let number = number_behind(family.first, place)?;
+            if !self.has_ended(number) {
+                return self.path_of(alloc, number);
             }
         }
         Ok(None)
     }
 
     // What a process waits for that stands at this event, where it waits.
-    fn waits_at(
-        &self,
-        alloc: Global,
-        path: &Path,
-        process: &PlainProc,
-        event: &Event,
-    ) -> Result<Option<At>, NoMemory>
-        ensures { IfOk result (λ o. (p : declared.Program) → action_of p (proc_of p process.now) ≡ action.Meets (event_by (proc_of p process.now).phase event.now) →
-            o ≡ waits_by (procs_of p self.now) path.now (need_of p (proc_of p process.now))) }
+    fn waits_at(&self, alloc: Global, slot: &Slot, event: &Event) -> Result<Option<At>, NoMemory>
+        ensures { IfOk result (λ o. (p : declared.Program) (q : Place) → HasFamily (order_of self.now) q (proc_in p slot.now).phase slot.now.first_child →
+            action_of p (proc_in p slot.now) ≡ action.Meets (event_by (proc_in p slot.now).phase event.now) → o ≡ waits_by (procs_of p self.now) q (need_of p (proc_in p slot.now))) }
     {
         match event {
             Event::Receive { channel, .. } => {
                 let name = channel.copy(alloc)?;
                 Ok(Some(At::Receive(name)))
             }
-            Event::Join { block, .. } => {
-                let child = self.awaited(alloc, path, *block, kid_count(process))?;
+            Event::Join { .. } => {
+                let child = self.awaited(alloc, slot.family())?;
                 Ok(join_of(child))
             }
             Event::Fail(_, _) => Ok(None),
@@ -143,11 +143,12 @@ impl Processes {
     }
 
     // What a process waits for, where it waits.
-    fn waits(&self, alloc: Global, path: &Path, slot: &Slot) -> Result<Option<At>, NoMemory>
-        ensures { IfOk result (λ o. (p : declared.Program) → IsNext p (proc_in p slot.now) slot.now.next → o ≡ waits_by (procs_of p self.now) path.now (need_of p (proc_in p slot.now))) }
+    fn waits(&self, alloc: Global, slot: &Slot) -> Result<Option<At>, NoMemory>
+        ensures { IfOk result (λ o. (p : declared.Program) (q : Place) → HasFamily (order_of self.now) q (proc_in p slot.now).phase slot.now.first_child →
+            IsNext p (proc_in p slot.now) slot.now.next → o ≡ waits_by (procs_of p self.now) q (need_of p (proc_in p slot.now))) }
     {
         match &slot.next {
-            Next::Meets(event) => self.waits_at(alloc, path, &slot.process, event),
+            Next::Meets(event) => self.waits_at(alloc, slot, event),
             Next::Steps => Ok(None),
             Next::Rests => Ok(None),
         }
@@ -161,10 +162,11 @@ impl Processes {
         path: &Path,
         slot: &Slot,
     ) -> Result<(), NoMemory>
-        requires { IsNext program.now (proc_in program.now slot.now) slot.now.next }
+        requires next { IsNext program.now (proc_in program.now slot.now) slot.now.next }
+        requires family { HasFamily (order_of self.now) path.now (proc_in program.now slot.now).phase slot.now.first_child }
         ensures { OnOk result (all.new.items ≡ all.old.items ++ wait_at program.now (procs_of program.now self.now) (path.now, proc_in program.now slot.now)) }
     {
-        match self.waits(alloc, path, slot)? {
+        match self.waits(alloc, slot)? {
             Some(at) => {
                 let path = path.copy(alloc)?;
                 let line = line_at(program, &slot.process);
@@ -228,7 +230,8 @@ impl Gathered {
         path: &Path,
         slot: &Slot,
     ) -> Result<(), NoMemory>
-        requires { IsNext program.now (proc_in program.now slot.now) slot.now.next }
+        requires next { IsNext program.now (proc_in program.now slot.now) slot.now.next }
+        requires family { HasFamily (order_of processes.now) path.now (proc_in program.now slot.now).phase slot.now.first_child }
         ensures lines { OnOk result (self.new.lines.items ≡ self.old.lines.items ++ lines_at (path.now, proc_in program.now slot.now)) }
         ensures faults { OnOk result (self.new.faults.items ≡ self.old.faults.items ++ fault_at (path.now, proc_in program.now slot.now)) }
         ensures waits { OnOk result (self.new.waits.items ≡ self.old.waits.items ++ wait_at program.now (procs_of program.now processes.now) (path.now, proc_in program.now slot.now)) }
@@ -241,14 +244,16 @@ impl Gathered {
 
 impl Processes {
     fn gathered(&self, alloc: Global, program: &Program) -> Result<Gathered, NoMemory>
-        requires { AreLookedAt program.now self.now }
+        requires next { AreLookedAt program.now self.now }
+        requires families { AreFamilies program.now self.now }
         ensures lines { IfOk result (λ all. all.lines.items ≡ flat_map lines_at (entries (procs_of program.now self.now))) }
         ensures faults { IfOk result (λ all. all.faults.items ≡ flat_map fault_at (entries (procs_of program.now self.now))) }
         ensures waits { IfOk result (λ all. all.waits.items ≡ flat_map (wait_at program.now (procs_of program.now self.now)) (entries (procs_of program.now self.now))) }
     {
         let mut all = Gathered::new(alloc);
-        'processes: for (path, slot) in self.by_path.iter() {
-            all.add(alloc, program, self, path, slot)?;
+        let rows = self.slots.in_path_order(alloc)?;
+        'processes: for row in &rows {
+            all.add(alloc, program, self, row.0, row.1)?;
         }
         Ok(all)
     }
@@ -262,7 +267,9 @@ pub(crate) fn outcome(
     program: &Program,
     used: u64,
 ) -> Result<Outcome, NoMemory>
-    requires { AreLookedAt program.now net.now.processes }
+    requires next { AreLookedAt program.now net.now.processes }
+    requires families { AreFamilies program.now net.now.processes }
+    requires main { place_at net.now.processes.slots 0 ≡ Some [] }
     ensures { IfOk result (λ o. o ≡ outcome_of program.now used (state_of program.now net.now)) }
 {
     let Gathered {
@@ -270,8 +277,7 @@ pub(crate) fn outcome(
         faults,
         waits,
     } = net.processes.gathered(alloc, program)?;
-    let main = Path::main(alloc);
-    let variables = shown_all(alloc, program, net.processes.process(&main))?;
+    let variables = shown_all(alloc, program, net.processes.process(0))?;
     let holders = holders(alloc, net, program)?;
     Ok(Outcome {
         lines: Seq::from_vec(lines),
@@ -279,7 +285,7 @@ pub(crate) fn outcome(
         faults: Seq::from_vec(faults),
         waits: Seq::from_vec(waits),
         holders: Seq::from_vec(holders),
-        main_ended: net.processes.has_ended(&main),
+        main_ended: net.processes.has_ended(0),
         used,
     })
 }

@@ -1,26 +1,27 @@
 //! Pieces of a run: several steps of one process.
 
-ghost use Rattle.std.specs.Prelude.{◌≡◌, ◌≤◌, ◌+◌, true, is_some, Some, IfOk, OnOk};
+ghost use Rattle.std.specs.Prelude.{◌≡◌, ◌≤◌, ◌+◌, ◌++◌, true, is_some, Some, IfOk, OnOk};
 ghost use Rattle.std.specs.FinMap.{get};
 ghost use Rattle.fm_base.specs.Channels.{all_shed};
 ghost use Rattle.fm_chan.specs.Bodies.{chans_of};
 ghost use Rattle.fm_chan.specs.Woken.{WakesAll};
 ghost use Rattle.fm_sched.specs.Schedule.{IsReached};
 ghost use Rattle.fm_net.specs.Owned.{IsOwned};
+ghost use Rattle.fm_net.specs.Starts.{child_places};
 ghost use Rattle.fm_mean.specs.Actions as action;
 ghost use Rattle.fm_mean.specs.Actions.{action_of};
 ghost use Rattle.fm_mean.specs.Process.{Proc};
 ghost use Rattle.fm_mean.specs.Steps.{step, first, language};
 ghost use Rattle.fm_frame.specs.LetGo.{let_go_ports};
 ghost use Rattle.fm_plain.specs.Events.{IsEvent, event_by};
-ghost use Rattle.fm_run.specs.Held.{AreKept, AreLookedAt, AreLookedAtBut, AreOnce, HeldAreKept, IsSound, StayBut};
-ghost use Rattle.fm_run.specs.Readings.{procs_of, state_of};
+ghost use Rattle.fm_run.specs.Held.{AreFamilies, AreKept, AreLookedAt, AreLookedAtBut, AreOnce, HeldAreKept, IsSound, StayBut};
+ghost use Rattle.fm_run.specs.Readings.{IsActor, actor_place, order_of, procs_of, state_of};
 ghost use Rattle.fm_run.specs.Pieces.{AdvancesAt, IsPiece, Steps, StepsOrWaits};
 
 use crate::perform::discard_all;
-use crate::processes::{Net, Processes};
+use crate::processes::{Actor, Net, Processes};
 use crate::step::{Stepped, step};
-use fm_base::{NoMemory, Path};
+use fm_base::NoMemory;
 use fm_frame::LetGo;
 use fm_plain::{Advanced, Event, Next, Stop, advance};
 use fm_rules::Program;
@@ -40,19 +41,21 @@ pub struct Piece {
 }
 
 impl Processes {
-    // Local steps of the process at a path, as many as `slice` at most.
+    // Local steps of a process, as many as `slice` at most.
     fn advance(
         &mut self,
         alloc: Global,
         program: &Program,
-        path: &Path,
+        actor: &Actor,
         slice: u32,
     ) -> Result<Advanced, NoMemory>
-        requires { is_some (get (procs_of program.now self.old) path.now) ≡ true }
-        ensures next { OnOk result (AreLookedAtBut program.now path.now self.old → AreLookedAtBut program.now path.now self.new) }
-        ensures advances { IfOk result (λ a. (x : Proc) → get (procs_of program.now self.old) path.now ≡ Some x → AdvancesAt program.now slice path.now x a (procs_of program.now self.old) (procs_of program.now self.new)) }
+        requires { IsActor self.old actor.now }
+        ensures order { OnOk result (order_of self.new ≡ order_of self.old) }
+        ensures families { OnOk result (AreFamilies program.now self.old → AreFamilies program.now self.new) }
+        ensures next { OnOk result (AreLookedAtBut program.now (actor_place actor.now) self.old → AreLookedAtBut program.now (actor_place actor.now) self.new) }
+        ensures advances { IfOk result (λ a. (x : Proc) → get (procs_of program.now self.old) (actor_place actor.now) ≡ Some x → AdvancesAt program.now slice (actor_place actor.now) x a (procs_of program.now self.old) (procs_of program.now self.new)) }
     {
-        match self.by_path.get_mut(path) {
+        match self.slots.get_mut(actor.number) {
             Some(slot) => advance(alloc, program, &mut slot.process, slice),
             None => unreachable!(),
         }
@@ -85,53 +88,58 @@ fn with_step(steps: u32, cost: u64, stepped: Stepped) -> Result<Piece, NoMemory>
 }
 
 impl Net {
-    // Makes the step of the process at a path, which stands at this event, behind so many other steps.
+    // Makes the step of a process, which stands at this event, behind so many other steps.
     fn event_piece(
         &mut self,
         alloc: Global,
         program: &Program,
-        path: &Path,
+        actor: &Actor,
         steps: u32,
         cost: u64,
         event: Event,
     ) -> Result<Piece, NoMemory>
         requires owned { IsOwned (language program.now) (state_of program.now self.old) }
         requires held { HeldAreKept program.now self.old.ports (procs_of program.now self.old.processes) }
-        requires can { is_some (step program.now (state_of program.now self.old) path.now) ≡ true }
-        requires event { (x : Proc) → get (procs_of program.now self.old.processes) path.now ≡ Some x → action_of program.now x ≡ action.Meets (event_by x.phase event) }
-        requires next { AreLookedAtBut program.now path.now self.old.processes }
+        requires families { AreFamilies program.now self.old.processes }
+        requires actor { IsActor self.old.processes actor.now }
+        requires can { is_some (step program.now (state_of program.now self.old) (actor_place actor.now)) ≡ true }
+        requires event { (x : Proc) → get (procs_of program.now self.old.processes) (actor_place actor.now) ≡ Some x → action_of program.now x ≡ action.Meets (event_by x.phase event) }
+        requires next { AreLookedAtBut program.now (actor_place actor.now) self.old.processes }
         ensures sound { OnOk result (IsSound program.now self.new) }
-        ensures steps { IfOk result (λ r. Steps program.now (state_of program.now self.old) path.now steps cost r (state_of program.now self.new)) }
+        ensures order { IfOk result (λ r. order_of self.new.processes ≡ order_of self.old.processes ++ child_places (actor_place actor.now) r.block 1 r.started) }
+        ensures steps { IfOk result (λ r. Steps program.now (state_of program.now self.old) (actor_place actor.now) steps cost r (state_of program.now self.new)) }
         ensures waking { OnOk result (WakesAll self.old.channels self.new.channels) }
     {
-        let stepped = step(alloc, self, program, path, event)?;
-        self.processes.look(alloc, program, path)?;
+        let stepped = step(alloc, self, program, actor, event)?;
+        self.processes.look(alloc, program, actor)?;
         with_step(steps, cost, stepped)
     }
 
-    // Makes the step of the process at a path, which stands at this event, or leaves it at the event.
+    // Makes the step of a process, which stands at this event, or leaves it at the event.
     fn event_or_wait(
         &mut self,
         alloc: Global,
         program: &Program,
-        path: &Path,
+        actor: &Actor,
         steps: u32,
         cost: u64,
         event: Event,
     ) -> Result<Piece, NoMemory>
         requires owned { IsOwned (language program.now) (state_of program.now self.old) }
         requires held { HeldAreKept program.now self.old.ports (procs_of program.now self.old.processes) }
-        requires there { is_some (get (procs_of program.now self.old.processes) path.now) ≡ true }
-        requires event { (x : Proc) → get (procs_of program.now self.old.processes) path.now ≡ Some x → IsEvent x.phase (action_of program.now x) event }
-        requires next { AreLookedAtBut program.now path.now self.old.processes }
+        requires families { AreFamilies program.now self.old.processes }
+        requires actor { IsActor self.old.processes actor.now }
+        requires event { (x : Proc) → get (procs_of program.now self.old.processes) (actor_place actor.now) ≡ Some x → IsEvent x.phase (action_of program.now x) event }
+        requires next { AreLookedAtBut program.now (actor_place actor.now) self.old.processes }
         ensures sound { OnOk result (IsSound program.now self.new) }
-        ensures steps { IfOk result (λ r. StepsOrWaits program.now (state_of program.now self.old) path.now steps cost r (state_of program.now self.new)) }
+        ensures order { IfOk result (λ r. order_of self.new.processes ≡ order_of self.old.processes ++ child_places (actor_place actor.now) r.block 1 r.started) }
+        ensures steps { IfOk result (λ r. StepsOrWaits program.now (state_of program.now self.old) (actor_place actor.now) steps cost r (state_of program.now self.new)) }
         ensures waking { OnOk result (WakesAll self.old.channels self.new.channels) }
     {
-        if self.is_served(alloc, program, path, &event)? {
-            return self.event_piece(alloc, program, path, steps, cost, event);
+        if self.is_served(program, actor.number, &event)? {
+            return self.event_piece(alloc, program, actor, steps, cost, event);
         }
-        self.processes.keep_next(path, Next::Meets(event));
+        self.processes.keep_next(actor, Next::Meets(event));
         Ok(local_piece(steps, cost))
     }
 
@@ -140,23 +148,26 @@ impl Net {
         &mut self,
         alloc: Global,
         program: &Program,
-        path: &Path,
+        actor: &Actor,
         steps: u32,
         cost: u64,
         let_go: LetGo,
         paid: u64,
     ) -> Result<Piece, NoMemory>
+        requires actor { IsActor self.old.processes actor.now }
         requires kept { AreKept self.old.ports (let_go_ports program.now let_go) }
         requires once { AreOnce (let_go_ports program.now let_go) }
         ensures processes { OnOk result (procs_of program.now self.new.processes ≡ procs_of program.now self.old.processes) }
+        ensures order { OnOk result (order_of self.new.processes ≡ order_of self.old.processes) }
+        ensures families { OnOk result (AreFamilies program.now self.old.processes → AreFamilies program.now self.new.processes) }
         ensures channels { OnOk result (chans_of self.new.channels ≡ all_shed (let_go_ports program.now let_go) (chans_of self.old.channels)) }
         ensures ports { OnOk result (StayBut (let_go_ports program.now let_go) self.old.ports self.new.ports) }
-        ensures next { OnOk result (AreLookedAtBut program.now path.now self.old.processes → AreLookedAt program.now self.new.processes) }
+        ensures next { OnOk result (AreLookedAtBut program.now (actor_place actor.now) self.old.processes → AreLookedAt program.now self.new.processes) }
         ensures piece { IfOk result (λ r. r ≡ record { steps = steps + 1; cost = cost + paid; block = 0; started = 0 }) }
         ensures waking { OnOk result (WakesAll self.old.channels self.new.channels) }
     {
         discard_all(alloc, program, &mut self.channels, &mut self.ports, let_go);
-        self.processes.look(alloc, program, path)?;
+        self.processes.look(alloc, program, actor)?;
         with_step(
             steps,
             cost,
@@ -168,43 +179,46 @@ impl Net {
         )
     }
 
-    // Makes a piece of the process at a path, which isn't known to stand at an event.
+    // Makes a piece of a process, which isn't known to stand at an event.
     fn local_piece(
         &mut self,
         alloc: Global,
         program: &Program,
-        path: &Path,
+        actor: &Actor,
         slice: u32,
     ) -> Result<Piece, NoMemory>
         requires some { 1 ≤ slice }
         requires reached { IsReached (step program.now) (first program.now) (state_of program.now self.old) }
         requires held { HeldAreKept program.now self.old.ports (procs_of program.now self.old.processes) }
-        requires can { is_some (step program.now (state_of program.now self.old) path.now) ≡ true }
-        requires next { AreLookedAtBut program.now path.now self.old.processes }
+        requires families { AreFamilies program.now self.old.processes }
+        requires actor { IsActor self.old.processes actor.now }
+        requires can { is_some (step program.now (state_of program.now self.old) (actor_place actor.now)) ≡ true }
+        requires next { AreLookedAtBut program.now (actor_place actor.now) self.old.processes }
         ensures sound { OnOk result (IsSound program.now self.new) }
-        ensures piece { IfOk result (λ r. IsPiece program.now slice (state_of program.now self.old) path.now r (state_of program.now self.new)) }
+        ensures order { IfOk result (λ r. order_of self.new.processes ≡ order_of self.old.processes ++ child_places (actor_place actor.now) r.block 1 r.started) }
+        ensures piece { IfOk result (λ r. IsPiece program.now slice (state_of program.now self.old) (actor_place actor.now) r (state_of program.now self.new)) }
         ensures waking { OnOk result (WakesAll self.old.channels self.new.channels) }
     {
-        let Advanced { stop, steps, cost } = self.processes.advance(alloc, program, path, slice)?;
+        let Advanced { stop, steps, cost } = self.processes.advance(alloc, program, actor, slice)?;
         match stop {
             Stop::More => {
-                self.processes.look(alloc, program, path)?;
+                self.processes.look(alloc, program, actor)?;
                 Ok(local_piece(steps, cost))
             }
             Stop::Rest => {
-                self.processes.look(alloc, program, path)?;
+                self.processes.look(alloc, program, actor)?;
                 Ok(local_piece(steps, cost))
             }
-            Stop::Event(event) => self.event_or_wait(alloc, program, path, steps, cost, event),
+            Stop::Event(event) => self.event_or_wait(alloc, program, actor, steps, cost, event),
             Stop::LetsGo(let_go, paid) => {
-                self.discard_piece(alloc, program, path, steps, cost, let_go, paid)
+                self.discard_piece(alloc, program, actor, steps, cost, let_go, paid)
             }
             Stop::Short => Err(NoMemory),
         }
     }
 }
 
-/// Makes a piece of the process at a path, which can step: local steps, as many as `slice` at most, and
+/// Makes a piece of a process, which can step: local steps, as many as `slice` at most, and
 /// then, where an event stopped it before, that event, if it can do it; or a step that lets ports go.
 ///
 /// After want of memory the net isn't to be used any more.
@@ -212,20 +226,22 @@ pub fn make_piece(
     alloc: Global,
     net: &mut Net,
     program: &Program,
-    path: &Path,
+    actor: &Actor,
     slice: u32,
 ) -> Result<Piece, NoMemory>
     requires some { 1 ≤ slice }
     requires reached { IsReached (step program.now) (first program.now) (state_of program.now net.old) }
     requires sound { IsSound program.now net.old }
-    requires can { is_some (step program.now (state_of program.now net.old) path.now) ≡ true }
+    requires actor { IsActor net.old.processes actor.now }
+    requires can { is_some (step program.now (state_of program.now net.old) (actor_place actor.now)) ≡ true }
     ensures sound { OnOk result (IsSound program.now net.new) }
-    ensures piece { IfOk result (λ r. IsPiece program.now slice (state_of program.now net.old) path.now r (state_of program.now net.new)) }
+    ensures order { IfOk result (λ r. order_of net.new.processes ≡ order_of net.old.processes ++ child_places (actor_place actor.now) r.block 1 r.started) }
+    ensures piece { IfOk result (λ r. IsPiece program.now slice (state_of program.now net.old) (actor_place actor.now) r (state_of program.now net.new)) }
     ensures waking { OnOk result (WakesAll net.old.channels net.new.channels) }
 {
-    match net.processes.take_next(path) {
-        Next::Meets(event) => net.event_piece(alloc, program, path, 0, 0, event),
-        Next::Steps => net.local_piece(alloc, program, path, slice),
-        Next::Rests => net.local_piece(alloc, program, path, slice),
+    match net.processes.take_next(actor) {
+        Next::Meets(event) => net.event_piece(alloc, program, actor, 0, 0, event),
+        Next::Steps => net.local_piece(alloc, program, actor, slice),
+        Next::Rests => net.local_piece(alloc, program, actor, slice),
     }
 }

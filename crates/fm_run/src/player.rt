@@ -1,11 +1,10 @@
 //! A run as it stands between two pieces.
 
-ghost use Rattle.std.specs.Prelude.{◌≡◌, ℕ, ◌<◌, ◌≤◌, ◌+◌, true, [], length, slice_get, IfOk, OnOk};
+ghost use Rattle.std.specs.Prelude.{◌≡◌, ◌∷◌, ℕ, ◌<◌, ◌≤◌, ◌+◌, true, [], length, slice_get, IfOk, OnOk};
 ghost use Rattle.fm_mean.specs.Steps.{first};
-ghost use Rattle.fm_net.specs.Starts.{child_places};
-ghost use Rattle.fm_run.specs.Orders.{Among, places_of, can_at, chosen, ready_after};
-ghost use Rattle.fm_run.specs.Held.{AreLookedAt, IsSound};
-ghost use Rattle.fm_run.specs.Readings.{procs_of, state_of};
+ghost use Rattle.fm_run.specs.Orders.{Among, can_at, chosen, ready_after};
+ghost use Rattle.fm_run.specs.Held.{AreFamilies, AreLookedAt, IsSound};
+ghost use Rattle.fm_run.specs.Readings.{order_of, procs_of, state_of};
 ghost use Rattle.fm_run.specs.Runs.{AreNumbered, IsFrontWithin, IsPlayedBy, IsPlayed, IsEntry, first_stand, stand_of};
 ghost use Rattle.fm_chan.specs.Woken.{WakesAll};
 
@@ -14,7 +13,6 @@ use crate::orders::{Queue, chosen};
 use crate::pieces::make_piece;
 use crate::ports::Ports;
 use crate::processes::{Net, Processes, Slot};
-use crate::ready::child_path;
 use fm_base::{NoMemory, Path, Turn};
 use fm_chan::Channels;
 use fm_frame::PlainProc;
@@ -28,9 +26,7 @@ use std::sync::Arc;
 pub(crate) struct Player {
     /// The processes and channels.
     pub net: Net,
-    /// The processes, in the order of starting.
-    pub paths: Vec<Arc<Path>>,
-    /// For each the number of the one that started it, and for main its own.
+    /// For each process the number of the one that started it, and for main its own.
     pub parents: Vec<u32>,
     /// Those that can step.
     pub able: Queue,
@@ -42,17 +38,29 @@ pub(crate) struct Player {
 
 fn first_processes(alloc: Global, program: &Program) -> Result<Processes, NoMemory>
     ensures processes { IfOk result (λ processes. procs_of program.now processes ≡ (first program.now).procs) }
+    ensures order { IfOk result (λ processes. order_of processes ≡ [] ∷ []) }
     ensures next { IfOk result (λ processes. AreLookedAt program.now processes) }
+    ensures families { IfOk result (λ processes. AreFamilies program.now processes) }
 {
     let process = PlainProc::main(alloc, program)?;
     let next = next_of(alloc, program, &process)?;
     let mut processes = Processes::new(alloc);
-    processes.insert(Path::main(alloc), Slot { process, next })?;
+    let path = Arc::new(alloc, Path::main(alloc))?;
+    let first_child = 0;
+    processes.push(
+        path,
+        Slot {
+            process,
+            next,
+            first_child,
+        },
+    )?;
     Ok(processes)
 }
 
 fn first_net(alloc: Global, program: &Program) -> Result<Net, NoMemory>
     ensures state { IfOk result (λ net. state_of program.now net ≡ first program.now) }
+    ensures order { IfOk result (λ net. order_of net.processes ≡ [] ∷ []) }
     ensures sound { IfOk result (λ net. IsSound program.now net) }
 {
     let processes = first_processes(alloc, program)?;
@@ -61,18 +69,6 @@ fn first_net(alloc: Global, program: &Program) -> Result<Net, NoMemory>
         channels: Channels::new(alloc),
         ports: Ports::new(alloc),
     })
-}
-
-// The paths of so many children of a block.
-fn family(alloc: Global, path: &Path, block: u32, count: usize) -> Result<Vec<Arc<Path>>, NoMemory>
-    ensures { IfOk result (λ v. places_of v.items ≡ child_places path.now block 1 count) }
-{
-    let mut paths = Vec::new(alloc);
-    'children: for place in 0..count {
-        let child = child_path(alloc, path, block, place)?;
-        paths.push(Arc::new(alloc, child)?)?;
-    }
-    Ok(paths)
 }
 
 fn both(used: u64, cost: u64) -> Result<u64, NoMemory>
@@ -93,14 +89,12 @@ impl Player {
         ensures stand { IfOk result (λ player. stand_of program.now player ≡ first_stand program.now) }
     {
         let mut net = first_net(alloc, program)?;
-        let paths = vec![in alloc; Arc::new(alloc, Path::main(alloc))?]?;
         let parents = vec![in alloc; 0]?;
         let mut able = Queue::new(alloc);
         able.grow(1)?;
-        settle(alloc, &mut net, program, &paths, &mut able, 0)?;
+        settle(&mut net, program, &mut able, 0)?;
         Ok(Player {
             net,
-            paths,
             parents,
             able,
             history: Vec::new(alloc),
@@ -127,31 +121,26 @@ impl Player {
     ) -> Result<(), NoMemory>
         requires some { 1 ≤ slice }
         requires sound { IsSound program.now self.old.net }
-        requires kept { IsPlayedBy program.now self.old.history.items (places_of self.old.paths.items) (state_of program.now self.old.net) self.old.used }
-        requires able { can_at program.now (state_of program.now self.old.net) (places_of self.old.paths.items) number ≡ true }
-        requires within { (n : ℕ) → Among n self.old.able.numbers.items → n < length (places_of self.old.paths.items) }
+        requires kept { IsPlayedBy program.now self.old.history.items (order_of self.old.net.processes) (state_of program.now self.old.net) self.old.used }
+        requires able { can_at program.now (state_of program.now self.old.net) (order_of self.old.net.processes) number ≡ true }
+        requires within { (n : ℕ) → Among n self.old.able.numbers.items → n < length (order_of self.old.net.processes) }
         requires numbered { AreNumbered self.old }
         ensures sound { OnOk result (IsSound program.now self.new.net) }
-        ensures kept { OnOk result (IsPlayedBy program.now self.new.history.items (places_of self.new.paths.items) (state_of program.now self.new.net) self.new.used) }
+        ensures kept { OnOk result (IsPlayedBy program.now self.new.history.items (order_of self.new.net.processes) (state_of program.now self.new.net) self.new.used) }
         ensures used { OnOk result (self.old.used < self.new.used) }
-        ensures front { OnOk result ((turns : ℕ) → self.old.used ≤ turns → IsFrontWithin program.now turns self.new.history.items (places_of self.new.paths.items)) }
-        ensures entry { OnOk result (IsEntry program.now slice number (state_of program.now self.old.net) (places_of self.old.paths.items) self.old.history.items (state_of program.now self.new.net) (places_of self.new.paths.items) self.new.history.items) }
+        ensures front { OnOk result ((turns : ℕ) → self.old.used ≤ turns → IsFrontWithin program.now turns self.new.history.items (order_of self.new.net.processes)) }
+        ensures entry { OnOk result (IsEntry program.now slice number (state_of program.now self.old.net) (order_of self.old.net.processes) self.old.history.items (state_of program.now self.new.net) (order_of self.new.net.processes) self.new.history.items) }
         ensures able { OnOk result (self.new.able.numbers.items ≡ self.old.able.numbers.items) }
         ensures numbered { OnOk result (AreNumbered self.new) }
         ensures waking { OnOk result (WakesAll self.old.net.channels self.new.net.channels) }
     {
-        let path = match self.paths.get(number as usize) {
-            Some(path) => path,
-            None => unreachable!(),
-        };
-        let piece = make_piece(alloc, &mut self.net, program, path, slice)?;
-        let mut children = family(alloc, path, piece.block, piece.started)?;
+        let actor = self.net.processes.actor(number)?;
+        let piece = make_piece(alloc, &mut self.net, program, &actor, slice)?;
         self.history.push(Turn {
             number,
             steps: piece.steps,
         })?;
-        self.paths.append(&mut children)?;
-        let count = self.paths.len();
+        let count = self.net.processes.slots.len();
         self.parents.resize(count, number)?;
         self.able.grow(count)?;
         self.used = both(self.used, piece.cost)?;
@@ -173,25 +162,22 @@ impl Player {
         requires able { Among number self.old.able.numbers.items }
         ensures played { OnOk result (IsPlayed program.now self.new) }
         ensures used { OnOk result (self.old.used < self.new.used) }
-        ensures front { OnOk result ((turns : ℕ) → self.old.used ≤ turns → IsFrontWithin program.now turns self.new.history.items (places_of self.new.paths.items)) }
-        ensures entry { OnOk result (IsEntry program.now slice number (state_of program.now self.old.net) (places_of self.old.paths.items) self.old.history.items (state_of program.now self.new.net) (places_of self.new.paths.items) self.new.history.items) }
-        ensures able { OnOk result (self.new.able.numbers.items ≡ ready_after program.now (state_of program.now self.new.net) (places_of self.new.paths.items) self.old.able.numbers.items number) }
+        ensures front { OnOk result ((turns : ℕ) → self.old.used ≤ turns → IsFrontWithin program.now turns self.new.history.items (order_of self.new.net.processes)) }
+        ensures entry { OnOk result (IsEntry program.now slice number (state_of program.now self.old.net) (order_of self.old.net.processes) self.old.history.items (state_of program.now self.new.net) (order_of self.new.net.processes) self.new.history.items) }
+        ensures able { OnOk result (self.new.able.numbers.items ≡ ready_after program.now (state_of program.now self.new.net) (order_of self.new.net.processes) self.old.able.numbers.items number) }
     {
-        let before = self.paths.len();
+        let before = self.net.processes.slots.len();
         self.keep_piece(alloc, program, number, slice)?;
         self.able.leave(number);
-        let paths = self.paths.as_slice();
         let parents = self.parents.as_slice();
-        let asked = candidates(alloc, &mut self.net, paths, parents, number, before)?;
+        let asked = candidates(alloc, &mut self.net, parents, number, before)?;
         settle_all(
-            alloc,
             &mut self.net,
             program,
-            paths,
             &mut self.able,
             number,
             asked.as_slice(),
         )?;
-        settle(alloc, &mut self.net, program, paths, &mut self.able, number)
+        settle(&mut self.net, program, &mut self.able, number)
     }
 }

@@ -8,7 +8,7 @@ ghost use Rattle.fm_base.specs.declared.port.PortValue.TheVariants.{Reader};
 ghost use Rattle.fm_chan.specs.Bodies.{chans_of};
 ghost use Rattle.fm_chan.specs.Received.{pops_at};
 ghost use Rattle.fm_chan.specs.Woken.{WakesAll, waiting_reader};
-ghost use Rattle.fm_net.specs.Machine.{child, gathered};
+ghost use Rattle.fm_net.specs.Machine.{Place, child, gathered};
 ghost use Rattle.fm_net.specs.Owned.{IsOwned};
 ghost use Rattle.fm_rules.specs.declared.program.Program as declared;
 ghost use Rattle.fm_mean.specs.Actions as action;
@@ -19,11 +19,13 @@ ghost use Rattle.fm_mean.specs.Steps.{step, language};
 ghost use Rattle.fm_frame.specs.Frames.{phase_of};
 ghost use Rattle.fm_onward.specs.Joins.{kids_in};
 ghost use Rattle.fm_plain.specs.Events.{event_by};
-ghost use Rattle.fm_run.specs.Held.{HeldAreKept, IsKept, IsSound};
+ghost use Rattle.fm_numbered.specs.Rows.{place_at};
+ghost use Rattle.fm_run.specs.Held.{AreChildren, AreFamilies, HasFamily, HeldAreKept, IsKept, IsSound};
+ghost use Rattle.fm_run.specs.Orders.{can_at};
 ghost use Rattle.fm_run.specs.Noted.{IsNoted, channel_received, channel_waited};
-ghost use Rattle.fm_run.specs.Readings.{procs_of, state_of};
+ghost use Rattle.fm_run.specs.Readings.{order_of, procs_of, state_of};
 
-use crate::processes::{Net, Processes};
+use crate::processes::{Net, Processes, Slot};
 use fm_base::{ChanName, NoMemory, Path};
 use fm_chan::Channels;
 use fm_frame::{Phase, PlainProc};
@@ -49,8 +51,8 @@ pub(crate) fn child_path(
     }
 }
 
-/// How many children a process waits for.
-pub(crate) fn kid_count(process: &PlainProc) -> usize
+// How many children a process waits for.
+fn kid_count(process: &PlainProc) -> usize
     ensures { result ≡ length (kids_in (phase_of process.now.phase)) }
 {
     match &process.phase {
@@ -61,34 +63,72 @@ pub(crate) fn kid_count(process: &PlainProc) -> usize
     }
 }
 
-impl Processes {
-    /// Whether a process is there, and has ended.
-    pub(crate) fn has_ended(&self, path: &Path) -> bool
-        ensures { (p : declared.Program) → result ≡ ended_at (get (procs_of p self.now) path.now) }
+/// The children that a process waits for: the number of the first one, and how many they are.
+#[derive(Clone, Copy, Debug, PartialEq, Eq)]
+pub(crate) struct Family {
+    /// The number of the first one.
+    pub first: u32,
+    /// How many they are.
+    pub count: usize,
+}
+
+/// The number of the process so many behind another one.
+pub(crate) fn number_behind(first: u32, place: usize) -> Result<u32, NoMemory>
+    ensures { IfOk result (λ n. n ≡ first + place) }
+{
+    match u32::try_from(place) {
+        Ok(place) => first.checked_add(place).ok_or(NoMemory),
+        Err(_) => Err(NoMemory),
+    }
+}
+
+impl Slot {
+    /// The children that the process waits for.
+    pub(crate) fn family(&self) -> Family
+        ensures first { result.first ≡ self.now.first_child }
+        ensures count { result.count ≡ length (kids_in (phase_of self.now.process.phase)) }
     {
-        match self.get(path) {
+        Family {
+            first: self.first_child,
+            count: kid_count(&self.process),
+        }
+    }
+}
+
+impl Processes {
+    /// Whether the process of a number has ended.
+    pub(crate) fn has_ended(&self, number: u32) -> bool
+        ensures { (p : declared.Program) (q : Place) → place_at self.now.slots number ≡ Some q → result ≡ ended_at (get (procs_of p self.now) q) }
+    {
+        match self.slots.get(number) {
             Some(slot) => slot.process.has_ended(),
             None => false,
         }
     }
 
-    /// Whether so many children of a block have all ended.
-    fn have_ended(
-        &self,
-        alloc: Global,
-        path: &Path,
-        block: u32,
-        count: usize,
-    ) -> Result<bool, NoMemory>
-        ensures { IfOk result (λ r. (p : declared.Program) → r ≡ is_some (gathered is_done (procs_of p self.now) path.now block 1 count)) }
+    /// Whether children have all ended.
+    fn have_ended(&self, family: Family) -> Result<bool, NoMemory>
+        ensures { IfOk result (λ r. (p : declared.Program) (q : Place) (b : ℕ) → AreChildren (order_of self.now) family.first q b family.count →
+            r ≡ is_some (gathered is_done (procs_of p self.now) q b 1 family.count)) }
     {
-        'children: for place in 0..count {
-            let child = child_path(alloc, path, block, place)?;
-            if !self.has_ended(&child) {
+        'children: for place in 0..family.count {
+            let number = number_behind(family.first, place)?;
+            if !self.has_ended(number) {
                 return Ok(false);
             }
         }
         Ok(true)
+    }
+
+    /// The children that the process of a number waits for.
+    pub(crate) fn family(&self, number: u32) -> Family
+        ensures count { (p : declared.Program) (q : Place) (x : Proc) → place_at self.now.slots number ≡ Some q → get (procs_of p self.now) q ≡ Some x → result.count ≡ length (kids_in x.phase) }
+        ensures first { (p : declared.Program) (q : Place) (x : Proc) → place_at self.now.slots number ≡ Some q → get (procs_of p self.now) q ≡ Some x → AreFamilies p self.now → HasFamily (order_of self.now) q x.phase result.first }
+    {
+        match self.slots.get(number) {
+            Some(slot) => slot.family(),
+            None => Family { first: 0, count: 0 },
+        }
     }
 }
 
@@ -104,36 +144,23 @@ impl Net {
         }
     }
 
-    /// How many children the process at a path waits for.
-    pub(crate) fn kid_count(&self, path: &Path) -> usize
-        ensures { (p : declared.Program) (x : Proc) → get (procs_of p self.now.processes) path.now ≡ Some x → result ≡ length (kids_in x.phase) }
-    {
-        match self.processes.get(path) {
-            Some(slot) => kid_count(&slot.process),
-            None => 0,
-        }
-    }
-
-    /// Whether the process at a path, which stands at this event, can step.
+    /// Whether the process of a number, which stands at this event, can step.
     pub(crate) fn is_served(
         &self,
-        alloc: Global,
         program: &Program,
-        path: &Path,
+        number: u32,
         event: &Event,
     ) -> Result<bool, NoMemory>
         requires owned { IsOwned (language program.now) (state_of program.now self.now) }
         requires held { HeldAreKept program.now self.now.ports (procs_of program.now self.now.processes) }
-        requires there { is_some (get (procs_of program.now self.now.processes) path.now) ≡ true }
-        requires event { (x : Proc) → get (procs_of program.now self.now.processes) path.now ≡ Some x → action_of program.now x ≡ action.Meets (event_by x.phase event.now) }
-        ensures { IfOk result (λ r. r ≡ is_some (step program.now (state_of program.now self.now) path.now)) }
+        requires families { AreFamilies program.now self.now.processes }
+        requires known { is_some (place_at self.now.processes.slots number) ≡ true }
+        requires event { (q : Place) (x : Proc) → place_at self.now.processes.slots number ≡ Some q → get (procs_of program.now self.now.processes) q ≡ Some x → action_of program.now x ≡ action.Meets (event_by x.phase event.now) }
+        ensures { IfOk result (λ r. r ≡ can_at program.now (state_of program.now self.now) (order_of self.now.processes) number) }
     {
         match event {
             Event::Receive { channel, .. } => Ok(self.is_ready(channel)),
-            Event::Join { block, .. } => {
-                let count = self.kid_count(path);
-                self.processes.have_ended(alloc, path, *block, count)
-            }
+            Event::Join { .. } => self.processes.have_ended(self.processes.family(number)),
             Event::Fail(_, _) => Ok(true),
             Event::Make { .. } => Ok(true),
             Event::Send { .. } => Ok(true),
@@ -144,17 +171,17 @@ impl Net {
     }
 }
 
-/// Whether the process at a path can step.
-pub fn can_step(alloc: Global, net: &Net, program: &Program, path: &Path) -> Result<bool, NoMemory>
+/// Whether the process of a number can step.
+pub fn can_step(net: &Net, program: &Program, number: u32) -> Result<bool, NoMemory>
     requires owned { IsOwned (language program.now) (state_of program.now net.now) }
     requires sound { IsSound program.now net.now }
-    ensures { IfOk result (λ r. r ≡ is_some (step program.now (state_of program.now net.now) path.now)) }
+    ensures { IfOk result (λ r. r ≡ can_at program.now (state_of program.now net.now) (order_of net.now.processes) number) }
 {
-    match net.processes.by_path.get(path) {
+    match net.processes.slots.get(number) {
         Some(slot) => match &slot.next {
             Next::Steps => Ok(true),
             Next::Rests => Ok(false),
-            Next::Meets(event) => net.is_served(alloc, program, path, event),
+            Next::Meets(event) => net.is_served(program, number, event),
         },
         None => Ok(false),
     }
@@ -201,23 +228,18 @@ fn note_at(channels: &mut Channels, next: &Next, number: u32) -> Result<(), NoMe
 }
 
 impl Net {
-    /// Notes the number of the process at a path, which can't step, at the channel at which it waits, if it
-    /// waits at one.
-    pub(crate) fn note(
-        &mut self,
-        program: &Program,
-        path: &Path,
-        number: u32,
-    ) -> Result<(), NoMemory>
+    /// Notes the process of a number, which can't step, at the channel at which it waits, if it waits at one.
+    pub(crate) fn note(&mut self, program: &Program, number: u32) -> Result<(), NoMemory>
         requires owned { IsOwned (language program.now) (state_of program.now self.old) }
         requires sound { IsSound program.now self.old }
-        requires waits { is_some (step program.now (state_of program.now self.old) path.now) ≡ false }
+        requires waits { can_at program.now (state_of program.now self.old) (order_of self.old.processes) number ≡ false }
+        ensures processes { OnOk result (self.new.processes ≡ self.old.processes) }
         ensures state { OnOk result (state_of program.now self.new ≡ state_of program.now self.old) }
         ensures sound { OnOk result (IsSound program.now self.new) }
-        ensures noted { OnOk result ((x : Proc) → get (procs_of program.now self.old.processes) path.now ≡ Some x → IsNoted program.now self.new.channels number x) }
+        ensures noted { OnOk result ((q : Place) (x : Proc) → place_at self.old.processes.slots number ≡ Some q → get (procs_of program.now self.old.processes) q ≡ Some x → IsNoted program.now self.new.channels number x) }
         ensures waking { OnOk result (WakesAll self.old.channels self.new.channels) }
     {
-        match self.processes.by_path.get(path) {
+        match self.processes.slots.get(number) {
             Some(slot) => note_at(&mut self.channels, &slot.next, number),
             None => Ok(()),
         }

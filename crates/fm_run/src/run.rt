@@ -2,7 +2,8 @@
 
 ghost use Rattle.std.specs.Prelude.{◌≡◌, ◌≤◌, ◌<◌, [], IfOk};
 ghost use Rattle.fm_mean.specs.Outcome.{outcome_of};
-ghost use Rattle.fm_run.specs.Readings.{state_of};
+ghost use Rattle.fm_run.specs.Orders.{places_of};
+ghost use Rattle.fm_run.specs.Readings.{order_of, state_of};
 ghost use Rattle.fm_run.specs.Runs.{Follows, IsPlayed, IsRun};
 
 use crate::outcome::outcome;
@@ -36,24 +37,24 @@ pub struct Run {
 impl Player {
     fn spent(self) -> Run
         ensures history { result.history ≡ self.history }
-        ensures paths { result.paths ≡ self.paths }
+        ensures paths { places_of result.paths.items ≡ order_of self.net.processes }
         ensures ending { result.ending ≡ Ending.Spent }
     {
         Run {
             history: self.history,
-            paths: self.paths,
+            paths: self.net.processes.slots.into_paths(),
             ending: Ending::Spent,
         }
     }
 
     fn ended(self, outcome: Outcome) -> Run
         ensures history { result.history ≡ self.history }
-        ensures paths { result.paths ≡ self.paths }
+        ensures paths { places_of result.paths.items ≡ order_of self.net.processes }
         ensures ending { result.ending ≡ Ending.Ended outcome }
     {
         Run {
             history: self.history,
-            paths: self.paths,
+            paths: self.net.processes.slots.into_paths(),
             ending: Ending::Ended(outcome),
         }
     }

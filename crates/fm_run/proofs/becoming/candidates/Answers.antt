@@ -1,5 +1,8 @@
-use Rattle.std.proofs.Common.{ap, ◌∙◌}
+use Rattle.std.proofs.Common.{ap, ◌∙◌, arith}
 use Rattle.std.proofs.lemmas.List.Sorted.{Contains-permutation, IsNonDecreasingBy-from_sort}
+use Rattle.std.proofs.lemmas.List.{length-map}
+use Rattle.fm_net.specs.Machine.{Place}
+use Rattle.fm_run.specs.declared.processes.Slot.{Slot}
 use Rattle.fm_run.specs.Readings.{procs_of}
 use Rattle.fm_run.proofs.becoming.candidates.Goals as goal
 
@@ -7,7 +10,7 @@ pub returns-clause-state : goal.returns-clause-state
 returns-clause-state c = λ p. ap (λ m. record { procs = procs_of p c.args.net.now.processes; chans = m }) c.in_ok-numbers.ensures.channels
 
 pub returns-clause-sound : goal.returns-clause-sound
-returns-clause-sound c = λ p sound. record { held = sound.held; next = sound.next }
+returns-clause-sound c = λ p sound. record { held = sound.held; next = sound.next; families = sound.families }
 
 pub returns-clause-sorted : goal.returns-clause-sorted
 returns-clause-sorted c = IsNonDecreasingBy-from_sort (λ n. n) c.sort.new.self.items c.in_ok-sort.ensures.sorted
@@ -20,4 +23,4 @@ returns-clause-parent c = λ p q n at ended is.
     Contains-permutation c.push_new.new.numbers.items c.sort.new.self.items n c.in_ok-sort.ensures.permutation (c.in_ok-push_new.ensures.kept n (c.in_ok-push_parent.ensures.parent n (c.has_ended-has_ended.ensures p q at ∙ ended) is))
 
 pub returns-clause-new : goal.returns-clause-new
-returns-clause-new c = λ n low high. Contains-permutation c.push_new.new.numbers.items c.sort.new.self.items n c.in_ok-sort.ensures.permutation (c.in_ok-push_new.ensures.new n low high)
+returns-clause-new c = λ n low high. Contains-permutation c.push_new.new.numbers.items c.sort.new.self.items n c.in_ok-sort.ensures.permutation (c.in_ok-push_new.ensures.new n low (omega (arith, high, c.len.ensures, length-map c.args.net.now.processes.slots (λ (row : Place × Slot). row.0))))

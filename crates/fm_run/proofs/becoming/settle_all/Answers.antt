@@ -1,4 +1,4 @@
-use Rattle.std.proofs.Common.{◌≡◌, ◌≢◌, ◌∷◌, ◌++◌, ℕ, [], cond, Some, false, length, refl, sym, subst, ◌∙◌, arith}
+use Rattle.std.proofs.Common.{List, ap, ◌≡◌, ◌≢◌, ◌∷◌, ◌++◌, ℕ, [], cond, Some, false, length, refl, sym, subst, ◌∙◌, arith}
 use Rattle.std.specs.FinMap.{get}
 use Rattle.fm_net.specs.Machine.{Place, State}
 use Rattle.fm_net.specs.Owned.{IsOwned}
@@ -6,8 +6,8 @@ use Rattle.fm_mean.specs.Process.{Proc}
 use Rattle.fm_mean.specs.Steps.{language, step}
 use Rattle.std.specs.Prelude.{is_some, slice_get, slice_index_or, not, ◌==◌, ◌&&◌}
 use Rattle.fm_run.specs.Noted.{AreNotedBut, IsNoted, OwnOrLeft}
-use Rattle.fm_run.specs.Orders.{can_at, places_of}
-use Rattle.fm_run.specs.Readings.{state_of}
+use Rattle.fm_run.specs.Orders.{can_at}
+use Rattle.fm_run.specs.Readings.{order_of, state_of}
 use Rattle.fm_run.proofs.Queueing.{AreAsked, able_more, all_asked, asked_step, none_asked}
 use Rattle.fm_run.proofs.Serving.{ask_noted, beyond, noted_more}
 use Rattle.fm_run.proofs.becoming.settle_all.Goals as goal
@@ -15,6 +15,7 @@ use Rattle.fm_run.proofs.becoming.settle_all.Goals as goal
 pub candidates-init : goal.candidates-init
 candidates-init c = record {
   marks = c.requires.marked;
+  processes = refl;
   state = refl;
   sound = c.requires.sound;
   able = λ all. all;
@@ -29,15 +30,17 @@ pub candidates-preserved : goal.candidates-preserved
 candidates-preserved c =
     let P = c.args.program.now in
     let s = state_of P c.args.net.now in
-    let ps = places_of c.args.paths.now in
+    let ps = order_of c.args.net.now.processes in
     let can = can_at P s ps in
     let cs = c.args.candidates.now in
     let i = c.candidates.number-index in
     let before = c.candidates.invariant in
     let marks = c.candidates.able.marks.items in
-    let is = subst (λ (u : State Proc). c.ask.new.able.numbers.items ≡ c.candidates.able.numbers.items ++ cond ((not (slice_index_or cs i 0 == c.args.own) && not (slice_index_or marks (slice_index_or cs i 0) false)) && can_at P u ps (slice_index_or cs i 0)) (slice_index_or cs i 0 ∷ []) []) before.state c.in_ok-ask.ensures.queue in
+    let is = subst (λ (u : State Proc). c.ask.new.able.numbers.items ≡ c.candidates.able.numbers.items ++ cond ((not (slice_index_or cs i 0 == c.args.own) && not (slice_index_or marks (slice_index_or cs i 0) false)) && can_at P u ps (slice_index_or cs i 0)) (slice_index_or cs i 0 ∷ []) []) before.state
+    (subst (λ (rs : List Place). c.ask.new.able.numbers.items ≡ c.candidates.able.numbers.items ++ cond ((not (slice_index_or cs i 0 == c.args.own) && not (slice_index_or marks (slice_index_or cs i 0) false)) && can_at P (state_of P c.candidates.net) rs (slice_index_or cs i 0)) (slice_index_or cs i 0 ∷ []) []) (ap order_of before.processes) c.in_ok-ask.ensures.queue) in
     record {
       marks = c.in_ok-ask.ensures.marks (length ps) before.marks;
+      processes = c.in_ok-ask.ensures.processes ∙ before.processes;
       state = c.in_ok-ask.ensures.state ∙ before.state;
       sound = c.in_ok-ask.ensures.sound;
       able = λ all. able_more can c.candidates.able.numbers.items c.ask.new.able.numbers.items _ _ is (before.able all);
@@ -46,14 +49,16 @@ candidates-preserved c =
           noted_more P s ps c.args.own cs i (omega arith) c.candidates.net.channels c.ask.new.net.channels c.in_ok-ask.ensures.waking (before.noted all noted)
           (ask_noted P s ps c.args.own cs i (omega arith) c.candidates.able.numbers.items marks before.marks (before.able all) c.ask.new.net.channels
           (subst (λ (u : State Proc). (slice_index_or cs i 0 ≢ c.args.own) → slice_index_or marks (slice_index_or cs i 0) false ≡ false → (q : Place) (x : Proc) → slice_get ps (slice_index_or cs i 0) ≡ Some q → get u.procs q ≡ Some x
-          → is_some (step P u q) ≡ false → IsNoted P c.ask.new.net.channels (slice_index_or cs i 0) x) before.state c.in_ok-ask.ensures.noted));
+          → is_some (step P u q) ≡ false → IsNoted P c.ask.new.net.channels (slice_index_or cs i 0) x) before.state
+          (subst (λ (rs : List Place). (slice_index_or cs i 0 ≢ c.args.own) → slice_index_or marks (slice_index_or cs i 0) false ≡ false → (q : Place) (x : Proc) → slice_get rs (slice_index_or cs i 0) ≡ Some q → get (state_of P c.candidates.net).procs q ≡ Some x
+          → is_some (step P (state_of P c.candidates.net) q) ≡ false → IsNoted P c.ask.new.net.channels (slice_index_or cs i 0) x) (ap order_of before.processes) c.in_ok-ask.ensures.noted)));
     }
 
 pub returns-clause-queue : goal.returns-clause-queue
 returns-clause-queue c = λ old first whole.
     let P = c.args.program.now in
     let s = state_of P c.args.net.now in
-    let ps = places_of c.args.paths.now in
+    let ps = order_of c.args.net.now.processes in
     let all : c.candidates.number-index ≡ length c.args.candidates.now = omega arith in
     all_asked (can_at P s ps) c.args.own old c.args.candidates.now c.requires.sorted whole c.candidates.able.numbers.items (subst (λ (i : ℕ). AreAsked (can_at P s ps) c.args.own old c.args.candidates.now i c.candidates.able.numbers.items) all (c.candidates.invariant.queue old first whole)) (length ps) (beyond P s ps)
 
@@ -61,4 +66,4 @@ pub returns-clause-noted : goal.returns-clause-noted
 returns-clause-noted c = λ all before.
     let P = c.args.program.now in
     let every : c.candidates.number-index ≡ length c.args.candidates.now = omega arith in
-    subst (λ (i : ℕ). AreNotedBut P (state_of P c.args.net.now) c.candidates.net.channels (places_of c.args.paths.now) (OwnOrLeft c.args.own c.args.candidates.now i)) every (c.candidates.invariant.noted all before)
+    subst (λ (i : ℕ). AreNotedBut P (state_of P c.args.net.now) c.candidates.net.channels (order_of c.args.net.now.processes) (OwnOrLeft c.args.own c.args.candidates.now i)) every (c.candidates.invariant.noted all before)

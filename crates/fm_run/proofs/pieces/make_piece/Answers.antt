@@ -1,10 +1,10 @@
-use Rattle.std.proofs.Common.{◌≡◌, ◌+◌, ℕ, ap, ap₂, refl, sym, subst, ◌∙◌, arith}
-use Rattle.std.specs.Prelude.{is_some}
+use Rattle.std.proofs.Common.{◌≡◌, ◌++◌, List, ◌+◌, ℕ, ap, ap₂, refl, sym, subst, ◌∙◌, arith}
+use Rattle.std.specs.Prelude.{is_some, slice_get}
 use Rattle.std.specs.FinMap.{get}
 use Rattle.std.proofs.lemmas.Result.{IfOk-weaker}
-use Rattle.fm_net.specs.Machine.{Procs, State}
+use Rattle.fm_net.specs.Machine.{Place, Procs, State}
 use Rattle.fm_net.specs.Owned.{IsOwned}
-use Rattle.fm_net.specs.Starts.{starts_at}
+use Rattle.fm_net.specs.Starts.{child_places, starts_at}
 use Rattle.fm_sched.specs.Schedule.{IsReached}
 use Rattle.fm_mean.specs.Process.{Proc}
 use Rattle.fm_mean.specs.Steps.{first, language, step}
@@ -12,7 +12,7 @@ use Rattle.fm_plain.specs.Looking.{IsNext}
 use Rattle.fm_run.specs.declared.pieces.Piece.{Piece}
 use Rattle.fm_run.specs.Held.{HeldAreKept}
 use Rattle.fm_run.specs.Pieces.{IsPiece}
-use Rattle.fm_run.specs.Readings.{procs_of, state_of}
+use Rattle.fm_run.specs.Readings.{actor_place, procs_of, state_of}
 use Rattle.fm_run.proofs.Able.{steps_there}
 use Rattle.fm_run.proofs.Letting.{event_shared}
 use Rattle.fm_run.proofs.Slices.{one_piece}
@@ -23,7 +23,7 @@ pub event_piece-requires-clause-owned : goal.event_piece-requires-clause-owned
 event_piece-requires-clause-owned c =
     let P = c.args.program.now in
     let s = state_of P c.args.net.now in
-    let p = c.args.path.now in
+    let p = (actor_place c.args.actor.now) in
     let who = steps_there P s p (get s.procs p) refl c.requires.can in
     let same = c.take_next.ensures.processes P in
     let state : record { procs = procs_of P c.take_next.new.self; chans = s.chans } ≡ s = ap (λ (n : Procs Proc). record { procs = n; chans = s.chans }) same in
@@ -33,7 +33,7 @@ pub event_piece-requires-clause-held : goal.event_piece-requires-clause-held
 event_piece-requires-clause-held c =
     let P = c.args.program.now in
     let s = state_of P c.args.net.now in
-    let p = c.args.path.now in
+    let p = (actor_place c.args.actor.now) in
     let who = steps_there P s p (get s.procs p) refl c.requires.can in
     let same = c.take_next.ensures.processes P in
     let state : record { procs = procs_of P c.take_next.new.self; chans = s.chans } ≡ s = ap (λ (n : Procs Proc). record { procs = n; chans = s.chans }) same in
@@ -43,7 +43,7 @@ pub event_piece-requires-clause-can : goal.event_piece-requires-clause-can
 event_piece-requires-clause-can c =
     let P = c.args.program.now in
     let s = state_of P c.args.net.now in
-    let p = c.args.path.now in
+    let p = (actor_place c.args.actor.now) in
     let who = steps_there P s p (get s.procs p) refl c.requires.can in
     let same = c.take_next.ensures.processes P in
     let state : record { procs = procs_of P c.take_next.new.self; chans = s.chans } ≡ s = ap (λ (n : Procs Proc). record { procs = n; chans = s.chans }) same in
@@ -53,7 +53,7 @@ pub event_piece-requires-clause-event : goal.event_piece-requires-clause-event
 event_piece-requires-clause-event c = λ x is.
     let P = c.args.program.now in
     let s = state_of P c.args.net.now in
-    let p = c.args.path.now in
+    let p = (actor_place c.args.actor.now) in
     let who = steps_there P s p (get s.procs p) refl c.requires.can in
     let same = c.take_next.ensures.processes P in
     let state : record { procs = procs_of P c.take_next.new.self; chans = s.chans } ≡ s = ap (λ (n : Procs Proc). record { procs = n; chans = s.chans }) same in
@@ -66,7 +66,7 @@ pub returns-in-Meets-clause-piece : goal.returns-in-Meets-clause-piece
 returns-in-Meets-clause-piece c =
     let P = c.args.program.now in
     let s = state_of P c.args.net.now in
-    let p = c.args.path.now in
+    let p = (actor_place c.args.actor.now) in
     let who = steps_there P s p (get s.procs p) refl c.requires.can in
     let same = c.take_next.ensures.processes P in
     let state : record { procs = procs_of P c.take_next.new.self; chans = s.chans } ≡ s = ap (λ (n : Procs Proc). record { procs = n; chans = s.chans }) same in
@@ -83,7 +83,7 @@ pub local_piece-requires-clause-reached : goal.local_piece-requires-clause-reach
 local_piece-requires-clause-reached c =
     let P = c.args.program.now in
     let s = state_of P c.args.net.now in
-    let p = c.args.path.now in
+    let p = (actor_place c.args.actor.now) in
     let who = steps_there P s p (get s.procs p) refl c.requires.can in
     let same = c.take_next.ensures.processes P in
     let state : record { procs = procs_of P c.take_next.new.self; chans = s.chans } ≡ s = ap (λ (n : Procs Proc). record { procs = n; chans = s.chans }) same in
@@ -93,7 +93,7 @@ pub local_piece-requires-clause-held : goal.local_piece-requires-clause-held
 local_piece-requires-clause-held c =
     let P = c.args.program.now in
     let s = state_of P c.args.net.now in
-    let p = c.args.path.now in
+    let p = (actor_place c.args.actor.now) in
     let who = steps_there P s p (get s.procs p) refl c.requires.can in
     let same = c.take_next.ensures.processes P in
     let state : record { procs = procs_of P c.take_next.new.self; chans = s.chans } ≡ s = ap (λ (n : Procs Proc). record { procs = n; chans = s.chans }) same in
@@ -103,7 +103,7 @@ pub local_piece-requires-clause-can : goal.local_piece-requires-clause-can
 local_piece-requires-clause-can c =
     let P = c.args.program.now in
     let s = state_of P c.args.net.now in
-    let p = c.args.path.now in
+    let p = (actor_place c.args.actor.now) in
     let who = steps_there P s p (get s.procs p) refl c.requires.can in
     let same = c.take_next.ensures.processes P in
     let state : record { procs = procs_of P c.take_next.new.self; chans = s.chans } ≡ s = ap (λ (n : Procs Proc). record { procs = n; chans = s.chans }) same in
@@ -116,7 +116,7 @@ pub returns-in-Steps-clause-piece : goal.returns-in-Steps-clause-piece
 returns-in-Steps-clause-piece c =
     let P = c.args.program.now in
     let s = state_of P c.args.net.now in
-    let p = c.args.path.now in
+    let p = (actor_place c.args.actor.now) in
     let who = steps_there P s p (get s.procs p) refl c.requires.can in
     let same = c.take_next.ensures.processes P in
     let state : record { procs = procs_of P c.take_next.new.self; chans = s.chans } ≡ s = ap (λ (n : Procs Proc). record { procs = n; chans = s.chans }) same in
@@ -126,7 +126,7 @@ pub local_piece-requires-in-Rests-clause-reached : goal.local_piece-requires-in-
 local_piece-requires-in-Rests-clause-reached c =
     let P = c.args.program.now in
     let s = state_of P c.args.net.now in
-    let p = c.args.path.now in
+    let p = (actor_place c.args.actor.now) in
     let who = steps_there P s p (get s.procs p) refl c.requires.can in
     let same = c.take_next.ensures.processes P in
     let state : record { procs = procs_of P c.take_next.new.self; chans = s.chans } ≡ s = ap (λ (n : Procs Proc). record { procs = n; chans = s.chans }) same in
@@ -136,7 +136,7 @@ pub local_piece-requires-in-Rests-clause-held : goal.local_piece-requires-in-Res
 local_piece-requires-in-Rests-clause-held c =
     let P = c.args.program.now in
     let s = state_of P c.args.net.now in
-    let p = c.args.path.now in
+    let p = (actor_place c.args.actor.now) in
     let who = steps_there P s p (get s.procs p) refl c.requires.can in
     let same = c.take_next.ensures.processes P in
     let state : record { procs = procs_of P c.take_next.new.self; chans = s.chans } ≡ s = ap (λ (n : Procs Proc). record { procs = n; chans = s.chans }) same in
@@ -146,7 +146,7 @@ pub local_piece-requires-in-Rests-clause-can : goal.local_piece-requires-in-Rest
 local_piece-requires-in-Rests-clause-can c =
     let P = c.args.program.now in
     let s = state_of P c.args.net.now in
-    let p = c.args.path.now in
+    let p = (actor_place c.args.actor.now) in
     let who = steps_there P s p (get s.procs p) refl c.requires.can in
     let same = c.take_next.ensures.processes P in
     let state : record { procs = procs_of P c.take_next.new.self; chans = s.chans } ≡ s = ap (λ (n : Procs Proc). record { procs = n; chans = s.chans }) same in
@@ -159,8 +159,35 @@ pub returns-in-Rests-clause-piece : goal.returns-in-Rests-clause-piece
 returns-in-Rests-clause-piece c =
     let P = c.args.program.now in
     let s = state_of P c.args.net.now in
-    let p = c.args.path.now in
+    let p = (actor_place c.args.actor.now) in
     let who = steps_there P s p (get s.procs p) refl c.requires.can in
     let same = c.take_next.ensures.processes P in
     let state : record { procs = procs_of P c.take_next.new.self; chans = s.chans } ≡ s = ap (λ (n : Procs Proc). record { procs = n; chans = s.chans }) same in
     IfOk-weaker c.local_piece-in-Rests.result _ _ (λ r made. subst (λ (t : State Proc). IsPiece P c.args.slice t p r (state_of P c.local_piece-in-Rests.new.self)) state made) c.local_piece-in-Rests.ensures.piece
+
+pub event_piece-requires-clause-families : goal.event_piece-requires-clause-families
+event_piece-requires-clause-families c = c.take_next.ensures.families c.args.program.now c.requires.sound.families
+
+pub event_piece-requires-clause-actor : goal.event_piece-requires-clause-actor
+event_piece-requires-clause-actor c = ap (λ (ps : List Place). slice_get ps c.args.actor.now.number) c.take_next.ensures.order ∙ c.requires.actor
+
+pub local_piece-requires-clause-families : goal.local_piece-requires-clause-families
+local_piece-requires-clause-families c = c.take_next.ensures.families c.args.program.now c.requires.sound.families
+
+pub local_piece-requires-clause-actor : goal.local_piece-requires-clause-actor
+local_piece-requires-clause-actor c = ap (λ (ps : List Place). slice_get ps c.args.actor.now.number) c.take_next.ensures.order ∙ c.requires.actor
+
+pub local_piece-requires-in-Rests-clause-families : goal.local_piece-requires-in-Rests-clause-families
+local_piece-requires-in-Rests-clause-families c = c.take_next.ensures.families c.args.program.now c.requires.sound.families
+
+pub local_piece-requires-in-Rests-clause-actor : goal.local_piece-requires-in-Rests-clause-actor
+local_piece-requires-in-Rests-clause-actor c = ap (λ (ps : List Place). slice_get ps c.args.actor.now.number) c.take_next.ensures.order ∙ c.requires.actor
+
+pub returns-in-Meets-clause-order : goal.returns-in-Meets-clause-order
+returns-in-Meets-clause-order c = IfOk-weaker c.event_piece.result _ _ (λ r order. order ∙ ap (λ (ps : List Place). ps ++ child_places (actor_place c.args.actor.now) r.block 1 r.started) c.take_next.ensures.order) c.event_piece.ensures.order
+
+pub returns-in-Steps-clause-order : goal.returns-in-Steps-clause-order
+returns-in-Steps-clause-order c = IfOk-weaker c.local_piece.result _ _ (λ r order. order ∙ ap (λ (ps : List Place). ps ++ child_places (actor_place c.args.actor.now) r.block 1 r.started) c.take_next.ensures.order) c.local_piece.ensures.order
+
+pub returns-in-Rests-clause-order : goal.returns-in-Rests-clause-order
+returns-in-Rests-clause-order c = IfOk-weaker c.local_piece-in-Rests.result _ _ (λ r order. order ∙ ap (λ (ps : List Place). ps ++ child_places (actor_place c.args.actor.now) r.block 1 r.started) c.take_next.ensures.order) c.local_piece-in-Rests.ensures.order

@@ -1,10 +1,10 @@
 use Rattle.std.proofs.Common.{List, ap, sym, subst, arith}
 use Rattle.fm_base.specs.declared.schedule.Turn.{Turn}
-use Rattle.fm_run.specs.Orders.{places_of}
+use Rattle.fm_run.specs.Readings.{order_of, state_of}
 use Rattle.fm_run.specs.Runs.{Follows, stand_of}
 use Rattle.fm_run.proofs.Following.{followed_first, followed_more}
 use Rattle.fm_run.proofs.Numbers.{among_get}
-use Rattle.fm_run.proofs.Playing.{front_none, none_left, run_ended}
+use Rattle.fm_run.proofs.Playing.{front_none, main_first, none_left, run_ended}
 use Rattle.fm_run.proofs.run.run_program.Goals as goal
 
 pub returns-clause-run : goal.returns-clause-run
@@ -16,7 +16,7 @@ pub pieces-init : goal.pieces-init
 pieces-init c = record {
   played = c.in_ok-player.ensures.played;
   within = omega (arith, c.in_ok-player.ensures.used);
-  front = front_none c.args.program.now c.args.turns c.in_ok-player.player.history.items (places_of c.in_ok-player.player.paths.items) c.in_ok-player.ensures.history;
+  front = front_none c.args.program.now c.args.turns c.in_ok-player.player.history.items (order_of c.in_ok-player.player.net.processes) c.in_ok-player.ensures.history;
   followed = followed_first c.args.program.now _ c.args.choices.now c.in_ok-player.player.history.items (stand_of c.args.program.now c.in_ok-player.player) c.in_ok-player.ensures.history c.in_ok-player.ensures.stand;
 }
 
@@ -43,5 +43,13 @@ returns-then-player-turns-clause-follows c =
     c.play.new.self.history.items (stand_of c.args.program.now c.play.new.self) c.in_ok-play.ensures.entry c.in_ok-play.ensures.able in
     subst (λ (ts : List Turn). Follows c.args.program.now c.args.slice c.args.choices.now ts) (ap (λ v. v.items) (sym c.spent.ensures.history)) followed.follows
 
-pub outcome-requires : goal.outcome-requires
-outcome-requires c = c.pieces.invariant.played.sound.next
+pub outcome-requires-clause-next : goal.outcome-requires-clause-next
+outcome-requires-clause-next c = c.pieces.invariant.played.sound.next
+
+pub outcome-requires-clause-families : goal.outcome-requires-clause-families
+outcome-requires-clause-families c = c.pieces.invariant.played.sound.families
+
+pub outcome-requires-clause-main : goal.outcome-requires-clause-main
+outcome-requires-clause-main c =
+    let player = c.pieces.player in
+    main_first c.args.program.now player.history.items (order_of player.net.processes) (state_of c.args.program.now player.net) player.used c.pieces.invariant.played.history

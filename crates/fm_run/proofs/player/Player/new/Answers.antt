@@ -7,8 +7,8 @@ use Rattle.fm_net.specs.Owned.{IsOwned}
 use Rattle.fm_mean.specs.Process.{Proc}
 use Rattle.fm_mean.specs.Steps.{language, step}
 use Rattle.fm_run.specs.Noted.{AreParents, IsNoted}
-use Rattle.fm_run.specs.Orders.{Among, AreMarked, can_at, places_of}
-use Rattle.fm_run.specs.Readings.{state_of}
+use Rattle.fm_run.specs.Orders.{Among, AreMarked, can_at}
+use Rattle.fm_run.specs.Readings.{order_of, state_of}
 use Rattle.fm_run.specs.Runs.{IsPlayedBy}
 use Rattle.fm_run.proofs.Becomes.{main_alone_started, main_noted}
 use Rattle.fm_run.proofs.Playing.{are_able, first_owned, kept_first}
@@ -21,17 +21,17 @@ pub returns-clause-played : goal.returns-clause-played
 returns-clause-played c =
     let P = c.args.program.now in
     let s = state_of P c.settle.new.net in
-    let ps = places_of c.in_ok-paths.paths.items in
+    let ps = order_of c.settle.new.net.processes in
     let able = c.settle.new.able in
-    let alone : ps ≡ [] ∷ [] = ap places_of c.in_ok-paths.ensures.items ∙ ap (λ (p : Place). p ∷ []) (c.in_ok-new.ensures.ok ∙ c.main.ensures) in
-    let listed : places_of c.deref.result.now ≡ ps = ap places_of c.deref.ensures.value in
+    let alone : ps ≡ [] ∷ [] = ap order_of c.in_ok-settle.ensures.processes ∙ c.in_ok-net.ensures.order in
+    let listed : order_of c.in_ok-net.net.processes ≡ ps = ap order_of (sym c.in_ok-settle.ensures.processes) in
     let stays = c.in_ok-settle.ensures.state in
     let nobody : c.grow.new.self.numbers.items ≡ [] = c.in_ok-grow.ensures.numbers ∙ c.new-able.ensures.numbers in
     let queue : able.numbers.items ≡ filter (can_at P s ps) (0 ∷ []) =
     c.in_ok-settle.ensures.queue ∙ ap₂ (λ (ns : List ℕ) (b : Bool). ns ++ cond b (0 ∷ []) []) nobody (ap₂ (λ (u : State Proc) (rs : List Place). can_at P u rs 0) (sym stays) listed) in
     record {
       history =
-          subst (λ (ts : List Turn). IsPlayedBy P ts ps s 0) (sym c.new-2.ensures.items)
+          subst (λ (ts : List Turn). IsPlayedBy P ts ps s 0) (sym c.new.ensures.items)
           (subst (λ (rs : List Place). IsPlayedBy P [] rs s 0) (sym alone) (subst (λ (u : State Proc). IsPlayedBy P [] ([] ∷ []) u 0) (sym (stays ∙ c.in_ok-net.ensures.state)) (kept_first P)));
       able = are_able P s ps (0 ∷ []) able.numbers.items queue (λ n low. inl (omega (arith, low, ap length alone))) (λ h. h, tt);
       sound = c.in_ok-settle.ensures.sound;

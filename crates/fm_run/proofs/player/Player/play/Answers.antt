@@ -1,5 +1,6 @@
 use Rattle.std.proofs.Common.{◌≡◌, ◌∷◌, ◌++◌, ℕ, [], List, cond, length, true, false, ◌≤◌, ◌<◌, refl, ap, ap₂, sym, subst, ◌∙◌, arith, rules}
 use Rattle.std.proofs.lemmas.List.{length-map}
+use Rattle.std.proofs.lemmas.Result.{IfOk-weaker}
 use Rattle.fm_chan.specs.Bodies.{chans_of}
 use Rattle.fm_chan.specs.Woken.{woken_of}
 use Rattle.fm_net.specs.Machine.{Place, State}
@@ -11,12 +12,13 @@ use Rattle.std.specs.FinMap.{get}
 use Rattle.fm_mean.specs.Outcome.{ended_at}
 use Rattle.fm_mean.specs.Process.{Proc}
 use Rattle.fm_run.specs.Noted.{AreNoted, AreParents, IsNoted}
-use Rattle.fm_run.specs.Runs.{AreAble, IsEntry, IsPlayedBy}
-use Rattle.fm_run.specs.Orders.{Among, AreMarked, EachOnce, can_at, in_turn, others_in, place_in, places_of, ready_after}
-use Rattle.fm_run.specs.Readings.{state_of}
+use Rattle.fm_run.specs.Runs.{AreAble, IsEntry, IsFrontWithin, IsPlayedBy}
+use Rattle.fm_run.specs.Orders.{Among, AreMarked, EachOnce, can_at, in_turn, others_in, ready_after}
+use Rattle.fm_run.specs.Readings.{order_of, state_of}
+use Rattle.fm_run.specs.declared.processes.Slot.{Slot}
 use Rattle.fm_run.proofs.Numbers.{all_in_turn, once_in_turn}
 use Rattle.fm_run.proofs.Playing.{are_able, kept_owned, known}
-use Rattle.fm_run.proofs.Results.{on_ok_six, on_ok_two}
+use Rattle.fm_run.proofs.Results.{on_ok_both, on_ok_seven, on_ok_two}
 use Rattle.fm_run.proofs.Serving.{candidates_whole, noted_all, noted_taken, others_ready, queue_is, stands_later}
 use Rattle.fm_run.proofs.player.Player.play.Goals as goal
 
@@ -26,7 +28,7 @@ keep_piece-requires-clause-able c = c.requires.played.able.within c.args.number 
 pub keep_piece-requires-clause-within : goal.keep_piece-requires-clause-within
 keep_piece-requires-clause-within c = λ n h.
     let old = c.args.self.now in
-    known c.args.program.now (state_of c.args.program.now old.net) (places_of old.paths.items) n (c.requires.played.able.within n h)
+    known c.args.program.now (state_of c.args.program.now old.net) (order_of old.net.processes) n (c.requires.played.able.within n h)
 
 pub leave-requires : goal.leave-requires
 leave-requires c = subst EachOnce (sym c.in_ok-keep_piece.ensures.able) c.requires.played.able.once
@@ -36,7 +38,7 @@ settle_all-requires-clause-owned c =
     let P = c.args.program.now in
     let mid = c.keep_piece.new.self in
     subst (IsOwned (language P)) (sym (c.in_ok-asked.ensures.state P))
-    (kept_owned P mid.history.items (places_of mid.paths.items) (state_of P mid.net) mid.used c.in_ok-keep_piece.ensures.kept)
+    (kept_owned P mid.history.items (order_of mid.net.processes) (state_of P mid.net) mid.used c.in_ok-keep_piece.ensures.kept)
 
 pub settle_all-requires-clause-sound : goal.settle_all-requires-clause-sound
 settle_all-requires-clause-sound c = c.in_ok-asked.ensures.sound c.args.program.now c.in_ok-keep_piece.ensures.sound
@@ -46,15 +48,15 @@ settle_all-requires-clause-sorted c = subst IsNonDecreasing (sym c.as_slice.ensu
 
 pub settle_all-requires-clause-marked : goal.settle_all-requires-clause-marked
 settle_all-requires-clause-marked c =
-    subst (λ (rs : List Place). AreMarked (length rs) c.leave.new.self.marks.items c.leave.new.self.numbers.items) (sym (ap places_of c.as_slice-paths.ensures.value))
-    (c.leave.ensures.marks (length (places_of c.keep_piece.new.self.paths.items)) c.in_ok-keep_piece.ensures.numbered.marked)
+    subst (λ (rs : List Place). AreMarked (length rs) c.leave.new.self.marks.items c.leave.new.self.numbers.items) (sym (ap order_of c.in_ok-asked.ensures.processes))
+    (c.leave.ensures.marks (length (order_of c.keep_piece.new.self.net.processes)) c.in_ok-keep_piece.ensures.numbered.marked)
 
 pub settle-requires-clause-owned : goal.settle-requires-clause-owned
 settle-requires-clause-owned c =
     let P = c.args.program.now in
     let mid = c.keep_piece.new.self in
     subst (IsOwned (language P)) (sym (c.in_ok-settle_all.ensures.state ∙ c.in_ok-asked.ensures.state P))
-    (kept_owned P mid.history.items (places_of mid.paths.items) (state_of P mid.net) mid.used c.in_ok-keep_piece.ensures.kept)
+    (kept_owned P mid.history.items (order_of mid.net.processes) (state_of P mid.net) mid.used c.in_ok-keep_piece.ensures.kept)
 
 -- `candidates`, `settle_all` and `settle` leave the state as it is. `leave` leaves the others in the queue, `settle_all` puts those that became able
 -- behind them, and `settle` the process itself: this is `ready_after`. Who can't step is noted, or left, until `settle`
@@ -66,8 +68,8 @@ returns c =
     let mid = c.keep_piece.new.self in
     let s = state_of P old.net in
     let t = state_of P c.candidates.new.net in
-    let ps = places_of old.paths.items in
-    let qs = places_of c.as_slice-paths.result.now in
+    let ps = order_of old.net.processes in
+    let qs = order_of c.candidates.new.net.processes in
     let parents = c.as_slice-parents.result.now in
     let cs = c.as_slice.result.now in
     let able = old.able.numbers.items in
@@ -75,7 +77,7 @@ returns c =
     let exact = c.requires.played.able in
     let noted = c.requires.played.noted in
     let waking = c.in_ok-keep_piece.ensures.waking in
-    let whole : qs ≡ places_of mid.paths.items = ap places_of c.as_slice-paths.ensures.value in
+    let whole : qs ≡ order_of mid.net.processes = ap order_of c.in_ok-asked.ensures.processes in
     let same : t ≡ state_of P mid.net = c.in_ok-asked.ensures.state P in
     let of_new : chans_of mid.net.channels ≡ t.chans = ap (λ (u : State Proc). u.chans) (sym same) in
     let entry : IsEntry P c.args.slice number s ps old.history.items t qs mid.history.items =
@@ -88,42 +90,52 @@ returns c =
     let woken_in : (n : ℕ) → Contains (woken_of mid.net.channels) n → Contains cs n = λ n k. subst (λ (ns : List ℕ). Contains ns n) (sym c.as_slice.ensures.value) (c.in_ok-asked.ensures.woken n k) in
     let parent_in : (q : Place) (n : ℕ) → slice_get ps number ≡ Some q → ended_at (get t.procs q) ≡ true → slice_get parents number ≡ Some n → Contains cs n = λ q n at ended is.
     subst (λ (ns : List ℕ). Contains ns n) (sym c.as_slice.ensures.value)
-    (c.in_ok-asked.ensures.parent P q n (stands_later P c.args.slice number s t ps qs old.history.items mid.history.items old.used kept entry able exact c.requires.able old.net.channels mid.net.channels refl of_new waking noted q at) (subst (λ (u : State Proc). ended_at (get u.procs q) ≡ true) same ended) is) in
-    let before : c.len-before.result ≡ length ps = omega (arith, length-map old.paths.items place_in, c.len-before.ensures, old.paths.ok.0) in
+    (c.in_ok-asked.ensures.parent P q n (subst (λ (rs : List Place). slice_get rs number ≡ Some q) whole (stands_later P c.args.slice number s t ps qs old.history.items mid.history.items old.used kept entry able exact c.requires.able old.net.channels mid.net.channels refl of_new waking noted q at)) (subst (λ (u : State Proc). ended_at (get u.procs q) ≡ true) same ended) is) in
+    let before : c.len-before.result ≡ length ps = c.len-before.ensures ∙ sym (length-map old.net.processes.slots (λ (row : Place × Slot). row.0)) in
     let new_in : (n : ℕ) → length ps ≤ n → n < length qs → Contains cs n = λ n high within.
-    subst (λ (ns : List ℕ). Contains ns n) (sym c.as_slice.ensures.value) (c.in_ok-asked.ensures.new n (omega (arith, high, before)) (omega (arith, within, length-map c.as_slice-paths.result.now place_in))) in
+    subst (λ (ns : List ℕ). Contains ns n) (sym c.as_slice.ensures.value) (c.in_ok-asked.ensures.new n (omega (arith, high, before)) (subst (λ (rs : List Place). n < length rs) whole within)) in
     let others : c.leave.new.self.numbers.items ≡ others_in number able = c.leave.ensures.numbers ∙ ap (others_in number) c.in_ok-keep_piece.ensures.able in
     let served = c.in_ok-settle_all.ensures.queue able others (candidates_whole P c.args.slice number s t ps qs old.history.items mid.history.items old.used kept entry able exact c.requires.able old.net.channels mid.net.channels refl of_new waking noted mid.used later parents started cs woken_in parent_in new_in) in
     let ready : (n : ℕ) → Among n c.leave.new.self.numbers.items → can_at P t qs n ≡ true = subst (λ (ns : List ℕ). (n : ℕ) → Among n ns → can_at P t qs n ≡ true) (sym others) (others_ready P c.args.slice number s t ps qs old.history.items mid.history.items old.used kept entry able exact c.requires.able old.net.channels mid.net.channels refl of_new waking noted) in
     let left = c.in_ok-settle_all.ensures.noted ready (noted_taken P c.args.slice number s t ps qs old.history.items mid.history.items old.used kept entry able exact c.requires.able old.net.channels mid.net.channels refl of_new waking noted mid.used later parents started cs woken_in parent_in new_in c.candidates.new.net.channels c.in_ok-asked.ensures.readers) in
     let stays = c.in_ok-settle_all.ensures.state in
-    let queued : c.settle.new.able.numbers.items ≡ c.settle_all.new.able.numbers.items ++ cond (can_at P (state_of P c.settle_all.new.net) qs number) (number ∷ []) [] → c.settle.new.able.numbers.items ≡ ready_after P t qs able number = λ last.
+    let rs = order_of c.settle_all.new.net.processes in
+    let listed : rs ≡ qs = ap order_of c.in_ok-settle_all.ensures.processes in
+    let queued : c.settle.new.able.numbers.items ≡ c.settle_all.new.able.numbers.items ++ cond (can_at P (state_of P c.settle_all.new.net) rs number) (number ∷ []) [] → c.settle.new.able.numbers.items ≡ ready_after P t qs able number = λ last.
     queue_is P c.args.slice number s t ps qs old.history.items mid.history.items old.used kept entry able exact c.requires.able old.net.channels mid.net.channels refl of_new waking noted c.settle_all.new.able.numbers.items c.settle.new.able.numbers.items served
-    (last ∙ ap (λ (u : State Proc). c.settle_all.new.able.numbers.items ++ cond (can_at P u qs number) (number ∷ []) []) stays) in
+    (last ∙ ap₂ (λ (u : State Proc) (os : List Place). c.settle_all.new.able.numbers.items ++ cond (can_at P u os number) (number ∷ []) []) stays listed) in
     record {
-      played = on_ok_six c.settle.result c.settle.ensures.state c.settle.ensures.queue c.settle.ensures.sound c.settle.ensures.noted c.settle.ensures.waking c.settle.ensures.marks (λ ends last sound own wakes marks.
+      played = on_ok_seven c.settle.result c.settle.ensures.processes c.settle.ensures.state c.settle.ensures.queue c.settle.ensures.sound c.settle.ensures.noted c.settle.ensures.waking c.settle.ensures.marks (λ alike ends last sound own wakes marks.
           let final = ends ∙ stays in
+          let os = order_of c.settle.new.net.processes in
+          let same_order : os ≡ qs = ap order_of alike ∙ listed in
           record {
-            history = subst (λ (u : State Proc). IsPlayedBy P mid.history.items (places_of mid.paths.items) u mid.used) (sym (final ∙ same)) c.in_ok-keep_piece.ensures.kept;
+            history =
+                subst (λ (us : List Place). IsPlayedBy P mid.history.items us (state_of P c.settle.new.net) mid.used) (sym (same_order ∙ whole))
+                (subst (λ (u : State Proc). IsPlayedBy P mid.history.items (order_of mid.net.processes) u mid.used) (sym (final ∙ same)) c.in_ok-keep_piece.ensures.kept);
             sound = sound;
             able =
-                subst (λ (rs : List Place). AreAble P (state_of P c.settle.new.net) rs c.settle.new.able.numbers.items) whole
+                subst (λ (us : List Place). AreAble P (state_of P c.settle.new.net) us c.settle.new.able.numbers.items) (sym same_order)
                 (subst (λ (u : State Proc). AreAble P u qs c.settle.new.able.numbers.items) (sym final)
                 (are_able P t qs (in_turn number able (length qs)) c.settle.new.able.numbers.items (queued last) (all_in_turn number able (length qs)) (once_in_turn number able (length qs) exact.once)));
             noted =
-                subst (λ (rs : List Place). AreNoted P (state_of P c.settle.new.net) c.settle.new.net.channels rs) whole
+                subst (λ (us : List Place). AreNoted P (state_of P c.settle.new.net) c.settle.new.net.channels us) (sym same_order)
                 (subst (λ (u : State Proc). AreNoted P u c.settle.new.net.channels qs) (sym final)
                 (noted_all P t qs number cs c.settle_all.new.net.channels c.settle.new.net.channels wakes left
-                (subst (λ (u : State Proc). (q : Place) (x : Proc) → slice_get qs number ≡ Some q → get u.procs q ≡ Some x → is_some (step P u q) ≡ false → IsNoted P c.settle.new.net.channels number x) stays own)));
+                (subst (λ (u : State Proc). (q : Place) (x : Proc) → slice_get qs number ≡ Some q → get u.procs q ≡ Some x → is_some (step P u q) ≡ false → IsNoted P c.settle.new.net.channels number x) stays
+                (subst (λ (us : List Place). (q : Place) (x : Proc) → slice_get us number ≡ Some q → get (state_of P c.settle_all.new.net).procs q ≡ Some x → is_some (step P (state_of P c.settle_all.new.net) q) ≡ false → IsNoted P c.settle.new.net.channels number x) listed own))));
             numbered = record {
-              started = c.in_ok-keep_piece.ensures.numbered.started;
-              counted = c.in_ok-keep_piece.ensures.numbered.counted;
-              marked = marks (length (places_of mid.paths.items)) (subst (λ (rs : List Place). AreMarked (length rs) c.settle_all.new.able.marks.items c.settle_all.new.able.numbers.items) whole c.in_ok-settle_all.ensures.marks);
+              started = subst (λ (us : List Place). AreParents us mid.parents.items) (sym (same_order ∙ whole)) c.in_ok-keep_piece.ensures.numbered.started;
+              counted = c.in_ok-keep_piece.ensures.numbered.counted ∙ ap length (sym (same_order ∙ whole));
+              marked = subst (λ (us : List Place). AreMarked (length us) c.settle.new.able.marks.items c.settle.new.able.numbers.items) (sym same_order) (marks (length qs) c.in_ok-settle_all.ensures.marks);
             };
           });
       used = search rules;
-      front = search rules;
-      entry = search rules;
-      able = on_ok_two c.settle.result c.settle.ensures.queue c.settle.ensures.state (λ last ends.
-          queued last ∙ ap₂ (λ (u : State Proc) (rs : List Place). ready_after P u rs able number) (sym (ends ∙ stays)) whole);
+      front = IfOk-weaker c.settle.result _ _ (λ u alike turns low.
+          subst (λ (us : List Place). IsFrontWithin P turns mid.history.items us) (sym (ap order_of alike ∙ listed ∙ whole)) (c.in_ok-keep_piece.ensures.front turns low)) c.settle.ensures.processes;
+      entry = on_ok_two c.settle.result c.settle.ensures.processes c.settle.ensures.state (λ alike ends.
+          subst (λ (us : List Place). IsEntry P c.args.slice number s ps old.history.items (state_of P c.settle.new.net) us mid.history.items) (sym (ap order_of alike ∙ listed))
+          (subst (λ (u : State Proc). IsEntry P c.args.slice number s ps old.history.items u qs mid.history.items) (sym (ends ∙ stays)) entry));
+      able = on_ok_both c.settle.result c.settle.ensures.processes c.settle.ensures.queue c.settle.ensures.state (λ alike last ends.
+          queued last ∙ ap₂ (λ (u : State Proc) (us : List Place). ready_after P u us able number) (sym (ends ∙ stays)) (sym (ap order_of alike ∙ listed)));
     }

@@ -7,10 +7,10 @@ use Rattle.fm_run.proofs.Waiting.{free_waits}
 use Rattle.fm_run.proofs.processes.Processes.waits.Goals as goal
 
 pub returns-in-Meets : goal.returns-in-Meets
-returns-in-Meets c = IfOk-weaker c.waits_at.result _ _ (λ o told p next. told p (subst (IsNext p (proc_in p c.args.slot.now)) c.in-Meets.is next).0.0) c.waits_at.ensures
+returns-in-Meets c = IfOk-weaker c.waits_at.result _ _ (λ o told p q family next. told p q family (subst (IsNext p (proc_in p c.args.slot.now)) c.in-Meets.is next).0.0) c.waits_at.ensures
 
 pub returns-in-Steps : goal.returns-in-Steps
-returns-in-Steps c = λ p next. sym (free_waits (procs_of p c.args.self.now) c.args.path.now (need_of p (proc_in p c.args.slot.now)) (subst (IsNext p (proc_in p c.args.slot.now)) c.in-Steps.is next))
+returns-in-Steps c = λ p q family next. sym (free_waits (procs_of p c.args.self.now) q (need_of p (proc_in p c.args.slot.now)) (subst (IsNext p (proc_in p c.args.slot.now)) c.in-Steps.is next))
 
 pub returns-in-Rests : goal.returns-in-Rests
-returns-in-Rests c = λ p next. sym (ap (waits_by (procs_of p c.args.self.now) c.args.path.now) (subst (IsNext p (proc_in p c.args.slot.now)) c.in-Rests.is next))
+returns-in-Rests c = λ p q family next. sym (ap (waits_by (procs_of p c.args.self.now) q) (subst (IsNext p (proc_in p c.args.slot.now)) c.in-Rests.is next))
