@@ -126,7 +126,7 @@ module _ (program : Program) (s t : State Proc) (places : List Place) (own : ℕ
 
     module _ (able : List ℕ) (exact : AreAble program s places able) (candidates : List ℕ)
         (woken_in : (n : ℕ) → Contains (woken_of new) n → Contains candidates n)
-        (parent_in : ended_at (get t.procs p) ≡ true → (n : ℕ) → slice_get parents own ≡ Some n → Contains candidates n)
+        (parent_in : ended_at (get t.procs p) ≡ true → (n : ℕ) → slice_get parents own ≡ Some n → can_at program t (places ++ more) n ≡ true → Contains candidates n)
         (new_in : (n : ℕ) → length places ≤ n → n < length (places ++ more) → Contains candidates n) where
       -- who became able is among the candidates
       pub all_candidates : (n : ℕ) → newly (can_at program t (places ++ more)) own able n ≡ true → Contains candidates n
@@ -146,7 +146,7 @@ module _ (program : Program) (s t : State Proc) (places : List Place) (own : ℕ
 
           told : (q : Place) (is : slice_get places n ≡ Some q) → Contains (woken_of new) n ⊎ IsLastChild program s t p steps owned legal there q (apart n q differs is) → Contains candidates n
           told q is (inl woken) = woken_in n woken
-          told q is (inr last) = parent_in last.ended n (parent_is n q differs is last)
+          told q is (inr last) = parent_in last.ended n (parent_is n q differs is last) (and_right (is_new own able n) (can_at program t (places ++ more) n) new_n)
 
           old_one : (q : Place) (is : slice_get places n ≡ Some q) → is_some (step program t q) ≡ true → Contains candidates n
           old_one q is can = told q is (became_able n q differs is (not_true (is_some (step program s q)) (λ could. not_able (exact.whole n (ap (can_in program s) is ∙ could)))) can)

@@ -1,5 +1,6 @@
 -- Children that start and children that are joined, one after the other.
-use Rattle.std.proofs.Common.{◌≡◌, ℕ, zero, suc, ◌+◌, ◌-◌, ◌<◌, ◌≤◌, true, false, cond, Option, Some, None, List, [], ◌∷◌, ◌++◌, length, map, refl, sym, ap, ◌∙◌, arith}
+use Rattle.std.proofs.Common.{◌≡◌, ℕ, zero, suc, ◌+◌, ◌-◌, ◌<◌, ◌≤◌, ◌==◌, eq-eqb, true, false, cond, Option, Some, None, List, [], ◌∷◌, ◌++◌, length, map, refl, sym, ap, subst, ◌∙◌, arith}
+use Rattle.std.proofs.lemmas.Bool.{ne_eqb}
 use Rattle.std.proofs.lemmas.List.{map-append}
 use Rattle.std.specs.Prelude.{is_some, option_map, option_to_list}
 use Rattle.std.specs.FinMap.{get, insert}
@@ -10,6 +11,7 @@ use Rattle.fm_net.proofs.Keys.{path_order}
 use Rattle.fm_net.proofs.Children.{other_child, off_children, child_there, first_gathered}
 use Rattle.fm_mean.specs.Process.{Proc, has_ended, emptied}
 use Rattle.fm_mean.specs.Outcome.{ended_at, awaited}
+use native.Mathlib.Decide.{ℕ_discrete}
 
 -- ---- starting
 
@@ -131,6 +133,14 @@ module _ (m : Procs Proc) (p : Place) (b : ℕ) where
       go (Some xs) e =
           let x = child_there has_ended m p b 1 count xs e (n + 1) (omega arith) (omega arith) in
           absurd (cc (sym this ∙ ap ended_at x.1 ∙ x.2))
+
+  -- as many have ended as there are, or not all have
+  pub all_counted : (n count : ℕ) → n ≤ count → is_some (gathered has_ended m p b 1 n) ≡ true → (n < count → is_some (gathered has_ended m p b 1 count) ≡ false) → (n == count) ≡ is_some (gathered has_ended m p b 1 count)
+  all_counted n count within ended not_all = go (ℕ_discrete n count)
+    where
+      go : Dec (n ≡ count) → (n == count) ≡ is_some (gathered has_ended m p b 1 count)
+      go (yes e) = eq-eqb n count e ∙ sym (subst (λ (k : ℕ). is_some (gathered has_ended m p b 1 k) ≡ true) e ended)
+      go (no differs) = ne_eqb n count differs ∙ sym (not_all (omega (arith, within, differs)))
 
   kept_of_one : {X K : Type 0} (f : Proc → X) (g : K → X) (o : Option K) (x : Proc) → option_map g o ≡ Some (f x) → f x ∷ [] ≡ map g (option_to_list o)
   kept_of_one f g None x e = absurd (cc e)

@@ -1,6 +1,7 @@
 pub mod Steps
 pub mod Family
 pub mod Able
+pub mod Awaiting
 pub mod Balance
 pub mod Performing
 pub mod Doing

@@ -171,7 +171,7 @@ module _ (program : Program) (slice number : ℕ) (s t : State Proc) (places lat
 
   module _ (later_paid : ℕ) (later_kept : IsPlayedBy program later_hs later_places t later_paid) (parents : List ℕ) (started : AreParents later_places parents) (candidates : List ℕ)
       (woken_in : (n : ℕ) → Contains (woken_of new) n → Contains candidates n)
-      (parent_in : (q : Place) (n : ℕ) → slice_get places number ≡ Some q → ended_at (get t.procs q) ≡ true → slice_get parents number ≡ Some n → Contains candidates n)
+      (parent_in : (q : Place) (n : ℕ) → slice_get places number ≡ Some q → ended_at (get t.procs q) ≡ true → slice_get parents number ≡ Some n → can_at program t later_places n ≡ true → Contains candidates n)
       (new_in : (n : ℕ) → length places ≤ n → n < length later_places → Contains candidates n) where
     -- who became able is among the candidates
     pub candidates_whole : (n : ℕ) → newly (can_at program t later_places) number able n ≡ true → Contains candidates n
@@ -180,7 +180,8 @@ module _ (program : Program) (slice number : ℕ) (s t : State Proc) (places lat
         (all_candidates program s t places number own_place own_at.1 steps owned legal played_to old new of_old of_new waking (one_number program hs places s paid kept) (all_there program hs places s paid kept) noted
         more parents (subst (λ (ps : List Place). AreParents ps parents) entry.places_are started)
         (λ n m q e f. one_number program later_hs later_places t later_paid later_kept n m q (ap (λ (ps : List Place). slice_get ps n) entry.places_are ∙ e) (ap (λ (ps : List Place). slice_get ps m) entry.places_are ∙ f))
-        able exact candidates woken_in (λ ended n is. parent_in own_place n own_at.1 ended is) (λ n low high. new_in n low (subst (λ (ps : List Place). n < length ps) (sym entry.places_are) high)))
+        able exact candidates woken_in
+        (λ ended n is can. parent_in own_place n own_at.1 ended is (ap (λ (ps : List Place). can_at program t ps n) entry.places_are ∙ can)) (λ n low high. new_in n low (subst (λ (ps : List Place). n < length ps) (sym entry.places_are) high)))
 
     -- the others are noted, once the woken are taken out
     pub noted_taken : (taken : Channels) → ((c : ChanName) → waiting_reader taken c ≡ waiting_reader new c) → AreNotedBut program t taken later_places (OwnOrLeft number candidates 0)

@@ -1,8 +1,7 @@
 -- Numbers that are taken out of one list and put into another.
-use Rattle.std.proofs.Common.{◌≡◌, ◌⊎◌, inl, inr, ℕ, zero, suc, ◌+◌, ◌<◌, Option, Some, None, Bool, true, cond, List, [], ◌∷◌, ◌++◌, length, get_or, refl, sym, ap, ◌∙◌, subst, arith}
+use Rattle.std.proofs.Common.{◌≡◌, ◌⊎◌, inl, inr, ℕ, zero, suc, ◌+◌, ◌<◌, Option, Some, None, List, [], ◌∷◌, ◌++◌, length, get_or, option_to_list, refl, sym, ap, ◌∙◌, subst, arith}
 use Rattle.std.proofs.lemmas.List.Elements.{Contains-append_left, Contains-push}
-use Rattle.std.proofs.lemmas.Option.{slice_get-get_or}
-use Rattle.std.specs.Prelude.{Contains, IfNone, slice_get}
+use Rattle.std.specs.Prelude.{Contains, IfNone}
 
 contains_split : (xs ys : List ℕ) (n k : ℕ) → k < length (xs ++ ys) → get_or (xs ++ ys) k n ≡ n → Contains xs n ⊎ Contains ys n
 contains_split [] ys n k low is = inr (k, low, is)
@@ -46,19 +45,13 @@ pub left_in : (all rest : List ℕ) (n : ℕ) → rest ≡ [] → Contains all n
 left_in all rest n none (inl k) = k
 left_in all rest n none (inr k) = absurd (in_none rest n none k)
 
-pub kept_if : (xs later : List ℕ) (x : ℕ) (b : Bool) → later ≡ xs ++ cond b (x ∷ []) [] → (n : ℕ) → Contains xs n → Contains later n
-kept_if xs later x b is n k = subst (λ (ns : List ℕ). Contains ns n) (sym is) (Contains-append_left xs (cond b (x ∷ []) []) n k)
+-- one number is put behind the others, or none
+module _ (xs later : List ℕ) (o : Option ℕ) (is : later ≡ xs ++ option_to_list o) (n : ℕ) where
+  pub kept_with : Contains xs n → Contains later n
+  kept_with k = subst (λ (ns : List ℕ). Contains ns n) (sym is) (Contains-append_left xs (option_to_list o) n k)
 
-pub there_if : (xs later : List ℕ) (x : ℕ) (b : Bool) → later ≡ xs ++ cond b (x ∷ []) [] → b ≡ true → Contains later x
-there_if xs later x b is wanted =
-    subst (λ (ns : List ℕ). Contains ns x) (sym (is ∙ ap (λ (c : Bool). xs ++ cond c (x ∷ []) []) wanted)) (Contains-push xs x)
-
--- what was read at a place is what stands there
-pub same_got : (xs : List ℕ) (k a n : ℕ) → k < length xs → a ≡ get_or xs k a → slice_get xs k ≡ Some n → a ≡ n
-same_got xs k a n low is at = the_one a n (ap Some is ∙ sym (slice_get-get_or xs k a low) ∙ at)
-  where
-    the_one : (x y : ℕ) → Some x ≡ Some y → x ≡ y
-    the_one x y e = cc e
+  pub there_with : o ≡ Some n → Contains later n
+  there_with e = subst (λ (ns : List ℕ). Contains ns n) (sym (is ∙ ap (λ (p : Option ℕ). xs ++ option_to_list p) e)) (Contains-push xs n)
 
 pub same_or_below : {P : Type 0} (n k m : ℕ) → m ≡ k → n < k + 1 → (n < k → P) → P ⊎ (n ≡ m)
 same_or_below {P = P} n k m is low below = go (split n k low)

@@ -1,6 +1,6 @@
 //! Who became able to step by a piece of a process, and who is noted then.
 
-ghost use Rattle.std.specs.Prelude.{◌≡◌, ◌≢◌, ◌≤◌, ◌<◌, ◌++◌, ◌∷◌, ◌==◌, ◌&&◌, ℕ, true, false, cond, not, [], Some, List, Contains, filter, is_some, length, slice_get, slice_index_or, IfOk, OnOk};
+ghost use Rattle.std.specs.Prelude.{◌≡◌, ◌≢◌, ◌≤◌, ◌<◌, ◌++◌, ◌∷◌, ◌==◌, ◌&&◌, ℕ, true, false, cond, not, [], Some, List, Contains, filter, is_some, length, option_to_list, slice_get, slice_index_or, IfOk, OnOk};
 ghost use Rattle.std.specs.FinMap.{get};
 ghost use Rattle.std.specs.List.{range_with_len};
 ghost use Rattle.std.specs.List.Sorted.{IsNonDecreasing};
@@ -40,29 +40,68 @@ fn take_woken(alloc: Global, channels: &mut Channels) -> Result<Vec<u32>, NoMemo
     Ok(all)
 }
 
-fn push_if(numbers: &mut Vec<u32>, number: u32, is_wanted: bool) -> Result<(), NoMemory>
-    ensures { OnOk result (numbers.new.items ≡ numbers.old.items ++ cond is_wanted (number ∷ []) []) }
+fn count_at(counts: &[usize], number: u32) -> usize
+    ensures { result ≡ slice_index_or counts.now number 0 }
 {
-    if is_wanted {
+    match counts.get(number as usize) {
+        Some(count) => *count,
+        None => 0,
+    }
+}
+
+/// Keeps the count of a process.
+pub(crate) fn keep_count(counts: &mut [usize], number: u32, count: usize)
+    ensures this { number < length counts.old → slice_index_or counts.new number 0 ≡ count }
+    ensures others { (n : ℕ) → n ≢ number → slice_index_or counts.new n 0 ≡ slice_index_or counts.old n 0 }
+{
+    let place = number as usize;
+    if place < counts.len() {
+        counts[place] = count;
+    }
+}
+
+// Whether the process of a number doesn't wait for a child that hasn't ended. The children that have ended,
+// from the first on, are counted, and aren't looked at again.
+fn awaits_nobody(net: &Net, ended: &mut [usize], number: u32) -> Result<bool, NoMemory>
+    ensures { IfOk result (λ r. (p : declared.Program) → IsSound p net.now → can_at p (state_of p net.now) (order_of net.now.processes) number ≡ true → r ≡ true) }
+{
+    let family = net.processes.family(number);
+    let before = count_at(ended, number);
+    let now = net.processes.count_ended(family, before)?;
+    keep_count(ended, number, now);
+    Ok(now >= family.count)
+}
+
+// The one that started the process of a number, if this has ended, and it waits for no other child.
+fn parent_to_ask(
+    net: &Net,
+    parents: &[u32],
+    ended: &mut [usize],
+    number: u32,
+) -> Result<Option<u32>, NoMemory>
+    ensures { IfOk result (λ r. (p : declared.Program) (q : Place) (n : ℕ) → IsSound p net.now → place_at net.now.processes.slots number ≡ Some q → ended_at (get (procs_of p net.now.processes) q) ≡ true
+        → slice_get parents.now number ≡ Some n → can_at p (state_of p net.now) (order_of net.now.processes) n ≡ true → r ≡ Some n) }
+{
+    if !net.processes.has_ended(number) {
+        return Ok(None);
+    }
+    let parent = match parents.get(number as usize) {
+        Some(parent) => *parent,
+        None => return Ok(None),
+    };
+    if awaits_nobody(net, ended, parent)? {
+        return Ok(Some(parent));
+    }
+    Ok(None)
+}
+
+fn push_some(numbers: &mut Vec<u32>, number: Option<u32>) -> Result<(), NoMemory>
+    ensures { OnOk result (numbers.new.items ≡ numbers.old.items ++ option_to_list number) }
+{
+    if let Some(number) = number {
         numbers.push(number)?;
     }
     Ok(())
-}
-
-// The one that started the process of a number, where it's wanted.
-fn push_parent(
-    numbers: &mut Vec<u32>,
-    parents: &[u32],
-    number: u32,
-    is_wanted: bool,
-) -> Result<(), NoMemory>
-    ensures kept { OnOk result ((n : ℕ) → Contains numbers.old.items n → Contains numbers.new.items n) }
-    ensures parent { OnOk result ((n : ℕ) → is_wanted ≡ true → slice_get parents.now number ≡ Some n → Contains numbers.new.items n) }
-{
-    match parents.get(number as usize) {
-        Some(parent) => push_if(numbers, *parent, is_wanted),
-        None => Ok(()),
-    }
 }
 
 // The numbers from one on, and below another.
@@ -80,12 +119,13 @@ fn push_new(numbers: &mut Vec<u32>, from: usize, to: usize) -> Result<(), NoMemo
 }
 
 /// The numbers of the processes that may have become able by a piece of this one, in ascending order: who
-/// was woken, who waits for it, if it has ended, and those that it started, which are all from `before` on.
-/// A number may stand there twice.
+/// was woken, who waits for it and for no other child, if it has ended, and those that it started, which are
+/// all from `before` on. A number may stand there twice.
 pub(crate) fn candidates(
     alloc: Global,
     net: &mut Net,
     parents: &[u32],
+    ended: &mut [usize],
     number: u32,
     before: usize,
 ) -> Result<Vec<u32>, NoMemory>
@@ -95,12 +135,13 @@ pub(crate) fn candidates(
     ensures readers { OnOk result ((c : declared_channel.ChanName) → waiting_reader net.new.channels c ≡ waiting_reader net.old.channels c) }
     ensures sorted { IfOk result (λ v. IsNonDecreasing v.items) }
     ensures woken { IfOk result (λ v. (n : ℕ) → Contains (woken_of net.old.channels) n → Contains v.items n) }
-    ensures parent { IfOk result (λ v. (p : declared.Program) (q : Place) (n : ℕ) → place_at net.old.processes.slots number ≡ Some q → ended_at (get (procs_of p net.old.processes) q) ≡ true → slice_get parents.now number ≡ Some n → Contains v.items n) }
+    ensures parent { IfOk result (λ v. (p : declared.Program) (q : Place) (n : ℕ) → IsSound p net.old → place_at net.old.processes.slots number ≡ Some q → ended_at (get (procs_of p net.old.processes) q) ≡ true
+        → slice_get parents.now number ≡ Some n → can_at p (state_of p net.old) (order_of net.old.processes) n ≡ true → Contains v.items n) }
     ensures new { IfOk result (λ v. (n : ℕ) → before ≤ n → n < length (order_of net.old.processes) → Contains v.items n) }
 {
     let mut numbers = take_woken(alloc, &mut net.channels)?;
-    let has_ended = net.processes.has_ended(number);
-    push_parent(&mut numbers, parents, number, has_ended)?;
+    let parent = parent_to_ask(net, parents, ended, number)?;
+    push_some(&mut numbers, parent)?;
     push_new(&mut numbers, before, net.processes.slots.len())?;
     numbers.sort()?;
     Ok(numbers)

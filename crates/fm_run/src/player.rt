@@ -8,7 +8,7 @@ ghost use Rattle.fm_run.specs.Readings.{order_of, procs_of, state_of};
 ghost use Rattle.fm_run.specs.Runs.{AreNumbered, IsFrontWithin, IsPlayedBy, IsPlayed, IsEntry, first_stand, stand_of};
 ghost use Rattle.fm_chan.specs.Woken.{WakesAll};
 
-use crate::becoming::{candidates, settle, settle_all};
+use crate::becoming::{candidates, keep_count, settle, settle_all};
 use crate::orders::{Queue, chosen};
 use crate::pieces::make_piece;
 use crate::ports::Ports;
@@ -28,6 +28,8 @@ pub(crate) struct Player {
     pub net: Net,
     /// For each process the number of the one that started it, and for main its own.
     pub parents: Vec<u32>,
+    /// For each how many of the children that it waits for are known to have ended, from the first on.
+    pub ended: Vec<usize>,
     /// Those that can step.
     pub able: Queue,
     /// The pieces.
@@ -90,12 +92,14 @@ impl Player {
     {
         let mut net = first_net(alloc, program)?;
         let parents = vec![in alloc; 0]?;
+        let ended = vec![in alloc; 0]?;
         let mut able = Queue::new(alloc);
         able.grow(1)?;
         settle(&mut net, program, &mut able, 0)?;
         Ok(Player {
             net,
             parents,
+            ended,
             able,
             history: Vec::new(alloc),
             used: 0,
@@ -142,6 +146,8 @@ impl Player {
         })?;
         let count = self.net.processes.slots.len();
         self.parents.resize(count, number)?;
+        self.ended.resize(count, 0)?;
+        keep_count(&mut self.ended, number, 0);
         self.able.grow(count)?;
         self.used = both(self.used, piece.cost)?;
         Ok(())
@@ -170,7 +176,14 @@ impl Player {
         self.keep_piece(alloc, program, number, slice)?;
         self.able.leave(number);
         let parents = self.parents.as_slice();
-        let asked = candidates(alloc, &mut self.net, parents, number, before)?;
+        let asked = candidates(
+            alloc,
+            &mut self.net,
+            parents,
+            &mut self.ended,
+            number,
+            before,
+        )?;
         settle_all(
             &mut self.net,
             program,

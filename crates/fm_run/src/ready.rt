@@ -1,6 +1,6 @@
 //! Which processes can step.
 
-ghost use Rattle.std.specs.Prelude.{◌≡◌, ◌+◌, ℕ, length, true, false, is_some, Some, Option, IfOk, OnOk};
+ghost use Rattle.std.specs.Prelude.{◌≡◌, ◌+◌, ◌<◌, ◌≤◌, ℕ, length, true, false, is_some, Some, Option, IfOk, OnOk};
 ghost use Rattle.std.specs.FinMap.{contains_key, get};
 ghost use Rattle.std.specs.Option.{option_copied};
 ghost use Rattle.fm_base.specs.declared.path.ChanName as declared_channel;
@@ -106,18 +106,32 @@ impl Processes {
         }
     }
 
+    /// How many of some children have ended, from the first on, where so many are known to have.
+    pub(crate) fn count_ended(&self, family: Family, from: usize) -> Result<usize, NoMemory>
+        ensures within { IfOk result (λ r. from ≤ family.count → r ≤ family.count) }
+        ensures ended { IfOk result (λ r. (p : declared.Program) (q : Place) (b : ℕ) → AreChildren (order_of self.now) family.first q b family.count →
+            is_some (gathered is_done (procs_of p self.now) q b 1 from) ≡ true → is_some (gathered is_done (procs_of p self.now) q b 1 r) ≡ true) }
+        ensures not_all { IfOk result (λ r. (p : declared.Program) (q : Place) (b : ℕ) → AreChildren (order_of self.now) family.first q b family.count →
+            r < family.count → is_some (gathered is_done (procs_of p self.now) q b 1 family.count) ≡ false) }
+    {
+        let mut place = from;
+        'children: while place < family.count {
+            let number = number_behind(family.first, place)?;
+            if !self.has_ended(number) {
+                return Ok(place);
+            }
+            place += 1;
+        }
+        Ok(place)
+    }
+
     /// Whether children have all ended.
     fn have_ended(&self, family: Family) -> Result<bool, NoMemory>
         ensures { IfOk result (λ r. (p : declared.Program) (q : Place) (b : ℕ) → AreChildren (order_of self.now) family.first q b family.count →
             r ≡ is_some (gathered is_done (procs_of p self.now) q b 1 family.count)) }
     {
-        'children: for place in 0..family.count {
-            let number = number_behind(family.first, place)?;
-            if !self.has_ended(number) {
-                return Ok(false);
-            }
-        }
-        Ok(true)
+        let ended = self.count_ended(family, 0)?;
+        Ok(ended == family.count)
     }
 
     /// The children that the process of a number waits for.

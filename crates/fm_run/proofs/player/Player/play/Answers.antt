@@ -88,9 +88,10 @@ returns c =
     let started : AreParents qs parents =
     subst (AreParents qs) (sym c.as_slice-parents.ensures.value) (subst (λ (rs : List Place). AreParents rs mid.parents.items) (sym whole) c.in_ok-keep_piece.ensures.numbered.started) in
     let woken_in : (n : ℕ) → Contains (woken_of mid.net.channels) n → Contains cs n = λ n k. subst (λ (ns : List ℕ). Contains ns n) (sym c.as_slice.ensures.value) (c.in_ok-asked.ensures.woken n k) in
-    let parent_in : (q : Place) (n : ℕ) → slice_get ps number ≡ Some q → ended_at (get t.procs q) ≡ true → slice_get parents number ≡ Some n → Contains cs n = λ q n at ended is.
+    let parent_in : (q : Place) (n : ℕ) → slice_get ps number ≡ Some q → ended_at (get t.procs q) ≡ true → slice_get parents number ≡ Some n → can_at P t qs n ≡ true → Contains cs n = λ q n at ended is can.
     subst (λ (ns : List ℕ). Contains ns n) (sym c.as_slice.ensures.value)
-    (c.in_ok-asked.ensures.parent P q n (subst (λ (rs : List Place). slice_get rs number ≡ Some q) whole (stands_later P c.args.slice number s t ps qs old.history.items mid.history.items old.used kept entry able exact c.requires.able old.net.channels mid.net.channels refl of_new waking noted q at)) (subst (λ (u : State Proc). ended_at (get u.procs q) ≡ true) same ended) is) in
+    (c.in_ok-asked.ensures.parent P q n c.in_ok-keep_piece.ensures.sound (subst (λ (rs : List Place). slice_get rs number ≡ Some q) whole (stands_later P c.args.slice number s t ps qs old.history.items mid.history.items old.used kept entry able exact c.requires.able old.net.channels mid.net.channels refl of_new waking noted q at)) (subst (λ (u : State Proc). ended_at (get u.procs q) ≡ true) same ended) is
+    (subst (λ (rs : List Place). can_at P (state_of P mid.net) rs n ≡ true) whole (subst (λ (u : State Proc). can_at P u qs n ≡ true) same can))) in
     let before : c.len-before.result ≡ length ps = c.len-before.ensures ∙ sym (length-map old.net.processes.slots (λ (row : Place × Slot). row.0)) in
     let new_in : (n : ℕ) → length ps ≤ n → n < length qs → Contains cs n = λ n high within.
     subst (λ (ns : List ℕ). Contains ns n) (sym c.as_slice.ensures.value) (c.in_ok-asked.ensures.new n (omega (arith, high, before)) (subst (λ (rs : List Place). n < length rs) whole within)) in
