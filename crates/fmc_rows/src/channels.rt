@@ -35,6 +35,20 @@ fn send(
     }
 }
 
+// Notes that a process of this number waits at the port. Nobody is woken by that.
+fn wait(
+    rt: &impl Abort,
+    channels: &mut Channels,
+    port: &Port,
+    number: u32,
+) -> Result<(), NoMemory> {
+    assert!(rt; channels.contains(port.channel()));
+    assert!(rt; !channels.is_ready(port));
+    channels.wait(port.channel(), number)?;
+    assert_eq!(rt; channels.next_woken(), None);
+    Ok(())
+}
+
 fn receive(rt: &impl Abort, channels: &mut Channels, port: &Port) -> Got {
     assert!(rt; !port.is_outport());
     channels.receive(port, &[])
@@ -90,7 +104,10 @@ fn messages_come_in_order_and_then_the_end(rt: HostRuntime) -> Result<(), Fail> 
     let mut channels = Channels::new(alloc);
     let (inport, outport) = made(&rt, alloc, &mut channels, 1)?;
     assert!(rt; is_wait(receive(&rt, &mut channels, &inport)));
+    wait(&rt, &mut channels, &inport, 3)?;
     send(&rt, &mut channels, &outport, word(alloc, 7)?)?;
+    assert_eq!(rt; channels.next_woken(), Some(3));
+    assert_eq!(rt; channels.next_woken(), None);
     send(&rt, &mut channels, &outport, word(alloc, 8)?)?;
     assert_eq!(rt; first_word(receive(&rt, &mut channels, &inport)), Some(7));
     assert!(rt; channels.name(&outport) == inport.channel());
@@ -102,7 +119,8 @@ fn messages_come_in_order_and_then_the_end(rt: HostRuntime) -> Result<(), Fail> 
     Ok(())
 }
 
-// The inport of channel 1 goes, with it that of channel 2, and with that the outport of channel 3.
+// The inport of channel 1 goes, with it that of channel 2, and with that the outport of channel 3, whose
+// reader is woken.
 #[test]
 fn ports_in_messages_go_with_an_inport(rt: HostRuntime) -> Result<(), Fail> {
     let alloc = rt.alloc();
@@ -118,12 +136,14 @@ fn ports_in_messages_go_with_an_inport(rt: HostRuntime) -> Result<(), Fail> {
     )?;
     send(&rt, &mut channels, &first_out, with_port(alloc, second_in)?)?;
     assert!(rt; is_wait(receive(&rt, &mut channels, &third_in)));
+    wait(&rt, &mut channels, &third_in, 5)?;
     channels.discard(first_in);
+    assert_eq!(rt; channels.next_woken(), Some(5));
     assert!(rt; is_end(receive(&rt, &mut channels, &third_in)));
     Ok(())
 }
 
-// A merger ends where its last writer is closed, in whatever order they are.
+// A merger ends where its last writer is closed, in whatever order they are, and its reader is woken then.
 #[test]
 fn a_merger_ends_with_its_last_writer(rt: HostRuntime) -> Result<(), Fail> {
     let alloc = rt.alloc();
@@ -145,8 +165,10 @@ fn a_merger_ends_with_its_last_writer(rt: HostRuntime) -> Result<(), Fail> {
     channels.reserve(&first)?;
     send(&rt, &mut channels, &first, word(alloc, 7)?)?;
     assert!(rt; !channels.probe(&inport));
-    channels.discard(first);
     assert_eq!(rt; first_word(receive(&rt, &mut channels, &inport)), Some(7));
+    wait(&rt, &mut channels, &inport, 2)?;
+    channels.discard(first);
+    assert_eq!(rt; channels.next_woken(), Some(2));
     assert!(rt; is_end(receive(&rt, &mut channels, &inport)));
     Ok(())
 }
