@@ -1,0 +1,22 @@
+//! Stack code: instructions, code of a program, bodies of processes, and what bodies ask for.
+//!
+//! `specs/Acts` tells what each instruction does, `specs/Statements` what a statement makes of its body.
+#![tactic(auto)]
+
+mod ask;
+mod body;
+mod code;
+mod instr;
+mod pile;
+mod row;
+mod scratch;
+mod stack;
+
+pub use ask::{Ask, Operand};
+pub use body::{Back, Body, Frame, SharedCode, Start, Turns};
+pub use code::{Code, Entry, Formal, Span, Unit};
+pub use instr::{Build, End, Eval, Instr, Loop, Meet};
+pub use pile::Pile;
+pub use row::Row;
+pub use scratch::{Place, Scratch};
+pub use stack::Stack;

@@ -1,0 +1,2 @@
+//! The machine.
+#![tactic(auto)]
