@@ -1,4 +1,3 @@
 pub mod Acts
 pub mod Passing
 pub mod Statements
-

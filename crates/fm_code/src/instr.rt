@@ -31,7 +31,16 @@ pub enum Eval {
     Intrinsic(Intrinsic, u32),
 }
 
-/// Adds to what the statement builds: a line, operands, or a place for a process. The statement goes on.
+/// A loop of a unit.
+#[derive(Clone, Copy, Debug, PartialEq, Eq)]
+pub struct Loop {
+    /// Its number among those of the unit: that of its trips among those of the frame.
+    pub number: u32,
+    /// The word of its variable.
+    pub word: u32,
+}
+
+/// Adds to what the statement builds: a line, operands, its loop, or a place for a process. The statement goes on.
 #[derive(Clone, Copy, Debug, PartialEq, Eq)]
 pub enum Build {
     /// A byte goes last into the text.
@@ -58,23 +67,12 @@ pub enum Build {
     PassPortAt,
     /// The word of the frame whose number is on top is that of IOSTAT.
     Status,
+    /// The loop that the statement begins, or a trip of which it ends.
+    Loop(Loop),
     /// So many words are the LOCATION of the process.
     Location(u32),
     /// Two words are the SUBMACHINE of the process.
     Submachine,
-}
-
-/// A loop: where its trips are kept, its variable, and where it leads.
-#[derive(Clone, Copy, Debug, PartialEq, Eq)]
-pub struct Loop {
-    /// The number of its trips among those of the frame.
-    pub number: u32,
-    /// The word of its variable.
-    pub word: u32,
-    /// The address of its body.
-    pub body: u32,
-    /// The address behind it.
-    pub behind: u32,
 }
 
 /// Ends a statement that concerns the process alone. Unless it says otherwise, the last operand is the
@@ -89,10 +87,10 @@ pub enum End {
     Store(u32, u32),
     /// Stores the word on top at the word of the frame whose number is below it.
     StoreAt(u32),
-    /// Begins a loop, of its first and last value and its step.
-    Enter(Loop),
-    /// Ends a trip of a loop.
-    Again(Loop),
+    /// Begins the loop, of its first and last value and its step: goes to its body, or behind it.
+    Enter(u32, u32),
+    /// Ends a trip of the loop: goes to its body, or behind it.
+    Again(u32, u32),
     /// Prints the line.
     Print(u32),
     /// Calls a unit with the operands.

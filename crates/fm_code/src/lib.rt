@@ -6,6 +6,7 @@
 mod ask;
 mod body;
 mod code;
+mod copying;
 mod instr;
 mod pile;
 mod row;
@@ -15,6 +16,7 @@ mod stack;
 pub use ask::{Ask, Operand};
 pub use body::{Back, Body, Frame, SharedCode, Start, Turns};
 pub use code::{Code, Entry, Formal, Span, Unit};
+pub use copying::copy_body;
 pub use instr::{Build, End, Eval, Instr, Loop, Meet};
 pub use pile::Pile;
 pub use row::Row;

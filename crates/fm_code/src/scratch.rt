@@ -1,8 +1,13 @@
 //! What a statement builds before it ends.
 
+ghost use Rattle.std.specs.Prelude.{◌≡◌};
+ghost use Rattle.fm_code.specs.Acts.{nothing};
+
 use crate::ask::Operand;
+use crate::instr::Loop;
 use crate::row::Row;
 use fm_base::{Printed, Seq};
+use std::alloc::Global;
 
 /// Where a process is to be put.
 #[derive(Debug, PartialEq, Eq, Drop)]
@@ -26,6 +31,36 @@ pub struct Scratch {
     pub operands: Row<Operand>,
     /// The word of IOSTAT.
     pub status: Option<u32>,
+    /// The loop that the statement begins, or a trip of which it ends.
+    pub counts: Option<Loop>,
     /// Where a process is to be put.
     pub place: Place,
+}
+
+impl Scratch {
+    /// Nothing is built yet. Takes no memory.
+    pub fn new(alloc: Global) -> Scratch
+        ensures { result ≡ nothing }
+    {
+        Scratch {
+            text: Row::new(alloc),
+            line: Row::new(alloc),
+            operands: Row::new(alloc),
+            status: None,
+            counts: None,
+            place: Place::Here,
+        }
+    }
+
+    /// Takes all that was built.
+    pub fn clear(&mut self)
+        ensures { self.new ≡ nothing }
+    {
+        self.text.clear();
+        self.line.clear();
+        self.operands.clear();
+        self.status = None;
+        self.counts = None;
+        self.place = Place::Here;
+    }
 }
