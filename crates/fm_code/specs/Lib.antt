@@ -1,3 +1,4 @@
 pub mod Acts
 pub mod Passing
 pub mod Statements
+pub mod Parts

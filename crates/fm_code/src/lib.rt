@@ -8,6 +8,7 @@ mod body;
 mod code;
 mod copying;
 mod instr;
+mod parts;
 mod pile;
 mod row;
 mod scratch;
