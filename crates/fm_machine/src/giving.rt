@@ -1,12 +1,12 @@
 //! What a frame gives back, and the ports that are let go.
 
-ghost use Rattle.std.specs.Prelude.{◌≡◌, ◌++◌, true, length, cond, ◌&&◌, [], ◌∷◌, IfOk, OnOk};
+ghost use Rattle.std.specs.Prelude.{◌≡◌, ◌++◌, true, length, MatchOption, cond, ◌&&◌, [], ◌∷◌, IfOk, OnOk};
 ghost use Rattle.fm_code.specs.Acts.{span_of};
 ghost use Rattle.fm_code.specs.Passing.{spliced, back_fits, backs_fit, merged, displaced, got_span, given_span, give, give_all, give_ports, live, is_port, ports_in};
 ghost use Rattle.fm_machine.specs.Frames.{given};
 
 use crate::building::span_of;
-use crate::passing::{front, nulls};
+use crate::passing::nulls;
 use fm_base::NoMemory;
 use fm_code::{Back, Row, Span};
 use std::alloc::Global;
@@ -36,6 +36,14 @@ fn is_port(word: i64) -> bool
     word != 0
 }
 
+/// The first word, and the rest.
+fn front_word(words: &[i64]) -> Option<(i64, &[i64])>
+    ensures { MatchOption result (words.now ≡ []) (λ f. words.now ≡ f.0 ∷ f.1.now) }
+{
+    let (first, rest) = words.split_first()?;
+    Some((*first, rest))
+}
+
 /// A port word with another over it, unless that is NULL. A port in whose place that one goes is noted.
 fn merge_one(old: i64, new: i64, drops: &mut Row<i64>) -> Result<i64, NoMemory>
     ensures word { IfOk result (λ w. w ≡ cond (is_port new) new old) }
@@ -51,6 +59,7 @@ fn merge_one(old: i64, new: i64, drops: &mut Row<i64>) -> Result<i64, NoMemory>
 }
 
 /// Port words with those over them that aren't NULL; the ports in whose places these go are noted.
+
 fn merge(
     alloc: Global,
     mine: &[i64],
@@ -65,8 +74,8 @@ fn merge(
     let mut words = Row::new(alloc);
     let mut mine = mine;
     let mut theirs = theirs;
-    'words: while let Some((old, mine_behind)) = front(mine) {
-        let Some((new, theirs_behind)) = front(theirs) else {
+    'words: while let Some((old, mine_behind)) = front_word(mine) {
+        let Some((new, theirs_behind)) = front_word(theirs) else {
             break;
         };
         words.push(merge_one(old, new, drops)?)?;
