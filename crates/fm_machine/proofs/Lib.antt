@@ -1,3 +1,5 @@
 pub mod Merging
 pub mod Plain
 pub mod Lines
+pub mod Seating
+pub mod Returning

@@ -1,11 +1,13 @@
 -- What the machine tells of the end of a statement, and of what a body does then.
 -- Source: this profile.
-use Rattle.std.specs.Prelude.{◌≡◌, ℕ, ℤ, Option, Some, None, List, [], ◌∷◌, option_to_list}
+use Rattle.std.specs.Prelude.{◌≡◌, ℕ, ℤ, Bool, if◌then◌else◌, Ok, Option, Some, None, List, [], ◌∷◌, option_to_list}
 use Rattle.fm_code.specs.declared.ask.Ask.{Ask}
 use Rattle.fm_code.specs.declared.ask.Ask.TheVariants.{LetGo}
 use Rattle.fm_code.specs.declared.body.Body.{Body}
 use Rattle.fm_code.specs.Statements as statements
-use Rattle.fm_code.specs.Statements.{Action, Own, Meets, Ran}
+use Rattle.fm_map.specs.Placement.{Seat}
+use Rattle.fm_code.specs.declared.ask.Operand.{Operand}
+use Rattle.fm_code.specs.Statements.{Action, Own, Meets, Ran, CodeUnit, unit_at, calls, refers, starts_at}
 use Rattle.fm_machine.specs.declared.looking.Look.{Look}
 use Rattle.fm_machine.specs.declared.looking.Look.TheVariants as look
 use Rattle.fm_machine.specs.declared.performing.Finish.{Finish}
@@ -44,8 +46,16 @@ Stays (finish.Went line cost) old new = Unit {0}
 Stays (finish.Asks a) old new = new ≡ old
 Stays finish.Stuck old new = new ≡ old
 
--- a step was made, or something asked for, or neither
-pub record IsFinish (f : Finish) (old new : Body) (a : Action) : Type 0 where
-  pub ran : went f new ≡ statements.ran a
-  pub asks : asked f ≡ statements.ask_in a
-  pub stays : Stays f old new
+-- a frame was opened at this cost, or it doesn't fit
+abbrev pub opened_by : Option ℕ → Body → Action
+opened_by None b = statements.Stuck
+opened_by (Some cost) b = Own b [] [] cost
+
+-- a call, or a reference, where results stay
+abbrev pub opening : (keeps : Bool) → (number to : ℕ) → List Operand → Body → Action
+opening keeps n to os b = if keeps then refers n (unit_at b n) b to os else calls n (unit_at b n) b to os
+
+-- a start at this seat
+abbrev pub starting : (number : ℕ) → Option CodeUnit → (to : ℕ) → List Operand → Seat → Body → Action
+starting n None to os seat b = statements.Stuck
+starting n (Some u) to os seat b = starts_at n u b to os (Ok seat)

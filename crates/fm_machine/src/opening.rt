@@ -1,0 +1,207 @@
+//! Calls, references and starts.
+
+ghost use Rattle.std.specs.Prelude.{◌≡◌, [], IfOk, Some, None, replicate};
+ghost use Rattle.fm_code.specs.Statements.{unit_at, at_statement, new_frame, ran, ask_in, starts};
+ghost use Rattle.fm_code.specs.Passing.{all_fit};
+ghost use Rattle.fm_machine.specs.Looks.{look_in, opened_by, opening, starting, went, asked, Stays};
+
+use crate::looking::{Look, fail, unit_at};
+use crate::passing::{Entered, all_fit, enter};
+use crate::performing::Finish;
+use crate::seats::seat_for;
+use fm_base::{Machine, NoMemory, Seq};
+use fm_code::{Body, Frame, Operand, Place, Row, Start, Turns, Unit};
+use std::alloc::Global;
+use std::mem::replace;
+
+/// Goes on at a statement: no reference of that one is done yet.
+pub(crate) fn go_to(frame: &mut Frame, to: u32)
+    ensures { frame.new ≡ at_statement frame.old to }
+{
+    frame.address = to;
+    frame.results.clear();
+}
+
+/// The loops of a unit, none of them begun.
+fn no_loops(alloc: Global, count: u32) -> Result<Row<Option<Turns>>, NoMemory>
+    ensures { IfOk result (λ l. l ≡ replicate count None) }
+{
+    let none: Option<Turns> = None;
+    let loops = vec![in alloc; none; count as usize]?;
+    Ok(Row::from_vec(loops))
+}
+
+/// A frame at its first statement.
+fn new_frame(alloc: Global, number: u32, unit: &Unit, entered: Entered) -> Result<Frame, NoMemory>
+    ensures { IfOk result (λ f. f ≡ new_frame number unit.now entered.words entered.backs) }
+{
+    let Entered { words, backs } = entered;
+    Ok(Frame {
+        unit: number,
+        address: 0,
+        words,
+        loops: no_loops(alloc, unit.loops)?,
+        results: Row::new(alloc),
+        starts: Row::new(alloc),
+        backs,
+    })
+}
+
+/// Whether the operands fit a unit, from a frame of so many words.
+fn is_passed(unit: &Unit, mine: usize, operands: &[Operand]) -> bool
+    ensures { result ≡ all_fit mine unit.now.words unit.now.formals operands.now }
+{
+    all_fit(mine, unit.words as usize, unit.formals.as_slice(), operands)
+}
+
+/// Opens the frame of a unit on the innermost one, which goes on at the address and, where it refers to a
+/// function, keeps its results. The cost; none, and no change, where the operands don't fit.
+pub(crate) fn open(
+    alloc: Global,
+    number: u32,
+    to: u32,
+    keeps: bool,
+    operands: &[Operand],
+    body: &mut Body,
+) -> Result<Option<u64>, NoMemory>
+    ensures opened { IfOk result (λ c. opened_by c body.new ≡ opening keeps number to operands.now body.old) }
+    ensures stays { IfOk result (λ c. c ≡ None → body.new ≡ body.old) }
+{
+    let mine = body.frame.words.len();
+    let Some(unit) = unit_at(&body.code, number) else {
+        return Ok(None);
+    };
+    if !is_passed(unit, mine, operands) {
+        return Ok(None);
+    }
+    let formals = unit.formals.as_slice();
+    let entered = enter(alloc, formals, operands, unit.words, &mut body.frame.words)?;
+    let mut frame = new_frame(alloc, number, unit, entered)?;
+    let cost = 1 + u64::from(unit.words);
+    if keeps {
+        frame.backs = Seq::new(alloc);
+        body.frame.address = to;
+    } else {
+        go_to(&mut body.frame, to);
+    }
+    body.below.push(replace(&mut body.frame, frame))?;
+    Ok(Some(cost))
+}
+
+/// A start of a unit goes last among those of the block, at this seat. The cost; none, and no change,
+/// where the operands don't fit.
+fn add_start(
+    alloc: Global,
+    number: u32,
+    to: u32,
+    operands: &[Operand],
+    seat: (Machine, u32),
+    body: &mut Body,
+) -> Result<Option<u64>, NoMemory>
+    ensures started { IfOk result (λ c. opened_by c body.new ≡ starting number (unit_at body.old number) to operands.now seat body.old) }
+    ensures stays { IfOk result (λ c. c ≡ None → body.new ≡ body.old) }
+{
+    let mine = body.frame.words.len();
+    let Some(unit) = unit_at(&body.code, number) else {
+        return Ok(None);
+    };
+    if !is_passed(unit, mine, operands) {
+        return Ok(None);
+    }
+    let formals = unit.formals.as_slice();
+    let entered = enter(alloc, formals, operands, unit.words, &mut body.frame.words)?;
+    let Entered { words, backs } = entered;
+    let (machine, node) = seat;
+    let cost = 1 + u64::from(unit.words);
+    body.frame.starts.push(Start {
+        unit: number,
+        words,
+        backs,
+        machine,
+        node,
+    })?;
+    go_to(&mut body.frame, to);
+    Ok(Some(cost))
+}
+
+/// What a call or a reference does, told without doing it.
+pub(crate) fn look_open(
+    number: u32,
+    to: u32,
+    keeps: bool,
+    operands: &[Operand],
+    body: &Body,
+) -> Look
+    ensures { result ≡ look_in (opening keeps number to operands.now body.now) }
+{
+    let mine = body.frame.words.len();
+    let Some(unit) = unit_at(&body.code, number) else {
+        return Look::Stuck;
+    };
+    if is_passed(unit, mine, operands) {
+        Look::Goes
+    } else {
+        Look::Stuck
+    }
+}
+
+/// What a start at a seat does, told without doing it.
+fn look_at_seat(
+    number: u32,
+    to: u32,
+    operands: &[Operand],
+    seat: (Machine, u32),
+    body: &Body,
+) -> Look
+    ensures { result ≡ look_in (starting number (unit_at body.now number) to operands.now seat body.now) }
+{
+    let mine = body.frame.words.len();
+    let Some(unit) = unit_at(&body.code, number) else {
+        return Look::Stuck;
+    };
+    if is_passed(unit, mine, operands) {
+        Look::Goes
+    } else {
+        Look::Stuck
+    }
+}
+
+/// What a start does, told without doing it.
+pub(crate) fn look_start(
+    number: u32,
+    to: u32,
+    operands: &[Operand],
+    place: &Place,
+    body: &Body,
+) -> Result<Look, NoMemory>
+    ensures { IfOk result (λ l. l ≡ look_in (starts number (unit_at body.now number) body.now to operands.now place.now)) }
+{
+    match seat_for(body, number, place)? {
+        None => Ok(Look::Stuck),
+        Some(Err(fault)) => Ok(Look::Asks(fail(body, fault))),
+        Some(Ok(seat)) => Ok(look_at_seat(number, to, operands, seat, body)),
+    }
+}
+
+/// A start.
+pub(crate) fn start(
+    alloc: Global,
+    number: u32,
+    to: u32,
+    operands: &[Operand],
+    place: &Place,
+    body: &mut Body,
+) -> Result<Finish, NoMemory>
+    ensures ran { IfOk result (λ f. went f body.new ≡ ran (starts number (unit_at body.old number) body.old to operands.now place.now)) }
+    ensures asks { IfOk result (λ f. asked f ≡ ask_in (starts number (unit_at body.old number) body.old to operands.now place.now)) }
+    ensures stays { IfOk result (λ f. Stays f body.old body.new) }
+{
+    match seat_for(body, number, place)? {
+        None => Ok(Finish::Stuck),
+        Some(Err(fault)) => Ok(Finish::Asks(fail(body, fault))),
+        Some(Ok(seat)) => match add_start(alloc, number, to, operands, seat, body)? {
+            Some(cost) => Ok(Finish::Went(None, cost)),
+            None => Ok(Finish::Stuck),
+        },
+    }
+}
