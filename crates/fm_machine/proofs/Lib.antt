@@ -3,3 +3,4 @@ pub mod Plain
 pub mod Lines
 pub mod Seating
 pub mod Returning
+pub mod Telling

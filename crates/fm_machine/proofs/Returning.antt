@@ -9,7 +9,7 @@ use Rattle.fm_machine.specs.Looks.{look_in, look_by}
 use Rattle.fm_machine.specs.declared.looking.Look.{Look}
 use Rattle.fm_machine.specs.declared.looking.Look.TheVariants as look
 
-none_go : (drops : List ℤ) → look_by drops ≡ look.Goes → drops ≡ []
+pub none_go : (drops : List ℤ) → look_by drops ≡ look.Goes → drops ≡ []
 none_go [] e = refl
 none_go (z ∷ zs) e = absurd (cc)
 

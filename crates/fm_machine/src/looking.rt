@@ -179,7 +179,7 @@ pub(crate) fn look_value(alloc: Global, body: &Body, value: i64) -> Result<Look,
 }
 
 /// The word of a frame, or 0 where there is none.
-fn word_at(words: &[i64], number: usize) -> i64
+pub(crate) fn word_at(words: &[i64], number: usize) -> i64
     ensures { result ≡ word_at words.now number }
 {
     match words.get(number) {

@@ -1,19 +1,19 @@
 //! What statements do to their body.
 
-ghost use Rattle.std.specs.Prelude.{◌≡◌, [], ◌+◌, slice_set, IfOk, Option, List};
+ghost use Rattle.std.specs.Prelude.{◌≡◌, [], ◌∷◌, slice_set, IfOk, OnOk};
+ghost use Rattle.fm_code.specs.Acts.{Prints};
 ghost use Rattle.fm_code.specs.Passing.{back_words};
-ghost use Rattle.fm_code.specs.Statements.{Own, action_by, gives_back, results_in, closes, moves, ran, ask_in, with_words, moved};
+ghost use Rattle.fm_code.specs.Statements.{Own, action_by, gives_back, results_in, closes, moves, ran, ask_in, at_statement};
 ghost use Rattle.fm_machine.specs.declared.looking.Look.TheVariants as look;
-ghost use Rattle.fm_machine.specs.Told.{changed, turned, with_word, with_turns};
+ghost use Rattle.fm_machine.specs.Told.{changed, ended, turned};
 ghost use Rattle.fm_machine.specs.Looks.{look_in, went, asked, Stays, opening};
 
 use crate::giving::give_all;
-use crate::looking::{Look, fail, look_back, look_close, look_move, look_value};
+use crate::looking::{Look, fail, look_back, look_close, look_move, look_value, word_at};
 use crate::opening::{go_to, look_open, look_start, open, start};
 use crate::turn::{Change, Ending, Turn};
-use crate::work::Work;
-use fm_base::{NoMemory, Seq, output_line};
-use fm_code::{Ask, Back, Body, Frame, Row, Scratch, Turns};
+use fm_base::{NoMemory, Printed, Seq, output_line};
+use fm_code::{Ask, Back, Body, Frame, Operand, Row, Scratch, Turns};
 use std::alloc::Global;
 use std::mem::replace;
 
@@ -26,4 +26,280 @@ pub(crate) enum Finish {
     Asks(Ask),
     /// An instruction doesn't find what it needs.
     Stuck,
+}
+
+fn write(words: &mut Row<i64>, number: usize, word: i64)
+    ensures { words.new ≡ slice_set words.old number word }
+{
+    if number < words.len() {
+        words.set(number, word);
+    }
+}
+
+fn write_turns(loops: &mut Row<Option<Turns>>, number: usize, turns: Option<Turns>)
+    ensures { loops.new ≡ slice_set loops.old number turns }
+{
+    if number < loops.len() {
+        loops.set(number, turns);
+    }
+}
+
+/// What a statement changes in its frame.
+fn change(frame: &mut Frame, change: Change)
+    ensures { frame.new ≡ at_statement (changed change frame.old) change.to }
+{
+    if let Some((number, word)) = change.word {
+        write(&mut frame.words, number, word);
+    }
+    if let Some((number, turns)) = change.turns {
+        write_turns(&mut frame.loops, number, Some(turns));
+    }
+    go_to(frame, change.to);
+}
+
+/// A line is put out, and the statement at an address is next. The line, and the cost.
+fn print(
+    alloc: Global,
+    to: u32,
+    line: &[Printed],
+    body: &mut Body,
+) -> Result<(Seq<u8>, u64), NoMemory>
+    ensures { IfOk result (λ p. action_by body.old (Prints to line.now) ≡ Own body.new (p.0 ∷ []) [] p.1) }
+{
+    let text = Seq::from_vec(output_line(alloc, line)?);
+    let cost = (text.len() as u64).checked_add(2).ok_or(NoMemory)?;
+    go_to(&mut body.frame, to);
+    Ok((text, cost))
+}
+
+/// How many words may be given back.
+fn back_words(backs: &[Back]) -> Result<u64, NoMemory>
+    ensures { IfOk result (λ n. n ≡ back_words backs.now) }
+{
+    let mut words: u64 = 0;
+    'backs: for back in backs {
+        words = words.checked_add(u64::from(back.words)).ok_or(NoMemory)?;
+    }
+    Ok(words)
+}
+
+/// The innermost frame gives back to the one below it. The cost.
+#[tactic(auto, using(crate::proofs::Returning::returns_fit, crate::proofs::Returning::returns_so))]
+fn give_back(alloc: Global, body: &mut Body) -> Result<u64, NoMemory>
+    requires { look_in (gives_back body.old body.old.below) ≡ look.Goes }
+    ensures { IfOk result (λ cost. gives_back body.old body.old.below ≡ Own body.new [] [] cost) }
+{
+    let Some(caller) = body.below.pop() else {
+        return Err(NoMemory);
+    };
+    let mut frame = replace(&mut body.frame, caller);
+    let backs = frame.backs.as_slice();
+    let mut ports = Row::new(alloc);
+    give_all(
+        alloc,
+        backs,
+        &mut body.frame.words,
+        &mut frame.words,
+        &mut ports,
+    )?;
+    back_words(backs)?.checked_add(1).ok_or(NoMemory)
+}
+
+/// The innermost frame leaves a result with the one below it.
+#[tactic(auto, using(crate::proofs::Returning::results_so))]
+fn leave_result(value: i64, body: &mut Body) -> Result<(), NoMemory>
+    requires { look_in (results_in body.old value body.old.below) ≡ look.Goes }
+    ensures { OnOk result (results_in body.old value body.old.below ≡ Own body.new [] [] 1) }
+{
+    let Some(caller) = body.below.pop() else {
+        return Err(NoMemory);
+    };
+    body.frame = caller;
+    body.frame.results.push(value)?;
+    Ok(())
+}
+
+/// A port is let go, which isn't there.
+#[tactic(auto, using(crate::proofs::Telling::own_so))]
+fn close(number: u32, to: u32, body: &mut Body)
+    requires { look_in (closes body.old number to) ≡ look.Goes }
+    ensures { closes body.old number to ≡ Own body.new [] [] 1 }
+{
+    write(&mut body.frame.words, number as usize, 0);
+    go_to(&mut body.frame, to);
+}
+
+/// What is in one word goes to another.
+#[tactic(auto, using(crate::proofs::Telling::own_so))]
+fn move_port(from: u32, into: u32, to: u32, body: &mut Body)
+    requires { look_in (moves body.old from into to) ≡ look.Goes }
+    ensures { moves body.old from into to ≡ Own body.new [] [] 1 }
+{
+    let port = word_at(body.frame.words.as_slice(), from as usize);
+    write(&mut body.frame.words, from as usize, 0);
+    write(&mut body.frame.words, into as usize, port);
+    go_to(&mut body.frame, to);
+}
+
+#[tactic(auto, using(crate::proofs::Telling::asks_run, crate::proofs::Telling::asks_so, crate::proofs::Telling::stuck_so))]
+fn finish_return(alloc: Global, body: &mut Body) -> Result<Finish, NoMemory>
+    ensures ran { IfOk result (λ f. went f body.new ≡ ran (gives_back body.old body.old.below)) }
+    ensures asks { IfOk result (λ f. asked f ≡ ask_in (gives_back body.old body.old.below)) }
+    ensures stays { IfOk result (λ f. Stays f body.old body.new) }
+{
+    match look_back(alloc, body)? {
+        Look::Goes => Ok(Finish::Went(None, give_back(alloc, body)?)),
+        Look::Asks(ask) => Ok(Finish::Asks(ask)),
+        Look::Stuck => Ok(Finish::Stuck),
+    }
+}
+
+#[tactic(auto, using(crate::proofs::Telling::asks_run, crate::proofs::Telling::asks_so, crate::proofs::Telling::stuck_so))]
+fn finish_value(alloc: Global, value: i64, body: &mut Body) -> Result<Finish, NoMemory>
+    ensures ran { IfOk result (λ f. went f body.new ≡ ran (results_in body.old value body.old.below)) }
+    ensures asks { IfOk result (λ f. asked f ≡ ask_in (results_in body.old value body.old.below)) }
+    ensures stays { IfOk result (λ f. Stays f body.old body.new) }
+{
+    match look_value(alloc, body, value)? {
+        Look::Goes => {
+            leave_result(value, body)?;
+            Ok(Finish::Went(None, 1))
+        }
+        Look::Asks(ask) => Ok(Finish::Asks(ask)),
+        Look::Stuck => Ok(Finish::Stuck),
+    }
+}
+
+#[tactic(auto, using(crate::proofs::Telling::asks_run, crate::proofs::Telling::asks_so, crate::proofs::Telling::stuck_so))]
+fn finish_close(alloc: Global, number: u32, to: u32, body: &mut Body) -> Result<Finish, NoMemory>
+    ensures ran { IfOk result (λ f. went f body.new ≡ ran (closes body.old number to)) }
+    ensures asks { IfOk result (λ f. asked f ≡ ask_in (closes body.old number to)) }
+    ensures stays { IfOk result (λ f. Stays f body.old body.new) }
+{
+    match look_close(alloc, body, number, to)? {
+        Look::Goes => {
+            close(number, to, body);
+            Ok(Finish::Went(None, 1))
+        }
+        Look::Asks(ask) => Ok(Finish::Asks(ask)),
+        Look::Stuck => Ok(Finish::Stuck),
+    }
+}
+
+#[tactic(auto, using(crate::proofs::Telling::asks_run, crate::proofs::Telling::asks_so, crate::proofs::Telling::stuck_so))]
+fn finish_move(
+    alloc: Global,
+    from: u32,
+    into: u32,
+    to: u32,
+    body: &mut Body,
+) -> Result<Finish, NoMemory>
+    ensures ran { IfOk result (λ f. went f body.new ≡ ran (moves body.old from into to)) }
+    ensures asks { IfOk result (λ f. asked f ≡ ask_in (moves body.old from into to)) }
+    ensures stays { IfOk result (λ f. Stays f body.old body.new) }
+{
+    match look_move(alloc, body, from, into, to)? {
+        Look::Goes => {
+            move_port(from, into, to, body);
+            Ok(Finish::Went(None, 1))
+        }
+        Look::Asks(ask) => Ok(Finish::Asks(ask)),
+        Look::Stuck => Ok(Finish::Stuck),
+    }
+}
+
+fn finish_ending(alloc: Global, ending: Ending, body: &mut Body) -> Result<Finish, NoMemory>
+    ensures ran { IfOk result (λ f. went f body.new ≡ ran (action_by body.old (ended ending body.old.frame))) }
+    ensures asks { IfOk result (λ f. asked f ≡ ask_in (action_by body.old (ended ending body.old.frame))) }
+    ensures stays { IfOk result (λ f. Stays f body.old body.new) }
+{
+    match ending {
+        Ending::Goes(changes) => {
+            change(&mut body.frame, changes);
+            Ok(Finish::Went(None, 1))
+        }
+        Ending::Returns => finish_return(alloc, body),
+        Ending::ReturnsValue(value) => finish_value(alloc, value, body),
+        Ending::Closes(number, to) => finish_close(alloc, number, to, body),
+        Ending::Moves(from, into, to) => finish_move(alloc, from, into, to, body),
+        Ending::Fails(fault) => Ok(Finish::Asks(fail(body, fault))),
+        Ending::Asks(ask) => Ok(Finish::Asks(ask)),
+        Ending::Stuck => Ok(Finish::Stuck),
+    }
+}
+
+fn finish_open(
+    alloc: Global,
+    number: u32,
+    to: u32,
+    keeps: bool,
+    operands: &[Operand],
+    body: &mut Body,
+) -> Result<Finish, NoMemory>
+    ensures ran { IfOk result (λ f. went f body.new ≡ ran (opening keeps number to operands.now body.old)) }
+    ensures asks { IfOk result (λ f. asked f ≡ ask_in (opening keeps number to operands.now body.old)) }
+    ensures stays { IfOk result (λ f. Stays f body.old body.new) }
+{
+    match open(alloc, number, to, keeps, operands, body)? {
+        Some(cost) => Ok(Finish::Went(None, cost)),
+        None => Ok(Finish::Stuck),
+    }
+}
+
+/// Does a statement that ends so and built this. After something other than a step the body is as it was.
+pub(crate) fn perform(
+    alloc: Global,
+    turn: Turn,
+    scratch: &Scratch,
+    body: &mut Body,
+) -> Result<Finish, NoMemory>
+    ensures ran { IfOk result (λ f. went f body.new ≡ ran (action_by body.old (turned turn scratch.now body.old.frame))) }
+    ensures asks { IfOk result (λ f. asked f ≡ ask_in (action_by body.old (turned turn scratch.now body.old.frame))) }
+    ensures stays { IfOk result (λ f. Stays f body.old body.new) }
+{
+    let operands = scratch.operands.as_slice();
+    match turn {
+        Turn::Prints(to) => {
+            let (text, cost) = print(alloc, to, scratch.line.as_slice(), body)?;
+            Ok(Finish::Went(Some(text), cost))
+        }
+        Turn::Calls(unit, to) => finish_open(alloc, unit, to, false, operands, body),
+        Turn::Refers(unit, to) => finish_open(alloc, unit, to, true, operands, body),
+        Turn::Starts(unit, to) => start(alloc, unit, to, operands, &scratch.place, body),
+        Turn::Over(ending) => finish_ending(alloc, ending, body),
+    }
+}
+
+fn look_at_ending(alloc: Global, ending: Ending, body: &Body) -> Result<Look, NoMemory>
+    ensures { IfOk result (λ l. l ≡ look_in (action_by body.now (ended ending body.now.frame))) }
+{
+    match ending {
+        Ending::Goes(_) => Ok(Look::Goes),
+        Ending::Returns => look_back(alloc, body),
+        Ending::ReturnsValue(value) => look_value(alloc, body, value),
+        Ending::Closes(number, to) => look_close(alloc, body, number, to),
+        Ending::Moves(from, into, to) => look_move(alloc, body, from, into, to),
+        Ending::Fails(fault) => Ok(Look::Asks(fail(body, fault))),
+        Ending::Asks(ask) => Ok(Look::Asks(ask)),
+        Ending::Stuck => Ok(Look::Stuck),
+    }
+}
+
+/// What a statement does that ends so and built this, told without doing it.
+pub(crate) fn look(
+    alloc: Global,
+    turn: Turn,
+    scratch: &Scratch,
+    body: &Body,
+) -> Result<Look, NoMemory>
+    ensures { IfOk result (λ l. l ≡ look_in (action_by body.now (turned turn scratch.now body.now.frame))) }
+{
+    let operands = scratch.operands.as_slice();
+    match turn {
+        Turn::Prints(_) => Ok(Look::Goes),
+        Turn::Calls(unit, to) => Ok(look_open(unit, to, false, operands, body)),
+        Turn::Refers(unit, to) => Ok(look_open(unit, to, true, operands, body)),
+        Turn::Starts(unit, to) => look_start(unit, to, operands, &scratch.place, body),
+        Turn::Over(ending) => look_at_ending(alloc, ending, body),
+    }
 }
