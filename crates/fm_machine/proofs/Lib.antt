@@ -4,3 +4,4 @@ pub mod Lines
 pub mod Seating
 pub mod Returning
 pub mod Telling
+pub mod Slices

@@ -3,9 +3,11 @@
 //! `advance` does statements that touch nothing but the process, and tells what the next one asks for.
 #![tactic(auto)]
 
+mod advancing;
 mod asking;
 mod building;
 mod deciding;
+mod done;
 mod evaluating;
 mod giving;
 mod looking;
@@ -17,3 +19,6 @@ mod seats;
 mod statements;
 mod turn;
 mod work;
+
+pub use advancing::advance;
+pub use done::Done;

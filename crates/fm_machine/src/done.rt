@@ -1,0 +1,135 @@
+//! What a slice of a process came to.
+
+ghost use Rattle.std.specs.Prelude.{◌≡◌, ◌≤◌, Some, None, false};
+ghost use Rattle.std.specs.Option.{option_map};
+ghost use Rattle.fm_code.specs.Statements.{run, ask_of, is_stuck};
+
+use fm_base::Seq;
+use fm_code::{Ask, Body};
+use std::sync::Arc;
+
+/// What was made of a slice.
+#[derive(Drop)]
+pub(crate) struct Made {
+    /// How many statements were done.
+    pub(crate) steps: u32,
+    /// What they cost.
+    pub(crate) cost: u64,
+    /// The lines that they put out.
+    pub(crate) lines: Seq<Seq<u8>>,
+}
+
+/// What a slice of a process came to: its start, run for so many statements, gives its end, its new output
+/// and its cost; and what it asks for is what the next statement of its end asks for.
+#[derive(Drop)]
+pub struct Done {
+    process: u32,
+    steps: u32,
+    cost: u64,
+    start: Arc<Body>,
+    end: Arc<Body>,
+    lines: Seq<Seq<u8>>,
+    ask: Option<Ask>,
+    ghost ran: { run steps start.value ≡ Some (record { body = end.value; lines = lines; cost = cost }) },
+    ghost asks: { ask ≡ ask_of end.value },
+    ghost within: { steps ≤ 1000000 },
+    ghost moves: { ask ≡ None → is_stuck start.value ≡ false → 1 ≤ steps },
+}
+
+impl Done {
+    /// What came of a slice: the body after it, what was made of it, and what is asked for then.
+    pub(crate) fn new(
+        process: u32,
+        start: Arc<Body>,
+        end: Arc<Body>,
+        made: Made,
+        ask: Option<Ask>,
+    ) -> Done
+        requires ran { run made.steps start.value ≡ Some (record { body = end.value; lines = made.lines; cost = made.cost }) }
+        requires asks { ask ≡ ask_of end.value }
+        requires within { made.steps ≤ 1000000 }
+        requires moves { ask ≡ None → is_stuck start.value ≡ false → 1 ≤ made.steps }
+        ensures process { result.process ≡ process }
+        ensures start { result.start ≡ start }
+        ensures steps { result.steps ≡ made.steps }
+        ensures end { result.end ≡ end }
+    {
+        let Made { steps, cost, lines } = made;
+        Done {
+            process,
+            steps,
+            cost,
+            start,
+            end,
+            lines,
+            ask,
+        }
+    }
+
+    /// The number of the process.
+    pub fn process(&self) -> u32
+        ensures { result ≡ self.now.process }
+    {
+        self.process
+    }
+
+    /// How many statements it did.
+    pub fn steps(&self) -> u32
+        ensures { result ≡ self.now.steps }
+    {
+        self.steps
+    }
+
+    /// What they cost.
+    pub fn cost(&self) -> u64
+        ensures { result ≡ self.now.cost }
+    {
+        self.cost
+    }
+
+    /// The body before the first of them.
+    pub fn start(&self) -> &Arc<Body>
+        ensures { result.now ≡ self.now.start }
+    {
+        &self.start
+    }
+
+    /// The body after the last of them.
+    pub fn end(&self) -> &Arc<Body>
+        ensures { result.now ≡ self.now.end }
+    {
+        &self.end
+    }
+
+    /// The lines that they put out.
+    pub fn lines(&self) -> &[Seq<u8>]
+        ensures { result.now ≡ self.now.lines }
+    {
+        self.lines.as_slice()
+    }
+
+    /// What the next statement asks for, if it asks for something.
+    pub fn ask(&self) -> Option<&Ask>
+        ensures { option_map (λ a. a.now) result ≡ self.now.ask }
+    {
+        self.ask.as_ref()
+    }
+
+    /// The end, the lines, and what the next statement asks for.
+    pub fn unpack(self) -> (Arc<Body>, Seq<Seq<u8>>, Option<Ask>)
+        ensures end { result.0 ≡ self.end }
+        ensures lines { result.1 ≡ self.lines }
+        ensures ask { result.2 ≡ self.ask }
+    {
+        let Done {
+            process: _process,
+            steps: _steps,
+            cost: _cost,
+            start: _start,
+            end,
+            lines,
+            ask,
+        } = self;
+        (end, lines, ask)
+    }
+}
