@@ -1,5 +1,5 @@
 -- Ports that go over others, one by one.
-use Rattle.std.proofs.Common.{◌≡◌, ℕ, suc, ◌+◌, length, arith, length-append, ℤ, Bool, true, false, ◌&&◌, cond, List, [], ◌∷◌, ◌++◌, refl, sym, ap, append_assoc, ◌∙◌}
+use Rattle.std.proofs.Common.{◌≡◌, ℕ, suc, ◌+◌, length, arith, length-append, ℤ, Bool, true, false, ◌&&◌, cond, List, [], ◌∷◌, ◌++◌, sym, ap, append_assoc, ◌∙◌}
 use Rattle.fm_code.specs.Passing.{is_port, merged, displaced}
 
 one_noted : (b : Bool) (noted rest : List ℤ) (x : ℤ) → (noted ++ cond b (x ∷ []) []) ++ rest ≡ noted ++ cond b (x ∷ rest) rest

@@ -6,7 +6,6 @@ use Rattle.fm_code.specs.Passing.{backs_fit, back_words}
 use Rattle.fm_code.specs.Statements.{Action, Own, given, left_ports, gives_back, results_in}
 use Rattle.fm_code.specs.Statements as statements
 use Rattle.fm_machine.specs.Looks.{look_in, look_by}
-use Rattle.fm_machine.specs.declared.looking.Look.{Look}
 use Rattle.fm_machine.specs.declared.looking.Look.TheVariants as look
 
 pub none_go : (drops : List ℤ) → look_by drops ≡ look.Goes → drops ≡ []

@@ -1,5 +1,5 @@
 -- A slice makes a step, unless its start asks for something or is stuck.
-use Rattle.std.proofs.Common.{◌≡◌, ℕ, zero, suc, ◌+◌, ◌++◌, add-one, option_and_then, option_map, ◌≤◌, Bool, true, false, Option, Some, None, List, [], ◌∷◌, refl, sym, ap, arith, ◌∙◌}
+use Rattle.std.proofs.Common.{◌≡◌, ℕ, zero, suc, ◌+◌, ◌++◌, add-one, option_and_then, option_map, ◌≤◌, true, false, Option, Some, None, List, [], ◌∷◌, refl, sym, ap, arith, ◌∙◌}
 use Rattle.fm_code.specs.declared.body.Body.{Body}
 use Rattle.fm_code.specs.Statements as statements
 use Rattle.fm_code.specs.Statements.{Action, Own, Meets, Ran, ran, action_of, ask_in, ask_of, is_stuck_in, is_stuck, run, not_moved, grown, one_more}

@@ -1,11 +1,11 @@
 -- What is told of a body, and what it asks for.
-use Rattle.std.proofs.Common.{◌≡◌, ℕ, ℤ, Option, Some, None, List, [], ◌∷◌, refl, ap}
+use Rattle.std.proofs.Common.{◌≡◌, ℕ, ℤ, Some, None, List, [], ◌∷◌, refl, ap}
 use Rattle.fm_code.specs.declared.ask.Ask.{Ask}
 use Rattle.fm_code.specs.declared.body.Body.{Body}
 use Rattle.fm_code.specs.Statements as statements
 use Rattle.fm_code.specs.Statements.{Action, Own, Meets, ran, ask_in}
 use Rattle.fm_machine.specs.declared.looking.Look.TheVariants as look
-use Rattle.fm_machine.specs.Looks.{look_in, look_by, asked_in}
+use Rattle.fm_machine.specs.Looks.{look_in, asked_in}
 use Rattle.fm_machine.proofs.Returning.{none_go}
 
 pub asked_look : (a : Action) → asked_in (look_in a) ≡ ask_in a
