@@ -5,8 +5,7 @@ ghost use Rattle.fm_code.specs.Acts.{span_of};
 ghost use Rattle.fm_code.specs.Passing.{spliced, back_fits, backs_fit, merged, displaced, got_span, given_span, give, give_all, give_ports, live, is_port, ports_in};
 ghost use Rattle.fm_machine.specs.Frames.{given};
 
-use crate::building::span_of;
-use crate::passing::nulls;
+use crate::passing::{nulls, words_of};
 use fm_base::NoMemory;
 use fm_code::{Back, Row, Span};
 use std::alloc::Global;
@@ -108,9 +107,8 @@ fn give_words(back: Back, mine: &mut Row<i64>, theirs: &Row<i64>)
     ensures gives { mine.new ≡ spliced mine.old back.to (span_of theirs.now (given_span back)) }
     ensures mine { length mine.new ≡ length mine.old }
 {
-    if let Some(words) = span_of(theirs, given_span(back)) {
-        mine.put(back.to as usize, words);
-    }
+    let words = words_of(theirs.as_slice(), given_span(back));
+    mine.put(back.to as usize, words);
 }
 
 fn give_ports(
@@ -126,12 +124,8 @@ fn give_ports(
     ensures theirs { OnOk result (length theirs.new ≡ length theirs.old) }
 {
     let nulls = nulls(alloc, back.words)?;
-    let Some(old) = span_of(mine, got_span(back)) else {
-        return Err(NoMemory);
-    };
-    let Some(new) = span_of(theirs, given_span(back)) else {
-        return Err(NoMemory);
-    };
+    let old = words_of(mine.as_slice(), got_span(back));
+    let new = words_of(theirs.as_slice(), given_span(back));
     let words = merge(alloc, old, new, drops)?;
     mine.put(back.to as usize, words.as_slice());
     theirs.put(back.from as usize, nulls.as_slice());
@@ -173,15 +167,6 @@ pub(crate) fn give_all(
         give_one(alloc, *back, mine, theirs, drops)?;
     }
     Ok(())
-}
-
-/// The words of a span, as far as they are there.
-fn words_of(words: &[i64], span: Span) -> &[i64]
-    ensures { result.now ≡ span_of words.now span }
-{
-    let (_, from) = words.split_at(words.len().min(span.first as usize));
-    let (there, _) = from.split_at(from.len().min(span.count as usize));
-    there
 }
 
 fn push_live(words: &[i64], ports: &mut Row<i64>) -> Result<(), NoMemory>

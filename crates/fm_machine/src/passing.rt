@@ -1,12 +1,11 @@
 //! What a unit that is opened gets.
 
 ghost use Rattle.std.specs.Prelude.{◌≡◌, ◌++◌, [], ◌∷◌, MatchOption, pos, true, length, replicate, drop, IfOk, OnOk};
-ghost use Rattle.fm_code.specs.Acts.{has_span};
+ghost use Rattle.fm_code.specs.Acts.{has_span, span_of};
 ghost use Rattle.fm_code.specs.Passing.{fits, all_fit, back_of, pass, pass_all};
 ghost use Rattle.fm_code.specs.declared.ask.Operand.TheVariants as operand;
 ghost use Rattle.fm_machine.specs.Frames.{passed};
 
-use crate::building::span_of;
 use fm_base::{NoMemory, Seq};
 use fm_code::{Back, Formal, Operand, Row, Span};
 use std::alloc::Global;
@@ -34,6 +33,15 @@ pub(crate) fn nulls(alloc: Global, count: u32) -> Result<Row<i64>, NoMemory>
 {
     let words = vec![in alloc; 0i64; count as usize]?;
     Ok(Row::from_vec(words))
+}
+
+/// The words of a span, as far as they are there.
+pub(crate) fn words_of(words: &[i64], span: Span) -> &[i64]
+    ensures { result.now ≡ span_of words.now span }
+{
+    let (_, from) = words.split_at(words.len().min(span.first as usize));
+    let (there, _) = from.split_at(from.len().min(span.count as usize));
+    there
 }
 
 fn has_span(words: usize, span: Span) -> bool
@@ -108,9 +116,8 @@ fn pass_words(
     ensures gives { OnOk result (pass formal (operand.Words span) (passed mine.now entered.old) ≡ passed mine.now entered.new) }
     ensures size { OnOk result (length entered.new.words ≡ length entered.old.words) }
 {
-    if let Some(words) = span_of(mine, span) {
-        entered.words.put(formal.span.first as usize, words);
-    }
+    let words = words_of(mine.as_slice(), span);
+    entered.words.put(formal.span.first as usize, words);
     push_back(&mut entered.backs, formal, span, false)
 }
 
@@ -127,9 +134,8 @@ fn pass_ports(
     ensures mine { OnOk result (length mine.new ≡ length mine.old) }
 {
     let nulls = nulls(alloc, span.count)?;
-    if let Some(words) = span_of(mine, span) {
-        entered.words.put(formal.span.first as usize, words);
-    }
+    let words = words_of(mine.as_slice(), span);
+    entered.words.put(formal.span.first as usize, words);
     mine.put(span.first as usize, nulls.as_slice());
     push_back(&mut entered.backs, formal, span, true)
 }

@@ -89,6 +89,7 @@ fn give_back(alloc: Global, body: &mut Body) -> Result<u64, NoMemory>
     requires { look_in (gives_back body.old body.old.below) ≡ look.Goes }
     ensures { IfOk result (λ cost. gives_back body.old body.old.below ≡ Own body.new [] [] cost) }
 {
+    // A step was told, so there is a caller.
     let Some(caller) = body.below.pop() else {
         return Err(NoMemory);
     };
@@ -111,6 +112,7 @@ fn leave_result(value: i64, body: &mut Body) -> Result<(), NoMemory>
     requires { look_in (results_in body.old value body.old.below) ≡ look.Goes }
     ensures { OnOk result (results_in body.old value body.old.below ≡ Own body.new [] [] 1) }
 {
+    // A step was told, so there is a caller.
     let Some(caller) = body.below.pop() else {
         return Err(NoMemory);
     };
