@@ -1,0 +1,4 @@
+pub mod Counts
+pub mod FrameWords
+pub mod Dimensions
+pub mod Follows

@@ -1,0 +1,4 @@
+pub mod Standing
+pub mod Code
+pub mod Keeps
+pub mod References
