@@ -81,6 +81,11 @@ element_is bs xs false e = ap (λ t. ok_or (cond t (Some (column_place bs xs)) N
 within_below : (bs : Bounds) (xs : List ℤ) → are_within bs xs ≡ true → column_place bs xs < size bs
 within_below bs xs e = place_below bs xs (column_place bs xs) (ap (λ t. cond t (Some (column_place bs xs)) None) e)
 
+-- an array has a dimension
+pub array_some : (bs : Bounds) → is_array bs ≡ true → bs ≡ [] → ⊥
+array_some [] e f = absurd (cc)
+array_some (b ∷ bs) e f = absurd (cc)
+
 -- an element stands among the elements
 pub within_place : (bs : Bounds) (xs : List ℤ) (k : ℕ) → element_place bs xs ≡ Ok k → k < size bs
 within_place bs xs k e = go (place_of bs xs) refl e
@@ -170,13 +175,13 @@ module _ (m : Frame) (b : Scratch) where
   no_element_follows is s = refl
 
   -- the place of an element of a variable
-  pub place_follows : (v : Variable) (n : ℕ) (xs : List ℤ) → is_array v.bounds ≡ true → v.words ≡ size v.bounds → size v.bounds ≤ 65536 → n ≡ length xs → (then_do is : List Instr) (s : List ℤ)
+  pub place_follows : (v : Variable) (n : ℕ) (xs : List ℤ) → (v.bounds ≡ [] → n ≡ 0 → ⊥) → v.words ≡ size v.bounds → size v.bounds ≤ 65536 → n ≡ length xs → (then_do is : List Instr) (s : List ℤ)
       → work (place_code v n then_do ++ is) (reverse xs ++ s) b m ≡ then (element_place v.bounds xs) (λ k. work (then_do ++ is) (pos k ∷ s) b m)
   place_follows v n xs array sized small count then_do is s = go (n == length v.bounds) (nat_lt 0 v.words) refl refl
     where
-      whole : (bs : Bounds) → is_array bs ≡ true → length xs ≡ length bs → 0 < size bs → size bs ≤ 65536
+      whole : (bs : Bounds) → (bs ≡ [] → n ≡ 0 → ⊥) → length xs ≡ length bs → 0 < size bs → size bs ≤ 65536
           → work ((dimensions_code bs ++ then_do) ++ is) (reverse xs ++ s) b m ≡ then (element_place bs xs) (λ k. work (then_do ++ is) (pos k ∷ s) b m)
-      whole [] a e some small = absurd (cc)
+      whole [] a e some small = absurd (a refl (count ∙ e))
       whole (d ∷ ds) a e some small = ap (λ l. work l (reverse xs ++ s) b m) (append_assoc (dimensions_code (d ∷ ds)) then_do is) ∙ dimensions_follow d ds xs e some small (then_do ++ is) s
 
       none : are_within v.bounds xs ≡ false → Fails Subscript ≡ then (element_place v.bounds xs) (λ k. work (then_do ++ is) (pos k ∷ s) b m)

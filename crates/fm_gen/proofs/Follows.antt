@@ -42,8 +42,8 @@ use Rattle.fm_code.specs.Acts as acts
 use Rattle.fm_gen.specs.Standing.{Slots, item_by, values_in, scope_in, IsFrame, IsWordOf, IsResultOf, IsDone, AreDone, AreAllDone}
 use Rattle.fm_gen.specs.Code.{names_in, first_load, variable_code, named_code, port_code, element_code, place_code, sign_code, reference_code, trees_count, expression_code, expressions_code}
 use Rattle.fm_gen.specs.Keeps.{then, KeepsValue, KeepsNumbers}
-use Rattle.fm_gen.proofs.FrameWords.{bit_kept, word_kept, truth_kept, applied_kept, item_read, item_fits, first_of, element_read, bit_at}
-use Rattle.fm_gen.proofs.Dimensions.{reverse-cons, within_place, place_follows}
+use Rattle.fm_gen.proofs.FrameWords.{bit_kept, word_kept, truth_kept, applied_kept, item_read, item_fits, first_of, element_there, element_read, number_in_range, bit_at}
+use Rattle.fm_gen.proofs.Dimensions.{reverse-cons, array_some, within_place, place_follows}
 
 -- One operand after another.
 
@@ -51,7 +51,7 @@ pub then_chain : {A B : Type 0} (r : Result A Fault) (g : A → Result B Fault) 
 then_chain (Ok x) g u h e = e x
 then_chain (Err fault) g u h e = refl
 
-then_with : {A B : Type 0} (r : Result A Fault) (g : A → Result B Fault) (u : A → Turn) (h : B → Turn) → ((x : A) → r ≡ Ok x → u x ≡ then (g x) h) → then r u ≡ then (r >>= g) h
+pub then_with : {A B : Type 0} (r : Result A Fault) (g : A → Result B Fault) (u : A → Turn) (h : B → Turn) → ((x : A) → r ≡ Ok x → u x ≡ then (g x) h) → then r u ≡ then (r >>= g) h
 then_with (Ok x) g u h e = e x refl
 then_with (Err fault) g u h e = refl
 
@@ -66,11 +66,11 @@ gives_word (Err fault) s b k = refl
 -- Names.
 
 -- what is said of a variable holds of the one that a name means
-abbrev IsAt : List Variable → Option (ℕ × Variable) → Type 0
+abbrev pub IsAt : List Variable → Option (ℕ × Variable) → Type 0
 IsAt vs None = Unit {0}
 IsAt vs (Some v) = slice_get vs v.0 ≡ Some v.1
 
-variable_is_at : (vs : List Variable) (o : Option ℕ) → IsAt vs (variable_at vs o)
+pub variable_is_at : (vs : List Variable) (o : Option ℕ) → IsAt vs (variable_at vs o)
 variable_is_at vs None = tt
 variable_is_at vs (Some i) = go (slice_get vs i) refl
   where
@@ -108,7 +108,7 @@ module _ (p : Program) (u : ProgramUnit) where
       go true e = (at, e)
       go false e = h
 
-  named_at : (name : List ℕ) → IsAt variables (variable_of u name)
+  pub named_at : (name : List ℕ) → IsAt variables (variable_of u name)
   named_at name = variable_is_at variables (place_in (get (symbols_of u.names) name))
 
   reference_at : (name : List ℕ) → IsReferenceAt variables (reference_of (names_in p u) name)
@@ -117,7 +117,7 @@ module _ (p : Program) (u : ProgramUnit) where
 
   -- references are counted alike before a frame is there
   mutual
-    refs_same : (slots : Slots) (m : Frame) (t : Tree) → refs_in (scope_in p u slots m) t ≡ refs_in (names_in p u) t
+    pub refs_same : (slots : Slots) (m : Frame) (t : Tree) → refs_in (scope_in p u slots m) t ≡ refs_in (names_in p u) t
     refs_same slots m (Number k) = refl
     refs_same slots m (Truth b) = refl
     refs_same slots m (Named name) = refl
@@ -127,7 +127,7 @@ module _ (p : Program) (u : ProgramUnit) where
     refs_same slots m (Not e) = refs_same slots m e
     refs_same slots m (Binary o a b) = λ i. refs_same slots m a i + refs_same slots m b i
 
-    all_refs_same : (slots : Slots) (m : Frame) (ts : Trees) → refs_in_all (scope_in p u slots m) ts ≡ refs_in_all (names_in p u) ts
+    pub all_refs_same : (slots : Slots) (m : Frame) (ts : Trees) → refs_in_all (scope_in p u slots m) ts ≡ refs_in_all (names_in p u) ts
     all_refs_same slots m NoTrees = refl
     all_refs_same slots m (More t ts) = λ i. refs_same slots m t i + all_refs_same slots m ts i
 
@@ -142,13 +142,13 @@ one_longer c (Err fault) q xs h e = absurd (cc)
 one_longer c (Ok x) (Err fault) xs h e = absurd (cc)
 one_longer c (Ok x) (Ok ys) xs h e = ap suc (h ys refl) ∙ ap length (same_list (word_of x ∷ ys) xs e)
 
-numbers_count : (s : Scope) (ts : Trees) (n : ℕ) (xs : List ℤ) → numbers_of s ts n ≡ Ok xs → trees_count ts ≡ length xs
+pub numbers_count : (s : Scope) (ts : Trees) (n : ℕ) (xs : List ℤ) → numbers_of s ts n ≡ Ok xs → trees_count ts ≡ length xs
 numbers_count s NoTrees n [] e = refl
 numbers_count s NoTrees n (x ∷ xs) e = absurd (cc)
 numbers_count s (More t ts) n xs e = one_longer (trees_count ts) (value_of s t n) (numbers_of s ts (n + refs_in s t)) xs (λ ys f. numbers_count s ts (n + refs_in s t) ys f) e
 
 module _ (p : Program) (u : ProgramUnit) (sized : AreSized u.names.variables) (small : AllIn (λ v. size v.bounds ≤ 65536) u.names.variables)
-    (slots : Slots) (m : Frame) (types : Types) (fits : ValuesFit types u.names.variables (values_in slots u.names.variables m.words)) where
+    (slots : Slots) (m : Frame) (frame : IsFrame u slots m) where
   abbrev scope : Scope
   scope = scope_in p u slots m
 
@@ -168,7 +168,7 @@ module _ (p : Program) (u : ProgramUnit) (sized : AreSized u.names.variables) (s
           let none : n ≡ 0 = grind (arith, nat_tests) in
           ap (λ k. work is (first_word (take 1 (drop 0 (take k (drop f m.words)))) ∷ s) b m) (sym none)
 
-  variable_follows : (k : Kind) (f n : ℕ) → ItemFits types (reading.kind_of k) n (item_by slots k (part f n)) → (is : List Instr) (s : List ℤ) (b : Scratch)
+  variable_follows : (k : Kind) (f n : ℕ) → ItemFits frame.types (reading.kind_of k) n (item_by slots k (part f n)) → (is : List Instr) (s : List ℤ) (b : Scratch)
       → work (variable_code k f n ∷ is) s b m ≡ work is (word_of (value_by k (first_word (take 1 (drop 0 (words_in (item_by slots k (part f n))))))) ∷ s) b m
   variable_follows kind.Integer f n h is s b = loads f n h is s b
   variable_follows kind.Logical f n h is s b = loads f n h.0 is s b ∙ ap (λ w. work is (w ∷ s) b m) (sym (bit_kept _ (bit_at (part f n) 0 h.1)))
@@ -179,13 +179,16 @@ module _ (p : Program) (u : ProgramUnit) (sized : AreSized u.names.variables) (s
       → work (named_code u name o ∷ is) s b m ≡ work is (word_of (named_by scope name o) ∷ s) b m
   named_follows name None at is s b = refl
   named_follows name (Some v) at is s b =
-      variable_follows v.1.kind v.1.first v.1.words (item_fits types slots m.words u.names.variables v.0 v.1 fits at) is s b
+      variable_follows v.1.kind v.1.first v.1.words (item_fits frame.types slots m.words u.names.variables v.0 v.1 frame.fits at) is s b
       ∙ sym (ap (λ x. work is (word_of (value_by v.1.kind (first_word (take 1 (drop 0 (words_in x))))) ∷ s) b m) (item_read slots m.words u.names.variables v.0 v.1 at))
 
   -- an element by its place
   reads : (f n k : ℕ) → length (part f n) ≡ n → k < n → (is : List Instr) (s : List ℤ) (b : Scratch)
       → work (instr.Eval (eval.Element f) ∷ is) (pos k ∷ s) b m ≡ work is (first_word (take 1 (drop k (part f n))) ∷ s) b m
-  reads f n k full less is s b = ap (λ o. then_work (found o (λ v. On (v ∷ s) b)) (λ s b. work is s b m)) (element_read m.words f n k full less)
+  reads f n k full less is s b =
+      let there : f + k < length m.words = element_there m.words f n k full less in
+      ap (λ r. then_work (gives r (λ x. found (acts.word_of m x) (λ v. On (v ∷ s) b))) (λ s b. work is s b m)) (number_in_range (f + k) (omega (arith, there, frame.numbered)))
+      ∙ ap (λ o. then_work (found o (λ v. On (v ∷ s) b)) (λ s b. work is s b m)) (element_read m.words f n k full less)
 
   port_reads : (k : ℕ) (is : List Instr) (s : List ℤ) (b : Scratch)
       → work (port_code ++ is) (pos k ∷ s) b m ≡ work is (first_word (take 1 (drop k [])) ∷ s) b m
@@ -198,7 +201,7 @@ module _ (p : Program) (u : ProgramUnit) (sized : AreSized u.names.variables) (s
       nowhere zero = refl
       nowhere (suc k) = refl
 
-  element_follows : (q : Kind) (f n k : ℕ) → ItemFits types (reading.kind_of q) n (item_by slots q (part f n)) → k < n → (is : List Instr) (s : List ℤ) (b : Scratch)
+  element_follows : (q : Kind) (f n k : ℕ) → ItemFits frame.types (reading.kind_of q) n (item_by slots q (part f n)) → k < n → (is : List Instr) (s : List ℤ) (b : Scratch)
       → work (element_code q f ++ is) (pos k ∷ s) b m ≡ work is (word_of (value_by q (first_word (take 1 (drop k (words_in (item_by slots q (part f n))))))) ∷ s) b m
   element_follows kind.Integer f n k h less is s b = reads f n k h less is s b
   element_follows kind.Logical f n k h less is s b = reads f n k h.0 less is s b ∙ ap (λ w. work is (w ∷ s) b m) (sym (bit_kept _ (bit_at (part f n) k h.1)))
@@ -245,9 +248,9 @@ module _ (p : Program) (u : ProgramUnit) (sized : AreSized u.names.variables) (s
       ap (λ c. work c s b m) (append_assoc (expressions_code p u args n) (place_code v (trees_count args) (element_code v.kind v.first)) is)
       ∙ all (place_code v (trees_count args) (element_code v.kind v.first) ++ is) s b
       ∙ then_with (numbers_of scope args n) _ _ _ (λ xs e.
-      place_follows m b v (trees_count args) xs at.1 some few (numbers_count scope args n xs e) (element_code v.kind v.first) is s
+      place_follows m b v (trees_count args) xs (λ none z. array_some v.bounds at.1 none) some few (numbers_count scope args n xs e) (element_code v.kind v.first) is s
       ∙ then_with (element_place v.bounds xs) _ _ _ (λ j f.
-      element_follows v.kind v.first v.words j (item_fits types slots m.words u.names.variables i v fits at.0) (omega (arith, within_place v.bounds xs j f, some)) is s b
+      element_follows v.kind v.first v.words j (item_fits frame.types slots m.words u.names.variables i v frame.fits at.0) (omega (arith, within_place v.bounds xs j f, some)) is s b
       ∙ sym (ap (λ x. work is (word_of (value_by v.kind (first_word (take 1 (drop j (words_in x))))) ∷ s) b m) (item_read slots m.words u.names.variables i v at.0))))
   reference_follows (Call j callee) at args n k done all is s b = result_follows callee k done.0 done.1 done.2 is s b
   reference_follows (Built f) at args n k done all is s b =
@@ -297,7 +300,7 @@ module _ (p : Program) (u : ProgramUnit) (sized : AreSized u.names.variables) (s
 
 -- in each frame of a unit of a program
 pub keeps : (p : Program) (number : ℕ) (u : ProgramUnit) (t : Tree) (n : ℕ) → unit_at p number ≡ Some u → KeepsValue p u t n (expression_code p u t n)
-keeps p number u t n here slots m frame done is s b = follows p u (variables_sized p number u here) (variables_small p number u here) slots m frame.0 frame.1 t n done is s b
+keeps p number u t n here slots m frame done is s b = follows p u (variables_sized p number u here) (variables_small p number u here) slots m frame t n done is s b
 
 pub keeps_all : (p : Program) (number : ℕ) (u : ProgramUnit) (ts : Trees) (n : ℕ) → unit_at p number ≡ Some u → KeepsNumbers p u ts n (expressions_code p u ts n)
-keeps_all p number u ts n here slots m frame done is s b = all_follow p u (variables_sized p number u here) (variables_small p number u here) slots m frame.0 frame.1 ts n done is s b
+keeps_all p number u ts n here slots m frame done is s b = all_follow p u (variables_sized p number u here) (variables_small p number u here) slots m frame ts n done is s b

@@ -2,6 +2,7 @@
 use Rattle.std.proofs.Common.{◌≡◌, ℕ, zero, suc, ◌+◌, ◌<◌, ℤ, pos, negsuc, Bool, true, false, Option, Some, None, List, [], ◌∷◌, length, map, take, drop, get_or, refl, sym, ap, subst, ◌∙◌, arith, length-drop, Ok}
 use Rattle.std.specs.Prelude.{slice_get, not, ◌&&◌, ◌||◌}
 use Rattle.std.specs.Bool.{beq}
+use Rattle.std.proofs.lemmas.Bool.Decides.{nat_tests}
 use Rattle.std.proofs.lemmas.List.{length-take, get_or-take, get_or-drop}
 use Rattle.std.proofs.lemmas.Option.{slice_get-get_or}
 use Rattle.fm_base.specs.Channels.{Item, Words, Ports}
@@ -10,7 +11,7 @@ use Rattle.fm_base.specs.declared.token.Op.TheVariants as op
 use Rattle.fm_net.specs.Typed.{AllIn}
 use Rattle.fm_values.specs.declared.value.Value.{Value}
 use Rattle.fm_values.specs.declared.value.Value.TheVariants as value
-use Rattle.fm_values.specs.Values.{truth_word, is_truth, is_true, word_of}
+use Rattle.fm_values.specs.Values.{in_range, truth_word, is_truth, is_true, word_of}
 use Rattle.fm_values.specs.Operations.{applied, applied_words, word}
 use Rattle.fm_tree.specs.declared.port_type.Kind.{Kind}
 use Rattle.fm_tree.specs.declared.port_type.Kind.TheVariants as kind
@@ -82,11 +83,18 @@ first_of [] (suc k) = refl
 first_of (x ∷ xs) zero = refl
 first_of (x ∷ xs) (suc k) = first_of xs k
 
+-- an element stands among the words of its frame
+pub element_there : (ws : List ℤ) (f n k : ℕ) → length (take n (drop f ws)) ≡ n → k < n → f + k < length ws
+element_there ws f n k full less = omega (arith, full, less, length-take n (drop f ws), length-drop f ws)
+
 pub element_read : (ws : List ℤ) (f n k : ℕ) → length (take n (drop f ws)) ≡ n → k < n → slice_get ws (f + k) ≡ Some (first_word (take 1 (drop k (take n (drop f ws)))))
 element_read ws f n k full less =
-    let there : f + k < length ws = omega (arith, full, less, length-take n (drop f ws), length-drop f ws) in
-    slice_get-get_or ws (f + k) (pos 0) there
+    slice_get-get_or ws (f + k) (pos 0) (element_there ws f n k full less)
     ∙ ap Some (sym (first_of (take n (drop f ws)) k ∙ get_or-take n (drop f ws) k (pos 0) less ∙ get_or-drop f ws k (pos 0)))
+
+-- and has a number that is an integer
+pub number_in_range : (n : ℕ) → n < 4294967296 → in_range (pos n) ≡ Ok (pos n)
+number_in_range n h = grind (arith, nat_tests)
 
 -- what isn't there is a bit, too
 pub bit_at : (xs : List ℤ) (k : ℕ) → AllIn IsBit xs → IsBit (first_word (take 1 (drop k xs)))

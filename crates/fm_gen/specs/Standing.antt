@@ -1,7 +1,7 @@
 -- How a frame of code stands for a frame of the meaning: its words, read by the layout of the names, are the values
 -- of the variables, and the results of references are the same.
 -- Source: this profile.
-use Rattle.std.specs.Prelude.{◌≡◌, ℕ, ℤ, pos, ◌+◌, cond, Option, Some, None, List, map, take, drop, slice_get}
+use Rattle.std.specs.Prelude.{◌≡◌, ◌≤◌, ℕ, ℤ, pos, ◌+◌, length, cond, Option, Some, None, List, map, take, drop, slice_get}
 use Rattle.std.specs.Ordering.{int_eq}
 use Rattle.fm_base.specs.declared.port.PortValue.{PortValue}
 use Rattle.fm_base.specs.Channels.{Item, Words, Ports}
@@ -42,9 +42,11 @@ values_in slots vs ws = map (item_in slots ws) vs
 abbrev pub scope_in : Program → ProgramUnit → Slots → Frame → Scope
 scope_in p u slots m = record { program = p; unit = u; values = values_in slots u.names.variables m.words; results = m.results }
 
--- the words of each variable are there, and are of its type
-abbrev pub IsFrame : ProgramUnit → Slots → Frame → Type 0
-IsFrame u slots m = (types : Types) × ValuesFit types u.names.variables (values_in slots u.names.variables m.words)
+-- the words of each variable are there, and are of its type; and each word has a number of 32 bits
+pub record IsFrame (u : ProgramUnit) (slots : Slots) (m : Frame) : Type 0 where
+  pub types : Types
+  pub fits : ValuesFit types u.names.variables (values_in slots u.names.variables m.words)
+  pub numbered : length m.words ≤ 4294967296
 
 -- Results of references.
 
