@@ -1,11 +1,10 @@
 -- Subscripts give way to the place of their element, or to the fault.
-use Rattle.std.proofs.Common.{◌≡◌, ℕ, zero, suc, ◌+◌, ◌*◌, ◌<◌, ◌≤◌, Bool, true, false, ◌&&◌, ◌==◌, cond, Option, Some, None, List, [], ◌∷◌, ◌++◌, length, reverse, refl, sym, ap, subst, ◌∙◌, arith, pos, negsuc, ℤ, append_assoc, suc-mul, Result, Ok, Err}
-use Rattle.std.specs.Prelude.{nat_lt, ◌+ℤ◌, ◌-ℤ◌, ◌*ℤ◌, ◌≤ℤ◌, ◌<ℤ◌, int_le, int_lt}
+use Rattle.std.proofs.Common.{◌≡◌, ℕ, zero, suc, ◌+◌, ◌*◌, ◌<◌, ◌≤◌, Bool, true, false, ◌&&◌, ◌==◌, cond, Option, Some, None, List, [], ◌∷◌, ◌++◌, length, reverse, refl, sym, ap, subst, ◌∙◌, arith, pos, negsuc, ℤ, append_assoc, suc-mul, Ok, Err}
+use Rattle.std.specs.Prelude.{nat_lt, ◌+ℤ◌, ◌-ℤ◌, ◌≤ℤ◌, ◌<ℤ◌, int_le, int_lt}
 use Rattle.std.specs.Option.{ok_or}
 use Rattle.std.proofs.lemmas.Int.{ints}
 use Rattle.std.proofs.lemmas.Bool.Decides.{nat_tests}
 use Rattle.std.proofs.lemmas.List.{reverse-append}
-use Rattle.fm_base.specs.declared.fault.Fault.{Fault}
 use Rattle.fm_base.specs.declared.fault.Fault.TheVariants.{Subscript}
 use Rattle.fm_values.specs.Trips.{natural}
 use Rattle.fm_values.specs.Values.{in_range, product, sum}
@@ -18,8 +17,8 @@ use Rattle.fm_code.specs.declared.instr.Instr.{Instr}
 use Rattle.fm_code.specs.declared.instr.Instr.TheVariants as instr
 use Rattle.fm_code.specs.declared.instr.Eval.TheVariants as eval
 use Rattle.fm_code.specs.declared.scratch.Scratch.{Scratch}
-use Rattle.fm_code.specs.Acts.{Turn, Act, On, gives, distance, dimension, then_work, work, Fails}
-use Rattle.fm_gen.specs.Code.{dimension_code, dimensions_code, has_elements, no_element, place_code}
+use Rattle.fm_code.specs.Acts.{Turn, On, gives, distance, then_work, work, Fails}
+use Rattle.fm_gen.specs.Code.{dimension_code, dimensions_code, no_element, place_code}
 use Rattle.fm_gen.specs.Keeps.{then}
 
 -- Tests of one subscript.

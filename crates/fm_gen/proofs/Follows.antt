@@ -4,7 +4,7 @@ use Rattle.std.specs.Prelude.{slice_get, unwrap_or, nat_lt, nat_le, not}
 use Rattle.std.specs.Option.{option_map}
 use Rattle.std.specs.FinMap.{get}
 use Rattle.std.proofs.lemmas.Bool.Decides.{nat_tests}
-use Rattle.std.proofs.lemmas.List.{reverse-reverse, reverse-append, length-reverse}
+use Rattle.std.proofs.lemmas.List.{reverse-reverse, length-reverse}
 use Rattle.std.proofs.Math.Seq.{take-append_seam, drop-append_seam}
 use Rattle.fm_base.specs.declared.fault.Fault.{Fault}
 use Rattle.fm_base.specs.declared.token.Op.{Op}
@@ -14,7 +14,7 @@ use Rattle.fm_values.specs.declared.intrinsic.Intrinsic.{Intrinsic}
 use Rattle.fm_values.specs.declared.value.Value.{Value}
 use Rattle.fm_values.specs.declared.value.Value.TheVariants as value
 use Rattle.fm_values.specs.Values.{in_range, opposite, truth_word, word_of}
-use Rattle.fm_values.specs.Operations.{number, applied, applied_words, with_sign, word}
+use Rattle.fm_values.specs.Operations.{number, applied, with_sign, word}
 use Rattle.fm_values.specs.Intrinsics.{intrinsic_named, intrinsic_value}
 use Rattle.fm_values.specs.Places.{size, element_place}
 use Rattle.fm_tree.specs.Tree.{Tree, Trees, Number, Truth, Named, Ref, Paren, Signed, Not, Binary, NoTrees, More}
@@ -26,10 +26,10 @@ use Rattle.fm_symbols.specs.Headings.{is_function}
 use Rattle.fm_symbols.specs.declared.names.Variable.{Variable}
 use Rattle.fm_rules.specs.declared.program.Program.{Program}
 use Rattle.fm_mean.specs.Operands.{◌>>=◌}
-use Rattle.fm_mean.specs.Names.{ProgramUnit, unit_at, place_in, variable_at, variable_of, constant_of, result_variable, unit_named, kind_of}
-use Rattle.fm_mean.specs.Places.{items_at, first_word, words_in}
-use Rattle.fm_mean.specs.Evaluate.{Scope, Reference, Element, Call, Built, Unknown, function_by, intrinsic_or, array_or, is_array, reference_of, counts_one, refs_in, refs_in_all, value_by, named_by, element_value, result_by, result_of, ref_value, value_of, numbers_of}
-use Rattle.fm_mean.specs.Fits.{IsBit, Types, ItemFits, ValuesFit, sort_of_variable}
+use Rattle.fm_mean.specs.Names.{ProgramUnit, unit_at, place_in, variable_at, variable_of, result_variable, unit_named, kind_of}
+use Rattle.fm_mean.specs.Places.{first_word, words_in}
+use Rattle.fm_mean.specs.Evaluate.{Scope, Reference, Element, Call, Built, Unknown, function_by, intrinsic_or, array_or, is_array, reference_of, counts_one, refs_in, refs_in_all, value_by, named_by, result_by, result_of, ref_value, value_of, numbers_of}
+use Rattle.fm_mean.specs.Fits.{ItemFits}
 use Rattle.fm_mean.specs.ValueTypes.{AreSized}
 use Rattle.fm_mean.proofs.Sizes.{in_all, variables_sized, variables_small}
 use Rattle.fm_code.specs.declared.body.Frame.{Frame}
@@ -39,7 +39,7 @@ use Rattle.fm_code.specs.declared.instr.Eval.TheVariants as eval
 use Rattle.fm_code.specs.declared.scratch.Scratch.{Scratch}
 use Rattle.fm_code.specs.Acts.{Turn, Act, On, Over, found, gives, with_words, then_work, work, Fails}
 use Rattle.fm_code.specs.Acts as acts
-use Rattle.fm_gen.specs.Standing.{Slots, item_by, values_in, scope_in, IsFrame, IsWordOf, IsResultOf, IsDone, AreDone, AreAllDone}
+use Rattle.fm_gen.specs.Standing.{Slots, item_by, scope_in, IsFrame, IsResultOf, IsDone, AreDone, AreAllDone}
 use Rattle.fm_gen.specs.Code.{names_in, first_load, variable_code, named_code, port_code, element_code, place_code, sign_code, reference_code, trees_count, expression_code, expressions_code}
 use Rattle.fm_gen.specs.Keeps.{then, KeepsValue, KeepsNumbers}
 use Rattle.fm_gen.proofs.FrameWords.{bit_kept, word_kept, truth_kept, applied_kept, item_read, item_fits, first_of, element_there, element_read, number_in_range, bit_at}

@@ -2,3 +2,12 @@ pub mod Counts
 pub mod FrameWords
 pub mod Dimensions
 pub mod Follows
+pub mod Writes
+pub mod StoreLaws
+pub mod PrintLaws
+pub mod LoopLaws
+pub mod Ends
+pub mod StatementLaws
+pub mod NumberLaws
+pub mod UnitLaws
+pub mod KeptUnits

@@ -1,4 +1,4 @@
--- What it means that code does what its program does.
+-- What it means that the code of expressions does what they do.
 -- Source: this profile.
 use Rattle.std.specs.Prelude.{◌≡◌, ℕ, ℤ, List, ◌∷◌, ◌++◌, reverse, Result, Ok, Err}
 use Rattle.fm_base.specs.declared.fault.Fault.{Fault}

@@ -35,7 +35,7 @@ fn dimension(others: &[(i64, i64)], bounds: (i64, i64)) -> Result<Instr, NoMemor
 }
 
 /// Adds what makes a place of subscripts, from the last dimension to the first.
-fn dimensions(bounds: &[(i64, i64)], out: &mut Seq<Instr>) -> Result<(), NoMemory>
+pub(crate) fn dimensions(bounds: &[(i64, i64)], out: &mut Seq<Instr>) -> Result<(), NoMemory>
     ensures { OnOk result (out.new ≡ out.old ++ dimensions_code bounds.now) }
 {
     let mut place = bounds.len();
@@ -48,14 +48,14 @@ fn dimensions(bounds: &[(i64, i64)], out: &mut Seq<Instr>) -> Result<(), NoMemor
 }
 
 /// Adds what fails with Subscript.
-fn no_element(out: &mut Seq<Instr>) -> Result<(), NoMemory>
+pub(crate) fn no_element(out: &mut Seq<Instr>) -> Result<(), NoMemory>
     ensures { OnOk result (out.new ≡ out.old ++ no_element) }
 {
     out.push(push(0))?;
     out.push(Instr::Eval(Eval::Subscript(0, 0)))
 }
 
-fn has_elements(variable: &Variable, subscripts: usize) -> bool
+pub(crate) fn has_elements(variable: &Variable, subscripts: usize) -> bool
     ensures { result ≡ has_elements variable.now subscripts }
 {
     subscripts == variable.bounds.len() && variable.words > 0

@@ -17,7 +17,7 @@ use fm_tree::{Expr, ExprNode};
 use fm_values::truth_word;
 
 /// A number as an operand.
-fn operand(number: usize) -> Result<u32, NoMemory>
+pub(crate) fn operand(number: usize) -> Result<u32, NoMemory>
     ensures { IfOk result (λ n. n ≡ number) }
 {
     match u32::try_from(number) {

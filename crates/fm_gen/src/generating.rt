@@ -1,16 +1,20 @@
 //! What is generated, and what it keeps.
 
-ghost use Rattle.std.specs.Prelude.{◌≡◌, ◌+◌, ◌++◌, IfOk, OnOk};
+ghost use Rattle.std.specs.Prelude.{◌≡◌, ◌+◌, ◌++◌, length, IfOk, OnOk};
 ghost use Rattle.fm_mean.specs.Evaluate.{refs_in};
 ghost use Rattle.fm_frame.specs.Units.{unit_of};
 ghost use Rattle.fm_gen.specs.Code.{expression_code, names_in};
 ghost use Rattle.fm_gen.specs.Keeps.{KeepsValue};
+ghost use Rattle.fm_gen.specs.Statements.{address_of, starts_of};
+ghost use Rattle.fm_gen.specs.Steps.{KeepsUnit};
 
 use crate::expressions::emit;
+use crate::units::{UnitCode, unit_code};
 use fm_base::{NoMemory, Seq};
 use fm_code::Instr;
 use fm_frame::UnitView;
 use fm_tree::Expr;
+use std::alloc::Global;
 
 /// Adds the code of an expression, before which `next` references of its entry stand, and answers how many stand before
 /// what comes behind it. In each frame of the unit the code leaves the word of the expression's value, or fails as the
@@ -28,4 +32,17 @@ pub fn expression(
     // It is a unit of its program, so its variables have as many words as elements.
     let _number = unit.number();
     emit(unit, tree, next, out)
+}
+
+/// The code of a unit, and the addresses of its entries. At each entry whose form has its code, which are those that concern
+/// their process alone and refer to no function, the statement at its address does what the meaning does there. Want of
+/// memory also where a number has no room in an instruction.
+pub fn unit(alloc: Global, unit: &UnitView<'_>) -> Result<UnitCode, NoMemory>
+    ensures keeps { IfOk result (λ c. KeepsUnit unit.now.program.now (unit_of unit.now) c.code) }
+    ensures starts { IfOk result (λ c. c.starts ≡ starts_of unit.now.program.now (unit_of unit.now) (address_of unit.now.program.now (unit_of unit.now)) (length (unit_of unit.now).tree.body)) }
+{
+    // It is a unit of its program, so its variables are laid out.
+    let _number = unit.number();
+    let code = unit_code(alloc, unit)?;
+    Ok(code)
 }

@@ -1,14 +1,22 @@
-//! The generator of stack code: so far the code of expressions.
+//! The generator of stack code: expressions, and statements that concern their process alone.
 //!
-//! `specs/Code` tells the instructions, `specs/Standing` how a frame of code stands for one of the meaning, and
-//! `specs/Keeps` what it means that code does what its program does.
+//! `specs/Code` and `specs/Statements` tell the instructions, `specs/Forms` which statements have them, `specs/Standing` how
+//! the words of a frame of code stand for values, `specs/Keeps` and `specs/Steps` what it means that code does what its
+//! program does.
 #![tactic(auto)]
 
+mod addresses;
 mod counting;
 mod elements;
 mod expressions;
 mod generating;
+mod looping;
+mod printing;
 mod reference;
+mod statements;
+mod storing;
+mod units;
 mod variables;
 
-pub use generating::expression;
+pub use generating::{expression, unit};
+pub use units::UnitCode;

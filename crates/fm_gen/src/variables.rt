@@ -42,7 +42,8 @@ fn variable(variable: &Variable) -> Instr
     }
 }
 
-fn constant_word(constant: Option<Constant>) -> i64
+/// The word of a constant; 0 where there is none.
+pub(crate) fn constant_word(constant: Option<Constant>) -> i64
     ensures { result ≡ word_of (constant_by constant) }
 {
     match constant {

@@ -1,0 +1,103 @@
+-- What stands behind the end of a statement doesn't count.
+use Rattle.std.proofs.Common.{◌≡◌, ℕ, ℤ, Bool, true, false, cond, Option, Some, None, List, [], ◌∷◌, ◌++◌, length, refl, sym, ap, ◌∙◌, append_assoc, Result, Ok, Err}
+use Rattle.std.specs.Prelude.{slice_get, slice_set, nat_lt, ◌&&◌}
+use Rattle.fm_base.specs.declared.fault.Fault.{Fault}
+use Rattle.fm_values.specs.Values.{sum}
+use Rattle.fm_values.specs.Trips.{trips_behind}
+use Rattle.fm_code.specs.declared.body.Frame.{Frame}
+use Rattle.fm_code.specs.declared.body.Turns.{Turns}
+use Rattle.fm_code.specs.declared.instr.End.TheVariants as end
+use Rattle.fm_code.specs.declared.instr.Meet.TheVariants as meet
+use Rattle.fm_code.specs.declared.instr.Loop.{Loop}
+use Rattle.fm_code.specs.declared.instr.Instr.{Instr}
+use Rattle.fm_code.specs.declared.instr.Instr.TheVariants as instr
+use Rattle.fm_code.specs.declared.scratch.Scratch.{Scratch}
+use Rattle.fm_code.specs.Acts as acts
+use Rattle.fm_code.specs.Acts.{Turn, Act, On, Over, found, gives, number_in, numbered, stored, counted, led, fewer, enters, turns, act, then_work, work}
+
+-- an act with which its statement ends
+abbrev Ends : Act → Type 0
+Ends a = (k j : List ℤ → Scratch → Turn) → then_work a k ≡ then_work a j
+
+ends_over : (c : Bool) (t o : Turn) → Ends (cond c (Over t) (Over o))
+ends_over true t o k j = refl
+ends_over false t o k j = refl
+
+ends_found : {X : Type 0} (o : Option X) (f : X → Act) → ((x : X) → Ends (f x)) → Ends (found o f)
+ends_found None f h k j = refl
+ends_found (Some x) f h k j = h x k j
+
+ends_gives : {X : Type 0} (r : Result X Fault) (f : X → Act) → ((x : X) → Ends (f x)) → Ends (gives r f)
+ends_gives (Ok x) f h k j = h x k j
+ends_gives (Err fault) f h k j = refl
+
+ends_stored : (to n : ℕ) (x : ℤ) (m : Frame) → Ends (stored to n x m)
+ends_stored to n x m = ends_over (nat_lt n (length m.words)) (acts.Goes to (record m { words = slice_set m.words n x })) acts.Stuck
+
+ends_counted : (l : Loop) (body behind : ℕ) (t : Turns) (x : ℤ) (m : Frame) → Ends (counted l body behind t x m)
+ends_counted l body behind t x m =
+    ends_over (nat_lt l.number (length m.loops) && nat_lt l.word (length m.words))
+    (acts.Goes (led body behind t.behind) (record m { words = slice_set m.words l.word x; loops = slice_set m.loops l.number (Some t) })) acts.Stuck
+
+ends_turns : (l : Loop) (body behind : ℕ) (o : Option Turns) (m : Frame) → Ends (turns l body behind o m)
+ends_turns l body behind None m k j = refl
+ends_turns l body behind (Some t) m k j =
+    ends_found (slice_get m.words l.word) (λ x. gives (sum x t.by) (λ v. counted l body behind (record { behind = fewer t.behind; by = t.by }) v m))
+    (λ x. ends_gives (sum x t.by) (λ v. counted l body behind (record { behind = fewer t.behind; by = t.by }) v m) (λ v. ends_counted l body behind (record { behind = fewer t.behind; by = t.by }) v m)) k j
+
+-- the instructions with which statements end that concern their process alone
+pub data IsEnd : Instr → Type 0 where
+  Goes : (to : ℕ) → IsEnd (instr.End (end.Goto to))
+  Tests : (holding failing : ℕ) → IsEnd (instr.End (end.Test holding failing))
+  Stores : (n to : ℕ) → IsEnd (instr.End (end.Store n to))
+  StoresAt : (to : ℕ) → IsEnd (instr.End (end.StoreAt to))
+  Enters : (body behind : ℕ) → IsEnd (instr.End (end.Enter body behind))
+  EndsTrip : (body behind : ℕ) → IsEnd (instr.End (end.Again body behind))
+  Prints : (to : ℕ) → IsEnd (instr.End (end.Print to))
+  Stops : IsEnd (instr.Meet meet.Stop)
+
+act_ends : (i : Instr) → IsEnd i → (s : List ℤ) (b : Scratch) (m : Frame) → Ends (act i s b m)
+act_ends i (Goes to) s b m k j = refl
+act_ends i (Tests holding failing) [] b m k j = refl
+act_ends i (Tests holding failing) (x ∷ s) b m k j = refl
+act_ends i (Stores n to) [] b m k j = refl
+act_ends i (Stores n to) (x ∷ s) b m k j = ends_stored to n x m k j
+act_ends i (StoresAt to) [] b m k j = refl
+act_ends i (StoresAt to) (v ∷ []) b m k j = refl
+act_ends i (StoresAt to) (v ∷ x ∷ s) b m k j = ends_found (numbered m (number_in x)) (λ n. stored to n v m) (λ n. ends_stored to n v m) k j
+act_ends i (Enters body behind) [] b m k j = refl
+act_ends i (Enters body behind) (z ∷ []) b m k j = refl
+act_ends i (Enters body behind) (z ∷ y ∷ []) b m k j = refl
+act_ends i (Enters body behind) (z ∷ y ∷ x ∷ s) b m k j =
+    ends_found b.counts (λ l. enters l body behind x y z m)
+    (λ l. ends_gives (trips_behind x y z) (λ n. counted l body behind (record { behind = n; by = z }) x m) (λ n. ends_counted l body behind (record { behind = n; by = z }) x m)) k j
+act_ends i (EndsTrip body behind) s b m k j =
+    ends_found b.counts (λ l. found (slice_get m.loops l.number) (λ t. turns l body behind t m))
+    (λ l. ends_found (slice_get m.loops l.number) (λ t. turns l body behind t m) (λ o. ends_turns l body behind o m)) k j
+act_ends i (Prints to) s b m k j = refl
+act_ends i Stops s b m k j = refl
+
+then_same : (a : Act) (k j : List ℤ → Scratch → Turn) → ((s : List ℤ) (b : Scratch) → k s b ≡ j s b) → then_work a k ≡ then_work a j
+then_same (On s b) k j h = h s b
+then_same (Over t) k j h = refl
+
+ended : (is : List Instr) (i : Instr) → IsEnd i → (rest : List Instr) (s : List ℤ) (b : Scratch) (m : Frame) → work ((is ++ i ∷ []) ++ rest) s b m ≡ work (is ++ i ∷ []) s b m
+ended [] i h rest s b m = act_ends i h s b m (λ s b. work rest s b m) (λ s b. work [] s b m)
+ended (x ∷ is) i h rest s b m = then_same (act x s b m) (λ s b. work ((is ++ i ∷ []) ++ rest) s b m) (λ s b. work (is ++ i ∷ []) s b m) (λ s b. ended is i h rest s b m)
+
+-- code whose last instruction ends its statement
+pub record IsEnded (code : List Instr) : Type 0 where
+  pub before : List Instr
+  pub last : Instr
+  pub ends : IsEnd last
+  pub is : code ≡ before ++ last ∷ []
+
+pub alone : (i : Instr) → IsEnd i → IsEnded (i ∷ [])
+alone i h = record { before = []; last = i; ends = h; is = refl }
+
+pub behind : (is code : List Instr) → IsEnded code → IsEnded (is ++ code)
+behind is code h = record { before = is ++ h.before; last = h.last; ends = h.ends; is = ap (λ l. is ++ l) h.is ∙ sym (append_assoc is h.before (h.last ∷ [])) }
+
+pub whole_alone : (code : List Instr) → IsEnded code → (rest : List Instr) (s : List ℤ) (b : Scratch) (m : Frame) → work (code ++ rest) s b m ≡ work code s b m
+whole_alone code h rest s b m =
+    ap (λ c. work (c ++ rest) s b m) h.is ∙ ended h.before h.last h.ends rest s b m ∙ sym (ap (λ c. work c s b m) h.is)

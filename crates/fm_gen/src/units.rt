@@ -1,0 +1,130 @@
+//! The code of units.
+
+ghost use Rattle.std.specs.Prelude.{◌≡◌, ◌<◌, ◌++◌, [], length, IfOk, OnOk};
+ghost use Rattle.fm_mean.specs.Names.{point_at};
+ghost use Rattle.fm_frame.specs.Units.{unit_of};
+ghost use Rattle.fm_gen.specs.Statements.{address_of, entries_code, entry_code, loop_numbers, opens_counted, starts_of, unit_code};
+ghost use Rattle.fm_gen.specs.Tables.{address_by, address_in};
+
+use crate::addresses::Addresses;
+use crate::expressions::operand;
+use crate::statements::{Site, statement};
+use fm_base::{NoMemory, Seq};
+use fm_code::Instr;
+use fm_frame::UnitView;
+use fm_tree::{Entry, Stmt};
+use std::alloc::Global;
+
+/// The code of a unit, and where each of its entries begins.
+#[derive(Drop)]
+pub struct UnitCode {
+    /// Its instructions.
+    pub code: Seq<Instr>,
+    /// The address of each entry.
+    pub starts: Seq<u32>,
+}
+
+fn opens_counted(entry: &Entry) -> bool
+    ensures { result ≡ opens_counted entry.now }
+{
+    match &entry.stmt {
+        Stmt::Do(_) => true,
+        Stmt::ProcessDo(_) => true,
+        _ => false,
+    }
+}
+
+fn loop_numbers(alloc: Global, unit: &UnitView<'_>) -> Result<Seq<u32>, NoMemory>
+    ensures { IfOk result (λ n. n ≡ loop_numbers 0 (unit_of unit.now).tree.body) }
+{
+    let mut numbers = Seq::new(alloc);
+    let mut number = 0u32;
+    let body = unit.tree().body.as_slice();
+    'entries: for entry in body {
+        numbers.push(number)?;
+        if opens_counted(entry) {
+            number = number.checked_add(1).ok_or(NoMemory)?;
+        }
+    }
+    Ok(numbers)
+}
+
+/// Adds the code of the entry with this number.
+fn entry(
+    unit: &UnitView<'_>,
+    addresses: Addresses<'_>,
+    numbers: &[u32],
+    number: u32,
+    out: &mut Seq<Instr>,
+) -> Result<(), NoMemory>
+    requires numbers { numbers.now ≡ loop_numbers 0 (unit_of unit.now).tree.body }
+    requires there { number < length (unit_of unit.now).tree.body }
+    ensures { OnOk result (out.new ≡ out.old ++ entry_code unit.now.program.now (unit_of unit.now) (address_by addresses.entry) number (point_at (unit_of unit.now) number)) }
+{
+    match unit.entry(number) {
+        None => Ok(()),
+        Some((entry, links)) => {
+            let site = Site {
+                addresses,
+                numbers,
+                number,
+                entry,
+                links,
+            };
+            statement(unit, &site, out)
+        }
+    }
+}
+
+fn entries(
+    alloc: Global,
+    unit: &UnitView<'_>,
+    addresses: Addresses<'_>,
+    numbers: &[u32],
+) -> Result<UnitCode, NoMemory>
+    requires { numbers.now ≡ loop_numbers 0 (unit_of unit.now).tree.body }
+    ensures code { IfOk result (λ c. c.code ≡ entries_code unit.now.program.now (unit_of unit.now) (address_by addresses.entry) (length (unit_of unit.now).tree.body)) }
+    ensures starts { IfOk result (λ c. c.starts ≡ starts_of unit.now.program.now (unit_of unit.now) (address_by addresses.entry) (length (unit_of unit.now).tree.body)) }
+{
+    let mut code = Seq::new(alloc);
+    let mut starts = Seq::new(alloc);
+    let count = operand(unit.tree().body.len())?;
+    'entries: for number in 0..count {
+        starts.push(operand(code.len())?)?;
+        entry(unit, addresses, numbers, number, &mut code)?;
+    }
+    Ok(UnitCode { code, starts })
+}
+
+/// No entry begins anywhere yet.
+fn nowhere() -> Addresses<'static>
+    ensures { address_by result ≡ address_in [] 0 }
+{
+    Addresses {
+        starts: &[],
+        end: 0,
+    }
+}
+
+fn addresses(first: &UnitCode) -> Result<Addresses<'_>, NoMemory>
+    ensures { IfOk result (λ a. address_by a ≡ address_in first.now.starts (length first.now.code)) }
+{
+    Ok(Addresses {
+        starts: first.starts.as_slice(),
+        end: operand(first.code.len())?,
+    })
+}
+
+/// The code of a unit, and where each of its entries begins. How long the code of an entry is doesn't depend on where
+/// others begin, so a first pass finds that.
+pub(crate) fn unit_code(alloc: Global, unit: &UnitView<'_>) -> Result<UnitCode, NoMemory>
+    ensures code { IfOk result (λ c. c.code ≡ unit_code unit.now.program.now (unit_of unit.now)) }
+    ensures starts { IfOk result (λ c. c.starts ≡ starts_of unit.now.program.now (unit_of unit.now) (address_of unit.now.program.now (unit_of unit.now)) (length (unit_of unit.now).tree.body)) }
+{
+    let numbers = loop_numbers(alloc, unit)?;
+    let unplaced = nowhere();
+    let first = entries(alloc, unit, unplaced, numbers.as_slice())?;
+    let placed = addresses(&first)?;
+    let code = entries(alloc, unit, placed, numbers.as_slice())?;
+    Ok(code)
+}
