@@ -6,3 +6,4 @@ pub mod Statements
 pub mod Steps
 pub mod Forms
 pub mod Tables
+pub mod Programs

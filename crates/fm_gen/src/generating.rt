@@ -1,18 +1,20 @@
 //! What is generated, and what it keeps.
 
-ghost use Rattle.std.specs.Prelude.{◌≡◌, ◌+◌, ◌++◌, length, IfOk, OnOk};
+ghost use Rattle.std.specs.Prelude.{◌≡◌, ◌+◌, ◌++◌, ℕ, Some, length, IfOk, OnOk};
 ghost use Rattle.fm_mean.specs.Evaluate.{refs_in};
 ghost use Rattle.fm_frame.specs.Units.{unit_of};
 ghost use Rattle.fm_gen.specs.Code.{expression_code, names_in};
 ghost use Rattle.fm_gen.specs.Keeps.{KeepsValue};
-ghost use Rattle.fm_gen.specs.Statements.{address_of, starts_of};
+ghost use Rattle.fm_mean.specs.Names.{ProgramUnit, unit_at};
+ghost use Rattle.fm_gen.specs.Programs.{coded, codes_of};
 ghost use Rattle.fm_gen.specs.Steps.{KeepsUnit};
 
-use crate::expressions::emit;
+use crate::expressions::{emit, operand};
 use crate::units::{UnitCode, unit_code};
 use fm_base::{NoMemory, Seq};
 use fm_code::Instr;
 use fm_frame::UnitView;
+use fm_rules::Program;
 use fm_tree::Expr;
 use std::alloc::Global;
 
@@ -38,11 +40,26 @@ pub fn expression(
 /// their process alone and refer to no function, the statement at its address does what the meaning does there. Want of
 /// memory also where a number has no room in an instruction.
 pub fn unit(alloc: Global, unit: &UnitView<'_>) -> Result<UnitCode, NoMemory>
+    ensures code { IfOk result (λ c. c ≡ coded unit.now.program.now (unit_of unit.now)) }
     ensures keeps { IfOk result (λ c. KeepsUnit unit.now.program.now (unit_of unit.now) c.code) }
-    ensures starts { IfOk result (λ c. c.starts ≡ starts_of unit.now.program.now (unit_of unit.now) (address_of unit.now.program.now (unit_of unit.now)) (length (unit_of unit.now).tree.body)) }
 {
     // It is a unit of its program, so its variables are laid out.
     let _number = unit.number();
     let code = unit_code(alloc, unit)?;
     Ok(code)
+}
+
+/// The code of each unit of a program, as `unit` makes it.
+pub fn generate(alloc: Global, program: &Program) -> Result<Seq<UnitCode>, NoMemory>
+    ensures code { IfOk result (λ c. c ≡ codes_of program.now (length program.now.units.units)) }
+    ensures keeps { IfOk result (λ c. (k : ℕ) (u : ProgramUnit) → unit_at program.now k ≡ Some u → KeepsUnit program.now u (coded program.now u).code) }
+{
+    let mut codes = Seq::new(alloc);
+    let count = operand(program.units().units.len())?;
+    'units: for number in 0..count {
+        if let Some(view) = UnitView::new(program, number) {
+            codes.push(unit(alloc, &view)?)?;
+        }
+    }
+    Ok(codes)
 }

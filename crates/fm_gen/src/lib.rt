@@ -18,5 +18,5 @@ mod storing;
 mod units;
 mod variables;
 
-pub use generating::{expression, unit};
+pub use generating::{expression, generate, unit};
 pub use units::UnitCode;

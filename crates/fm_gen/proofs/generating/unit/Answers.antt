@@ -5,6 +5,9 @@ use Rattle.fm_gen.specs.Steps.{KeepsUnit}
 use Rattle.fm_gen.proofs.KeptUnits.{keeps_unit}
 use Rattle.fm_gen.proofs.generating.unit.Goals as goal
 
+pub returns-clause-code : goal.returns-clause-code
+returns-clause-code c = λ i. record { code = c.in_ok-code.ensures.code i; starts = c.in_ok-code.ensures.starts i }
+
 pub returns-clause-keeps : goal.returns-clause-keeps
 returns-clause-keeps c =
     let p = c.args.unit.now.program.now in
