@@ -1,6 +1,6 @@
 -- What passes between frames: operands to formals, and what formals give back.
 -- Source: ANSI X3.9-1978, sections 15.5 to 15.9, with copying in and back and the travel of ports by this profile.
-use Rattle.std.specs.Prelude.{ℕ, ℤ, pos, ◌+◌, ◌==◌, Bool, true, false, not, ◌&&◌, cond, Option, Some, None, List, [], ◌∷◌, ◌++◌, length, take, drop, filter, replicate, nat_le}
+use Rattle.std.specs.Prelude.{ℕ, ℤ, pos, ◌+◌, ◌==◌, Bool, true, false, not, ◌&&◌, cond, List, [], ◌∷◌, ◌++◌, length, take, drop, filter, replicate, nat_le}
 use Rattle.std.specs.List.{flat_map}
 use Rattle.std.specs.Ordering.{int_eq}
 use Rattle.fm_code.specs.declared.ask.Operand.{Operand}
