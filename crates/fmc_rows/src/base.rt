@@ -6,16 +6,26 @@ use fm_base::{
 use std::test::Fail;
 
 #[test]
-fn paths_and_channels(rt: HostRuntime) -> Result<(), Fail> {
+fn paths(rt: HostRuntime) -> Result<(), Fail> {
     let path = Path::main(rt.alloc()).child(rt.alloc(), 2, 10)?;
     assert_eq!(rt; path.text(rt.alloc())?.as_slice(), b"main/2.10".as_slice());
-    let maker = path.copy(rt.alloc())?;
+    assert!(rt; path.copy(rt.alloc())? == path);
+    Ok(())
+}
+
+#[test]
+fn channels(rt: HostRuntime) -> Result<(), Fail> {
+    let maker = Path::main(rt.alloc());
     let channel = ChanName { maker, number: 3 };
-    assert_eq!(rt;
-        channel.text(rt.alloc())?.as_slice(),
-        b"main/2.10:3".as_slice()
-    );
-    let reader = PortValue::Reader(channel.copy(rt.alloc())?);
+    assert_eq!(rt; channel.text(rt.alloc())?.as_slice(), b"main:3".as_slice());
+    assert!(rt; channel.copy(rt.alloc())? == channel);
+    Ok(())
+}
+
+#[test]
+fn values_of_ports(rt: HostRuntime) -> Result<(), Fail> {
+    let maker = Path::main(rt.alloc());
+    let reader = PortValue::Reader(ChanName { maker, number: 3 });
     assert!(rt; reader.copy(rt.alloc())? == reader);
     Ok(())
 }

@@ -98,20 +98,44 @@ fn is_end(got: Got) -> bool {
     }
 }
 
+// Who waits is woken by a message, and messages come in the order in which they were sent.
+fn come_in_order(
+    rt: &impl Abort,
+    alloc: Global,
+    channels: &mut Channels,
+    inport: &Port,
+    outport: &Port,
+) -> Result<(), Fail> {
+    assert!(rt; is_wait(receive(rt, channels, inport)));
+    wait(rt, channels, inport, 3)?;
+    send(rt, channels, outport, word(alloc, 7)?)?;
+    assert_eq!(rt; channels.next_woken(), Some(3));
+    assert_eq!(rt; channels.next_woken(), None);
+    send(rt, channels, outport, word(alloc, 8)?)?;
+    assert_eq!(rt; first_word(receive(rt, channels, inport)), Some(7));
+    Ok(())
+}
+
+// Two ports are of one channel, and are told apart.
+fn are_of_one_channel(
+    rt: &impl Abort,
+    alloc: Global,
+    channels: &Channels,
+    inport: &Port,
+    outport: &Port,
+) -> Result<(), Fail> {
+    assert!(rt; channels.name(outport) == inport.channel());
+    assert!(rt; outport.value(alloc)? != inport.value(alloc)?);
+    Ok(())
+}
+
 #[test]
 fn messages_come_in_order_and_then_the_end(rt: HostRuntime) -> Result<(), Fail> {
     let alloc = rt.alloc();
     let mut channels = Channels::new(alloc);
     let (inport, outport) = made(&rt, alloc, &mut channels, 1)?;
-    assert!(rt; is_wait(receive(&rt, &mut channels, &inport)));
-    wait(&rt, &mut channels, &inport, 3)?;
-    send(&rt, &mut channels, &outport, word(alloc, 7)?)?;
-    assert_eq!(rt; channels.next_woken(), Some(3));
-    assert_eq!(rt; channels.next_woken(), None);
-    send(&rt, &mut channels, &outport, word(alloc, 8)?)?;
-    assert_eq!(rt; first_word(receive(&rt, &mut channels, &inport)), Some(7));
-    assert!(rt; channels.name(&outport) == inport.channel());
-    assert!(rt; outport.value(alloc)? != inport.value(alloc)?);
+    come_in_order(&rt, alloc, &mut channels, &inport, &outport)?;
+    are_of_one_channel(&rt, alloc, &channels, &inport, &outport)?;
     assert!(rt; outport.is_outport());
     channels.close(outport);
     assert_eq!(rt; first_word(receive(&rt, &mut channels, &inport)), Some(8));
@@ -143,6 +167,24 @@ fn ports_in_messages_go_with_an_inport(rt: HostRuntime) -> Result<(), Fail> {
     Ok(())
 }
 
+// A message by the writer that is left is received, and the reader waits then.
+fn goes_on(
+    rt: &impl Abort,
+    alloc: Global,
+    channels: &mut Channels,
+    inport: &Port,
+    writer: &Port,
+) -> Result<(), Fail> {
+    assert!(rt; channels.probe(inport));
+    assert!(rt; writer.is_outport());
+    channels.reserve(writer)?;
+    send(rt, channels, writer, word(alloc, 7)?)?;
+    assert!(rt; !channels.probe(inport));
+    assert_eq!(rt; first_word(receive(rt, channels, inport)), Some(7));
+    wait(rt, channels, inport, 2)?;
+    Ok(())
+}
+
 // A merger ends where its last writer is closed, in whatever order they are, and its reader is woken then.
 #[test]
 fn a_merger_ends_with_its_last_writer(rt: HostRuntime) -> Result<(), Fail> {
@@ -157,16 +199,10 @@ fn a_merger_ends_with_its_last_writer(rt: HostRuntime) -> Result<(), Fail> {
     assert_eq!(rt; channels.writer(&last), Some(1));
     assert_eq!(rt; channels.writer(&inport), None);
     channels.discard(last);
-    assert!(rt; channels.probe(&inport));
     let Some(first) = outports.pop() else {
         return Ok(());
     };
-    assert!(rt; first.is_outport());
-    channels.reserve(&first)?;
-    send(&rt, &mut channels, &first, word(alloc, 7)?)?;
-    assert!(rt; !channels.probe(&inport));
-    assert_eq!(rt; first_word(receive(&rt, &mut channels, &inport)), Some(7));
-    wait(&rt, &mut channels, &inport, 2)?;
+    goes_on(&rt, alloc, &mut channels, &inport, &first)?;
     channels.discard(first);
     assert_eq!(rt; channels.next_woken(), Some(2));
     assert!(rt; is_end(receive(&rt, &mut channels, &inport)));
