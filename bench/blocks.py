@@ -150,7 +150,7 @@ def pipeline(count):
 PROGRAMS = {
     "block": (block, b" 1\n", 15),
     "backwards": (backwards, b" 1\n", 15),
-    "chain": (chain, b" 1\n", 110),
+    "chain": (chain, b" 1\n", 40),
     "pipeline": (pipeline, b" 55\n", 15),
 }
 
