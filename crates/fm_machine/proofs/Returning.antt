@@ -3,10 +3,10 @@ use Rattle.std.proofs.Common.{◌≡◌, ℕ, ℤ, ◌+◌, Bool, true, false, c
 use Rattle.fm_code.specs.declared.body.Body.{Body}
 use Rattle.fm_code.specs.declared.body.Frame.{Frame}
 use Rattle.fm_code.specs.Passing.{backs_fit, back_words}
-use Rattle.fm_code.specs.Statements.{Action, Own, given, left_ports, gives_back, results_in}
+use Rattle.fm_code.specs.Statements.{Action, Own, given, gives_back, results_in}
 use Rattle.fm_code.specs.Statements as statements
-use Rattle.fm_machine.specs.Looks.{look_in, look_by}
-use Rattle.fm_machine.specs.declared.looking.Look.TheVariants as look
+use Rattle.fm_calling.specs.Looks.{look_in, look_by}
+use Rattle.fm_calling.specs.declared.looking.Look.TheVariants as look
 
 pub none_go : (drops : List ℤ) → look_by drops ≡ look.Goes → drops ≡ []
 none_go [] e = refl

@@ -1,3 +1,1 @@
-pub mod Told
-pub mod Frames
-pub mod Looks
+pub mod Finished

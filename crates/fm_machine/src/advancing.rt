@@ -3,17 +3,15 @@
 ghost use Rattle.std.specs.Prelude.{◌≡◌, ◌≢◌, ◌≤◌, ◌+◌, ◌++◌, None, IfOk, OnOk, option_to_list};
 ghost use Rattle.fm_code.specs.Statements as statements;
 ghost use Rattle.fm_code.specs.Statements.{ran, action_of, ask_of, turn_of, code_in};
-ghost use Rattle.fm_machine.specs.Told.{turned};
-ghost use Rattle.fm_machine.specs.Looks.{went, asked, asked_in, Stays};
+ghost use Rattle.fm_instructions.specs.Told.{turned};
+ghost use Rattle.fm_machine.specs.Finished.{went, asked, asked_in, Stays};
 
 use crate::done::{Done, Made};
-use crate::looking::{Look, unit_at};
 use crate::performing::{Finish, look, perform};
-use crate::statements::statement;
-use crate::turn::Turn;
-use crate::work::Work;
 use fm_base::{NoMemory, Seq};
+use fm_calling::{Look, unit_at};
 use fm_code::{Ask, Body, Instr, copy_body};
+use fm_instructions::{Turn, Work, statement};
 use std::alloc::Global;
 use std::sync::Arc;
 

@@ -1,15 +1,14 @@
 //! Calls, references and starts.
 
-ghost use Rattle.std.specs.Prelude.{◌≡◌, [], IfOk, Some, None, replicate};
+ghost use Rattle.std.specs.Prelude.{◌≡◌, IfOk, Some, None, replicate};
 ghost use Rattle.fm_code.specs.Statements.{unit_at, at_statement, new_frame, ran, ask_in, starts};
 ghost use Rattle.fm_code.specs.Passing.{all_fit};
-ghost use Rattle.fm_machine.specs.Looks.{look_in, opened_by, opening, starting, went, asked, Stays};
+ghost use Rattle.fm_calling.specs.Looks.{look_in};
+ghost use Rattle.fm_machine.specs.Finished.{opened_by, opening, starting, went, asked, Stays};
 
-use crate::looking::{Look, fail, unit_at};
-use crate::passing::{Entered, all_fit, enter};
 use crate::performing::Finish;
-use crate::seats::seat_for;
 use fm_base::{Machine, NoMemory, Seq};
+use fm_calling::{Entered, Look, all_fit, enter, fail, seat_for, unit_at};
 use fm_code::{Body, Frame, Operand, Place, Row, Start, Turns, Unit};
 use std::alloc::Global;
 use std::mem::replace;

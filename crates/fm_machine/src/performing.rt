@@ -4,16 +4,16 @@ ghost use Rattle.std.specs.Prelude.{◌≡◌, [], ◌∷◌, slice_set, IfOk, O
 ghost use Rattle.fm_code.specs.Acts.{Prints};
 ghost use Rattle.fm_code.specs.Passing.{back_words};
 ghost use Rattle.fm_code.specs.Statements.{Own, action_by, gives_back, results_in, closes, moves, ran, ask_in, at_statement};
-ghost use Rattle.fm_machine.specs.declared.looking.Look.TheVariants as look;
-ghost use Rattle.fm_machine.specs.Told.{changed, ended, turned};
-ghost use Rattle.fm_machine.specs.Looks.{look_in, went, asked, Stays, opening};
+ghost use Rattle.fm_instructions.specs.Told.{changed, ended, turned};
+ghost use Rattle.fm_calling.specs.declared.looking.Look.TheVariants as look;
+ghost use Rattle.fm_calling.specs.Looks.{look_in};
+ghost use Rattle.fm_machine.specs.Finished.{went, asked, Stays, opening};
 
-use crate::giving::give_all;
-use crate::looking::{Look, fail, look_back, look_close, look_move, look_value, word_at};
 use crate::opening::{go_to, look_open, look_start, open, start};
-use crate::turn::{Change, Ending, Turn};
 use fm_base::{NoMemory, Printed, Seq, output_line};
+use fm_calling::{Look, fail, give_all, look_back, look_close, look_move, look_value, word_at};
 use fm_code::{Ask, Back, Body, Frame, Operand, Row, Scratch, Turns};
+use fm_instructions::{Change, Ending, Turn};
 use std::alloc::Global;
 use std::mem::replace;
 

@@ -1,0 +1,4 @@
+pub mod Merging
+pub mod Plain
+pub mod Lines
+pub mod Seating

@@ -1,0 +1,13 @@
+//! Calls and returns of stack code: what frames pass to each other and give back, where a process is put,
+//! and what the end of a unit lets go, told without doing it.
+#![tactic(auto)]
+
+mod giving;
+mod looking;
+mod passing;
+mod seats;
+
+pub use giving::give_all;
+pub use looking::{Look, fail, look_back, look_close, look_move, look_value, unit_at, word_at};
+pub use passing::{Entered, all_fit, enter};
+pub use seats::{Seat, seat_for};

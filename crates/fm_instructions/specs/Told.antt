@@ -1,0 +1,56 @@
+-- What is told of an instruction and of a statement.
+-- Source: this profile.
+use Rattle.std.specs.Prelude.{ℕ, ℤ, Option, Some, None, List, slice_set}
+use Rattle.fm_code.specs.Acts as acts
+use Rattle.fm_code.specs.Acts.{Act, On, Over}
+use Rattle.fm_code.specs.declared.body.Frame.{Frame}
+use Rattle.fm_code.specs.declared.body.Turns.{Turns}
+use Rattle.fm_code.specs.declared.scratch.Scratch.{Scratch}
+use Rattle.fm_instructions.specs.declared.work.Progress.{Progress}
+use Rattle.fm_instructions.specs.declared.work.Progress.TheVariants as progress
+use Rattle.fm_instructions.specs.declared.turn.Change.{Change}
+use Rattle.fm_instructions.specs.declared.turn.Ending.{Ending}
+use Rattle.fm_instructions.specs.declared.turn.Ending.TheVariants as ending
+use Rattle.fm_instructions.specs.declared.turn.Turn.{Turn}
+use Rattle.fm_instructions.specs.declared.turn.Turn.TheVariants as turn
+
+-- what an instruction did that left this stack and this behind
+abbrev pub progressed : Progress → List ℤ → Scratch → Act
+progressed progress.On s b = On s b
+progressed (progress.Fails fault) s b = Over (acts.Fails fault)
+progressed progress.Stuck s b = Over acts.Stuck
+
+abbrev pub with_word : List ℤ → Option (ℕ × ℤ) → List ℤ
+with_word ws None = ws
+with_word ws (Some w) = slice_set ws w.0 w.1
+
+abbrev pub with_turns : List (Option Turns) → Option (ℕ × Turns) → List (Option Turns)
+with_turns ls None = ls
+with_turns ls (Some t) = slice_set ls t.0 (Some t.1)
+
+abbrev pub changed : Change → Frame → Frame
+changed c m = record m { words = with_word m.words c.word; loops = with_turns m.loops c.turns }
+
+-- how a statement ended over this frame
+abbrev pub ended : Ending → Frame → acts.Turn
+ended (ending.Goes c) m = acts.Goes c.to (changed c m)
+ended ending.Returns m = acts.Returns
+ended (ending.ReturnsValue v) m = acts.ReturnsValue v
+ended (ending.Closes k to) m = acts.Closes k to
+ended (ending.Moves from into to) m = acts.Moves from into to
+ended (ending.Fails fault) m = acts.Fails fault
+ended (ending.Asks a) m = acts.Asks a
+ended ending.Stuck m = acts.Stuck
+
+-- how a statement ended that built this
+abbrev pub turned : Turn → Scratch → Frame → acts.Turn
+turned (turn.Prints to) b m = acts.Prints to b.line
+turned (turn.Calls unit to) b m = acts.Calls unit to b.operands
+turned (turn.Refers unit to) b m = acts.Refers unit to b.operands
+turned (turn.Starts unit to) b m = acts.Starts unit to b.operands b.place
+turned (turn.Over e) b m = ended e m
+
+-- what an instruction did that left this stack and this behind, and ended its statement or didn't
+abbrev pub next_act : Option Turn → List ℤ → Scratch → Frame → Act
+next_act None s b m = On s b
+next_act (Some t) s b m = Over (turned t b m)

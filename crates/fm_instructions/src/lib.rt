@@ -1,0 +1,17 @@
+//! Instructions of stack code: what each does, and how a statement of them ends.
+//!
+//! `statement` decides this over a frame that is only read; nothing but `Work` changes.
+#![tactic(auto)]
+
+mod asking;
+mod building;
+mod deciding;
+mod evaluating;
+mod looping;
+mod statements;
+mod turn;
+mod work;
+
+pub use statements::statement;
+pub use turn::{Change, Ending, Turn};
+pub use work::Work;

@@ -1,0 +1,81 @@
+//! Loops.
+
+ghost use Rattle.std.specs.Prelude.{◌≡◌};
+ghost use Rattle.fm_code.specs.Acts.{Over, counted, enters, turns, fewer};
+ghost use Rattle.fm_instructions.specs.Told.{ended};
+
+use crate::turn::{Change, Ending};
+use fm_code::{Frame, Loop, Turns};
+use fm_values::{add, trips_behind};
+
+/// Where the end of a statement leads, in a loop and behind it.
+#[derive(Clone, Copy, Debug, PartialEq, Eq)]
+pub(crate) struct Ways {
+    /// The address of the body.
+    pub(crate) body: u32,
+    /// The address behind the loop.
+    pub(crate) behind: u32,
+}
+
+/// The trips that are left are kept, and the variable gets a value.
+fn count(counts: Loop, ways: Ways, turns: Turns, value: i64, frame: &Frame) -> Ending
+    ensures { Over (ended result frame.now) ≡ counted counts ways.body ways.behind turns value frame.now }
+{
+    let number = counts.number as usize;
+    let word = counts.word as usize;
+    if number < frame.loops.len() && word < frame.words.len() {
+        let to = match turns.behind {
+            None => ways.behind,
+            Some(_) => ways.body,
+        };
+        Ending::Goes(Change {
+            to,
+            word: Some((word, value)),
+            turns: Some((number, turns)),
+        })
+    } else {
+        Ending::Stuck
+    }
+}
+
+/// Begins a loop.
+pub(crate) fn enter(counts: Loop, ways: Ways, from: i64, to: i64, by: i64, frame: &Frame) -> Ending
+    ensures { Over (ended result frame.now) ≡ enters counts ways.body ways.behind from to by frame.now }
+{
+    match trips_behind(from, to, by) {
+        Ok(behind) => count(counts, ways, Turns { behind, by }, from, frame),
+        Err(fault) => Ending::Fails(fault),
+    }
+}
+
+/// The trips that are left behind the next one, after a trip.
+fn fewer(behind: Option<u64>) -> Option<u64>
+    ensures { result ≡ fewer behind }
+{
+    match behind {
+        None => None,
+        Some(trips) => trips.checked_sub(1),
+    }
+}
+
+/// Ends a trip of a loop; one that wasn't begun is left.
+pub(crate) fn turn(counts: Loop, ways: Ways, at_work: Option<Turns>, frame: &Frame) -> Ending
+    ensures { Over (ended result frame.now) ≡ turns counts ways.body ways.behind at_work frame.now }
+{
+    let Some(turns) = at_work else {
+        return Ending::Goes(Change {
+            to: ways.behind,
+            word: None,
+            turns: None,
+        });
+    };
+    let Some(value) = frame.words.get(counts.word as usize) else {
+        return Ending::Stuck;
+    };
+    let behind = fewer(turns.behind);
+    let by = turns.by;
+    match add(value, by) {
+        Ok(value) => count(counts, ways, Turns { behind, by }, value, frame),
+        Err(fault) => Ending::Fails(fault),
+    }
+}
