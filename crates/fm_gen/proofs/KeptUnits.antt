@@ -19,7 +19,7 @@ use Rattle.fm_gen.proofs.UnitLaws.{statement_ended, stands_at}
 the_point : (a b : Point) → Some a ≡ Some b → a ≡ b
 the_point a b e = cc
 
-entry_there : (o : Option Entry) (l : Option EntryLinks) (e : Point) → point_with o l ≡ Some e → o ≡ Some e.entry
+pub entry_there : (o : Option Entry) (l : Option EntryLinks) (e : Point) → point_with o l ≡ Some e → o ≡ Some e.entry
 entry_there None l e is = absurd (cc)
 entry_there (Some x) None e is = absurd (cc)
 entry_there (Some x) (Some l) e is = ap (λ (q : Point). Some q.entry) (the_point (record { entry = x; links = l }) e is)

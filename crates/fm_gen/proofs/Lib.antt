@@ -11,3 +11,5 @@ pub mod StatementLaws
 pub mod NumberLaws
 pub mod UnitLaws
 pub mod KeptUnits
+pub mod LineLaws
+pub mod ProgramLaws

@@ -6,4 +6,5 @@ pub mod Statements
 pub mod Steps
 pub mod Forms
 pub mod Tables
+pub mod Units
 pub mod Programs

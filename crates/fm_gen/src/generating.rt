@@ -1,18 +1,19 @@
 //! What is generated, and what it keeps.
 
-ghost use Rattle.std.specs.Prelude.{◌≡◌, ◌+◌, ◌++◌, ℕ, Some, length, IfOk, OnOk};
+ghost use Rattle.std.specs.Prelude.{◌≡◌, ◌+◌, ◌++◌, ℕ, Some, slice_get, IfOk, OnOk};
 ghost use Rattle.fm_mean.specs.Evaluate.{refs_in};
 ghost use Rattle.fm_frame.specs.Units.{unit_of};
 ghost use Rattle.fm_gen.specs.Code.{expression_code, names_in};
 ghost use Rattle.fm_gen.specs.Keeps.{KeepsValue};
 ghost use Rattle.fm_mean.specs.Names.{ProgramUnit, unit_at};
-ghost use Rattle.fm_gen.specs.Programs.{coded, codes_of};
+ghost use Rattle.fm_gen.specs.Programs.{code_of};
 ghost use Rattle.fm_gen.specs.Steps.{KeepsUnit};
+ghost use Rattle.fm_gen.specs.Units.{AddressesRise, TellsLines, unit_of_code};
 
 use crate::expressions::{emit, operand};
-use crate::units::{UnitCode, unit_code};
+use crate::units::unit_of_code;
 use fm_base::{NoMemory, Seq};
-use fm_code::Instr;
+use fm_code::{Code, Instr, Unit};
 use fm_frame::UnitView;
 use fm_rules::Program;
 use fm_tree::Expr;
@@ -36,30 +37,34 @@ pub fn expression(
     emit(unit, tree, next, out)
 }
 
-/// The code of a unit, and the addresses of its entries. At each entry whose form has its code, which are those that concern
-/// their process alone and refer to no function, the statement at its address does what the meaning does there. Want of
-/// memory also where a number has no room in an instruction.
-pub fn unit(alloc: Global, unit: &UnitView<'_>) -> Result<UnitCode, NoMemory>
-    ensures code { IfOk result (λ c. c ≡ coded unit.now.program.now (unit_of unit.now)) }
+/// The code of a unit: its instructions, its entries with their lines and addresses, and what is in the words of its frame.
+/// At each entry whose form has its code, which are those that concern their process alone and refer to no function, the
+/// statement at its address does what the meaning does there. Want of memory also where a number has no room in an
+/// instruction.
+pub fn unit(alloc: Global, unit: &UnitView<'_>) -> Result<Unit, NoMemory>
+    ensures code { IfOk result (λ c. c ≡ unit_of_code unit.now.program.now (unit_of unit.now)) }
+    ensures lines { IfOk result (λ c. TellsLines unit.now.program.now (unit_of unit.now) c.entries) }
+    ensures addresses { AddressesRise unit.now.program.now (unit_of unit.now) }
     ensures keeps { IfOk result (λ c. KeepsUnit unit.now.program.now (unit_of unit.now) c.code) }
 {
     // It is a unit of its program, so its variables are laid out.
     let _number = unit.number();
-    let code = unit_code(alloc, unit)?;
+    let code = unit_of_code(alloc, unit)?;
     Ok(code)
 }
 
-/// The code of each unit of a program, as `unit` makes it.
-pub fn generate(alloc: Global, program: &Program) -> Result<Seq<UnitCode>, NoMemory>
-    ensures code { IfOk result (λ c. c ≡ codes_of program.now (length program.now.units.units)) }
-    ensures keeps { IfOk result (λ c. (k : ℕ) (u : ProgramUnit) → unit_at program.now k ≡ Some u → KeepsUnit program.now u (coded program.now u).code) }
+/// The code of a program: that of each unit, as `unit` makes it, by its number.
+pub fn generate(alloc: Global, program: &Program) -> Result<Code, NoMemory>
+    ensures code { IfOk result (λ c. c ≡ code_of program.now) }
+    ensures units { IfOk result (λ c. (k : ℕ) (u : ProgramUnit) → unit_at program.now k ≡ Some u → slice_get c.units k ≡ Some (unit_of_code program.now u)) }
+    ensures keeps { IfOk result (λ c. (k : ℕ) (u : ProgramUnit) → unit_at program.now k ≡ Some u → KeepsUnit program.now u (unit_of_code program.now u).code) }
 {
-    let mut codes = Seq::new(alloc);
+    let mut units = Seq::new(alloc);
     let count = operand(program.units().units.len())?;
     'units: for number in 0..count {
         if let Some(view) = UnitView::new(program, number) {
-            codes.push(unit(alloc, &view)?)?;
+            units.push(unit(alloc, &view)?)?;
         }
     }
-    Ok(codes)
+    Ok(Code { units })
 }

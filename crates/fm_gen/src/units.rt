@@ -5,23 +5,30 @@ ghost use Rattle.fm_mean.specs.Names.{point_at};
 ghost use Rattle.fm_frame.specs.Units.{unit_of};
 ghost use Rattle.fm_gen.specs.Statements.{address_of, entries_code, entry_code, loop_numbers, opens_counted, starts_of, unit_code};
 ghost use Rattle.fm_gen.specs.Tables.{address_by, address_in};
+ghost use Rattle.fm_gen.specs.Units.{entries_at, loop_count, unit_of_code};
 
 use crate::addresses::Addresses;
+use crate::describing::{entries_at, formals_of, ports_of};
 use crate::expressions::operand;
 use crate::statements::{Site, statement};
 use fm_base::{NoMemory, Seq};
-use fm_code::Instr;
+use fm_code::{Instr, Unit};
 use fm_frame::UnitView;
 use fm_tree::{Entry, Stmt};
 use std::alloc::Global;
 
-/// The code of a unit, and where each of its entries begins.
+/// The instructions of a unit, and where each of its entries begins.
 #[derive(Drop)]
-pub struct UnitCode {
-    /// Its instructions.
-    pub code: Seq<Instr>,
-    /// The address of each entry.
-    pub starts: Seq<u32>,
+struct Listing {
+    code: Seq<Instr>,
+    starts: Seq<u32>,
+}
+
+/// The instructions of a unit, and its entries.
+#[derive(Drop)]
+struct Placed {
+    code: Seq<Instr>,
+    entries: Seq<fm_code::Entry>,
 }
 
 fn opens_counted(entry: &Entry) -> bool
@@ -47,6 +54,19 @@ fn loop_numbers(alloc: Global, unit: &UnitView<'_>) -> Result<Seq<u32>, NoMemory
         }
     }
     Ok(numbers)
+}
+
+/// How many counted loops there are.
+fn loop_count(body: &[Entry]) -> Result<u32, NoMemory>
+    ensures { IfOk result (λ n. n ≡ loop_count body.now) }
+{
+    let mut count = 0u32;
+    'entries: for entry in body {
+        if opens_counted(entry) {
+            count = count.checked_add(1).ok_or(NoMemory)?;
+        }
+    }
+    Ok(count)
 }
 
 /// Adds the code of the entry with this number.
@@ -76,12 +96,12 @@ fn entry(
     }
 }
 
-fn entries(
+fn pass(
     alloc: Global,
     unit: &UnitView<'_>,
     addresses: Addresses<'_>,
     numbers: &[u32],
-) -> Result<UnitCode, NoMemory>
+) -> Result<Listing, NoMemory>
     requires { numbers.now ≡ loop_numbers 0 (unit_of unit.now).tree.body }
     ensures code { IfOk result (λ c. c.code ≡ entries_code unit.now.program.now (unit_of unit.now) (address_by addresses.entry) (length (unit_of unit.now).tree.body)) }
     ensures starts { IfOk result (λ c. c.starts ≡ starts_of unit.now.program.now (unit_of unit.now) (address_by addresses.entry) (length (unit_of unit.now).tree.body)) }
@@ -93,7 +113,7 @@ fn entries(
         starts.push(operand(code.len())?)?;
         entry(unit, addresses, numbers, number, &mut code)?;
     }
-    Ok(UnitCode { code, starts })
+    Ok(Listing { code, starts })
 }
 
 /// No entry begins anywhere yet.
@@ -106,7 +126,7 @@ fn nowhere() -> Addresses<'static>
     }
 }
 
-fn addresses(first: &UnitCode) -> Result<Addresses<'_>, NoMemory>
+fn addresses(first: &Listing) -> Result<Addresses<'_>, NoMemory>
     ensures { IfOk result (λ a. address_by a ≡ address_in first.now.starts (length first.now.code)) }
 {
     Ok(Addresses {
@@ -115,16 +135,42 @@ fn addresses(first: &UnitCode) -> Result<Addresses<'_>, NoMemory>
     })
 }
 
-/// The code of a unit, and where each of its entries begins. How long the code of an entry is doesn't depend on where
-/// others begin, so a first pass finds that.
-pub(crate) fn unit_code(alloc: Global, unit: &UnitView<'_>) -> Result<UnitCode, NoMemory>
+/// The instructions of a unit and its entries. How long the code of an entry is doesn't depend on where others begin, so a
+/// first pass finds where each one does.
+fn instructions(alloc: Global, unit: &UnitView<'_>) -> Result<Placed, NoMemory>
     ensures code { IfOk result (λ c. c.code ≡ unit_code unit.now.program.now (unit_of unit.now)) }
-    ensures starts { IfOk result (λ c. c.starts ≡ starts_of unit.now.program.now (unit_of unit.now) (address_of unit.now.program.now (unit_of unit.now)) (length (unit_of unit.now).tree.body)) }
+    ensures entries { IfOk result (λ c. c.entries ≡ entries_at (address_of unit.now.program.now (unit_of unit.now)) 0 (unit_of unit.now).tree.body) }
 {
     let numbers = loop_numbers(alloc, unit)?;
     let unplaced = nowhere();
-    let first = entries(alloc, unit, unplaced, numbers.as_slice())?;
+    let first = pass(alloc, unit, unplaced, numbers.as_slice())?;
     let placed = addresses(&first)?;
-    let code = entries(alloc, unit, placed, numbers.as_slice())?;
-    Ok(code)
+    let entries = entries_at(alloc, unit.tree().body.as_slice(), placed)?;
+    let second = pass(alloc, unit, placed, numbers.as_slice())?;
+    Ok(Placed {
+        code: second.code,
+        entries,
+    })
+}
+
+/// The code of a unit.
+pub(crate) fn unit_of_code(alloc: Global, unit: &UnitView<'_>) -> Result<Unit, NoMemory>
+    ensures { IfOk result (λ c. c ≡ unit_of_code unit.now.program.now (unit_of unit.now)) }
+{
+    let names = unit.names();
+    let variables = names.variables.as_slice();
+    let ports = ports_of(alloc, variables)?;
+    let formals = formals_of(alloc, variables)?;
+    let loops = loop_count(unit.tree().body.as_slice())?;
+    let extents = Seq::from_slice(alloc, names.extents.as_slice())?;
+    let placed = instructions(alloc, unit)?;
+    Ok(Unit {
+        code: placed.code,
+        entries: placed.entries,
+        words: names.words,
+        ports,
+        formals,
+        loops,
+        extents,
+    })
 }
