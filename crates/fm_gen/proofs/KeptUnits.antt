@@ -39,7 +39,7 @@ keeps_unit p number u here k e at has slots m frame w f below is stands =
     ∙ ap (λ o. work (entry_code p u (address_of p u) k o ++ found.0) [] nothing m) at
     ∙ whole_alone (statement_code p u (address_of p u) k e e.entry.stmt) (statement_ended p u (address_of p u) e k e.entry.stmt) found.0 [] nothing m
     ∙ ap (λ j. work (statement_code p u (address_of p u) j e e.entry.stmt) [] nothing m) (sym is) in
-    let site : Site = record { unit = u; slots = slots; address = address_of p u; runs = w; point = e; frame = f; below = below } in
+    let site : Site = record { unit = u; slots = slots; address = address_of p u; runs = w; point = e; frame = f; below = below; code = m } in
     let done = statement_follows p number u here slots m frame w e f below (address_of p u) stands has.statement (ap (slice_get u.tree.body) is ∙ there) in
     subst (λ t. Agree site t (action_by p w u e f below (next_reference e.entry (length f.results)))) (sym code)
     (subst (λ o. Agree site (work (statement_code p u (address_of p u) f.entry e e.entry.stmt) [] nothing m) (action_by p w u e f below o)) (sym (no_reference e.entry (length f.results) has.references)) done)

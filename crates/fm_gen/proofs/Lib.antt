@@ -13,3 +13,4 @@ pub mod UnitLaws
 pub mod KeptUnits
 pub mod LineLaws
 pub mod ProgramLaws
+pub mod BodyLaws

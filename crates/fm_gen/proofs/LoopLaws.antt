@@ -8,6 +8,7 @@ use Rattle.std.specs.FinMap.{nat_cmp-IsAntisymmetric}
 use Rattle.std.proofs.lemmas.Cmp.{nat_cmp_total}
 use Rattle.std.proofs.lemmas.Bool.{cases_lt}
 use Rattle.std.proofs.lemmas.Bool.Decides.{nat_tests}
+use Rattle.std.proofs.lemmas.List.{length-set}
 use Rattle.std.proofs.lemmas.Option.{slice_get_within}
 use Rattle.fm_maps.specs.Keys.{IsKeyOrder}
 use Rattle.fm_maps.proofs.Inserts.{insert_here, insert_there}
@@ -48,7 +49,7 @@ use Rattle.fm_gen.specs.Steps.{left_of, turns_read, IsLoop, LoopsStand, Stands, 
 use Rattle.fm_gen.proofs.FrameWords.{item_read, item_fits, element_read}
 use Rattle.fm_gen.proofs.Writes.{writes}
 use Rattle.fm_gen.proofs.Follows.{then_chain, refs_same, keeps}
-use Rattle.fm_gen.proofs.StoreLaws.{agree_then, there}
+use Rattle.fm_gen.proofs.StoreLaws.{same_frame, same_code, agree_then, there}
 
 -- Numbers of loops.
 
@@ -179,7 +180,7 @@ module _ (p : Program) (number : ℕ) (u : ProgramUnit) (here : unit_at p number
 
   module _ (w : Execution) (e : Point) (f : mean.Frame) (below : List mean.Frame) (address : Addresses) (stands : Stands u slots f m) where
     abbrev site : Site
-    site = record { unit = u; slots = slots; address = address; runs = w; point = e; frame = f; below = below }
+    site = record { unit = u; slots = slots; address = address; runs = w; point = e; frame = f; below = below; code = m }
 
     abbrev body : List Entry
     body = u.tree.body
@@ -217,6 +218,8 @@ module _ (p : Program) (number : ℕ) (u : ProgramUnit) (here : unit_at p number
             results = stands.results;
             loops = subst (λ c. LoopsStand body (finite.insert f.loops k (c, by)) (slice_set m.loops (loop_number body k) (Some t))) (ap left_of is ∙ left_first n) (turns_set body f.loops m.loops k stands.loops l t);
           };
+          leaves = record { unit = refl; starts = refl; backs = refl };
+          leaves_code = record { unit = refl; count = length-set m.words v.first x; starts = refl; backs = refl };
         })
 
     -- a loop begins
@@ -292,7 +295,7 @@ module _ (p : Program) (number : ℕ) (u : ProgramUnit) (here : unit_at p number
         turned : (t : Option Turns)
             → Agree site (then_work (acts.turns (record { number = loop_number body opener; word = v.first }) (address inside) (address e.entry.after) t m) (λ s b. work [] s b m))
             (loop_turns w e f below opener inside (whole i v) (turns_read t))
-        turned None = record { frame = f; entry = e.entry.after; does = refl; leads = refl; stands = stands }
+        turned None = record { frame = f; entry = e.entry.after; does = refl; leads = refl; stands = stands; leaves = same_frame f; leaves_code = same_code m }
         turned (Some t) =
             subst (λ o. Agree site (then_work (found o (λ x. gives (sum x t.by) (λ n. counted (record { number = loop_number body opener; word = v.first }) (address inside) (address e.entry.after) (record { behind = fewer t.behind; by = t.by }) n m))) (λ s b. work [] s b m))
             (loop_turns w e f below opener inside (whole i v) (turns_read (Some t)))) (sym (first_there i v at q some)) (added t (sum (word_at f.values (whole i v)) t.by))

@@ -29,7 +29,7 @@ use Rattle.fm_gen.specs.Statements.{Addresses, goto, counts_trips, assigned_code
 use Rattle.fm_gen.specs.Forms.{IsPlain, StepIsPlain, ItemsArePlain, HasWord, BoundsArePlain, LoopHasWord, OpenerHasWord, MateHasWord, IsUncalled, SimpleHasCode, StatementHasCode}
 use Rattle.fm_gen.specs.Steps.{IsLoop, Stands, Site, Agree}
 use Rattle.fm_gen.proofs.Follows.{IsAt, named_at, all_refs_same, keeps}
-use Rattle.fm_gen.proofs.StoreLaws.{agree_then, assigned_follows, test_follows}
+use Rattle.fm_gen.proofs.StoreLaws.{same_frame, same_code, agree_then, assigned_follows, test_follows}
 use Rattle.fm_gen.proofs.PrintLaws.{ItemsDone, items_follow}
 use Rattle.fm_gen.proofs.LoopLaws.{StepDone, BoundsDone, loop_follows, turn_follows}
 
@@ -63,7 +63,7 @@ module _ (p : Program) (u : ProgramUnit) (slots : Slots) (m : Frame) where
 module _ (p : Program) (number : ℕ) (u : ProgramUnit) (here : unit_at p number ≡ Some u) (slots : Slots) (m : Frame) (frame : IsFrame u slots m)
     (w : Execution) (e : Point) (f : mean.Frame) (below : List mean.Frame) (address : Addresses) (stands : Stands u slots f m) where
   abbrev site : Site
-  site = record { unit = u; slots = slots; address = address; runs = w; point = e; frame = f; below = below }
+  site = record { unit = u; slots = slots; address = address; runs = w; point = e; frame = f; below = below; code = m }
 
   abbrev now : Scope
   now = scope_in p u slots m
@@ -81,7 +81,7 @@ module _ (p : Program) (number : ℕ) (u : ProgramUnit) (here : unit_at p number
   bounds_done h k = (plain_done p u slots m h.from 0 k.0, plain_done p u slots m h.to (refs_in now h.from) k.1, step_done h.step (refs_in now h.from + refs_in now h.to) k.2)
 
   goes_on : (n : ℕ) → Agree site (work (goto (address n) ∷ []) [] nothing m) (goes_to w below f n)
-  goes_on n = record { frame = f; entry = n; does = refl; leads = refl; stands = stands }
+  goes_on n = record { frame = f; entry = n; does = refl; leads = refl; stands = stands; leaves = same_frame f; leaves_code = same_code m }
 
   jump_follows : (o : Option ℕ) → Agree site (work (jump_code address o) [] nothing m) (jumps w below f o)
   jump_follows None = refl

@@ -2,6 +2,7 @@
 use Rattle.std.proofs.Common.{◌≡◌, ℕ, ◌+◌, ◌<◌, ◌≤◌, ℤ, pos, Bool, true, false, cond, ◌&&◌, Option, Some, None, List, [], ◌∷◌, ◌++◌, length, take, drop, reverse, refl, sym, ap, subst, ◌∙◌, arith, Result, Ok, Err}
 use Rattle.std.specs.Prelude.{slice_get, slice_set, nat_lt}
 use Rattle.std.proofs.lemmas.Bool.Decides.{nat_tests}
+use Rattle.std.proofs.lemmas.List.{length-set}
 use Rattle.fm_base.specs.declared.fault.Fault.{Fault}
 use Rattle.fm_base.specs.Channels.{Item}
 use Rattle.fm_values.specs.declared.value.Value.{Value}
@@ -35,11 +36,18 @@ use Rattle.fm_gen.specs.Standing.{Slots, item_by, values_in, scope_in, IsFrame, 
 use Rattle.fm_gen.specs.Code.{place_code, trees_count}
 use Rattle.fm_gen.specs.Statements.{Addresses, goto, is_word, first_store, locate_code, element_store, assigned_code, test_code}
 use Rattle.fm_gen.specs.Keeps.{then}
-use Rattle.fm_gen.specs.Steps.{Stands, Site, Agree}
+use Rattle.fm_gen.specs.Steps.{Stands, LeavesFrame, LeavesCode, Site, Agree}
 use Rattle.fm_gen.proofs.FrameWords.{item_fits, element_there, number_in_range, truth_kept}
 use Rattle.fm_gen.proofs.Dimensions.{within_place, place_follows}
 use Rattle.fm_gen.proofs.Writes.{writes, unwritten, written_without, written_nowhere}
 use Rattle.fm_gen.proofs.Follows.{IsAt, numbers_count, keeps, keeps_all}
+
+-- a frame that stays
+pub same_frame : (f : mean.Frame) → LeavesFrame f f
+same_frame f = record { unit = refl; starts = refl; backs = refl }
+
+pub same_code : (m : Frame) → LeavesCode m m
+same_code m = record { unit = refl; count = refl; starts = refl; backs = refl }
 
 -- both fail, or both do what the value is for
 pub agree_then : {A : Type 0} (s : Site) (r : Result A Fault) (u : A → Turn) (a : Result A Fault → Action) → ((fault : Fault) → a (Err fault) ≡ fails (line_of s.point) fault)
@@ -52,6 +60,7 @@ record Stored (slots : Slots) (vs : List Variable) (m : Frame) (next : ℕ) (val
   words : List ℤ
   ends : t ≡ Goes next (record m { words = words })
   reads : values_in slots vs words ≡ values
+  count : length words ≡ length m.words
 
 module _ (p : Program) (number : ℕ) (u : ProgramUnit) (here : unit_at p number ≡ Some u) (slots : Slots) (m : Frame) (frame : IsFrame u slots m) where
   abbrev vars : List Variable
@@ -82,11 +91,12 @@ module _ (p : Program) (number : ℕ) (u : ProgramUnit) (here : unit_at p number
         words = slice_set m.words j w;
         ends = ap (λ c. then_work (cond c (Over (Goes next (record m { words = slice_set m.words j w }))) (Over acts.Stuck)) go) inside;
         reads = ap (λ n. values_in slots vars (slice_set m.words n w)) (sym same) ∙ writes slots 0 vars m.words i k w v (variables_laid_out p number u here) e q less;
+        count = length-set m.words j w;
       }
 
   first_stored : (i : ℕ) (o : Option Variable) → slice_get vars i ≡ o → (next : ℕ) (w : ℤ) (s : List ℤ) (b : Scratch)
       → Stored slots vars m next (written_from now i 0 (w ∷ [])) (work (first_store o next ∷ []) (w ∷ s) b m)
-  first_stored i None e next w s b = record { words = m.words; ends = refl; reads = sym (written_nowhere slots vars m.words i 0 (w ∷ []) e) }
+  first_stored i None e next w s b = record { words = m.words; ends = refl; reads = sym (written_nowhere slots vars m.words i 0 (w ∷ []) e); count = refl }
   first_stored i (Some v) e next w s b = go (is_word v.kind) (nat_lt 0 v.words) refl refl
     where
       go : (c d : Bool) → is_word v.kind ≡ c → nat_lt 0 v.words ≡ d
@@ -96,8 +106,8 @@ module _ (p : Program) (number : ℕ) (u : ProgramUnit) (here : unit_at p number
           put i 0 next w v e q some v.first (omega arith) (λ s b. work [] s b m)
       go true false q f =
           let none : v.words ≡ 0 = grind (arith, nat_tests) in
-          record { words = m.words; ends = refl; reads = sym (written_without slots vars m.words i w v e none) }
-      go false d q f = record { words = m.words; ends = refl; reads = sym (unwritten slots vars m.words i 0 w v e q) }
+          record { words = m.words; ends = refl; reads = sym (written_without slots vars m.words i w v e none); count = refl }
+      go false d q f = record { words = m.words; ends = refl; reads = sym (unwritten slots vars m.words i 0 w v e q); count = refl }
 
   stored_at : (v : Variable) (i k : ℕ) → slice_get vars i ≡ Some v → is_word v.kind ≡ true → k < v.words → (next : ℕ) (w : ℤ) (s : List ℤ) (b : Scratch)
       → Stored slots vars m next (written_from now i k (w ∷ [])) (work (instr.End (end.StoreAt next) ∷ []) (w ∷ pos (v.first + k) ∷ s) b m)
@@ -109,6 +119,7 @@ module _ (p : Program) (number : ℕ) (u : ProgramUnit) (here : unit_at p number
         words = done.words;
         ends = ap (λ c. then_work (found (cond c (Some (v.first + k)) None) (λ k. acts.stored next k w m)) (λ s b. work [] s b m)) inside ∙ done.ends;
         reads = done.reads;
+        count = done.count;
       }
 
   -- the number of an element's word, or its place where it is no word
@@ -132,12 +143,12 @@ module _ (p : Program) (number : ℕ) (u : ProgramUnit) (here : unit_at p number
       → Stored slots vars m next (written_from now i k (w ∷ [])) (work (element_store q next ∷ []) (w ∷ place_word q v.first k ∷ s) b m)
   element_put kind.Integer v is i k e less next w s b = stored_at v i k e (ap is_word is) less next w s b
   element_put kind.Logical v is i k e less next w s b = stored_at v i k e (ap is_word is) less next w s b
-  element_put (kind.In t) v is i k e less next w s b = record { words = m.words; ends = refl; reads = sym (unwritten slots vars m.words i k w v e (ap is_word is)) }
-  element_put (kind.Out t) v is i k e less next w s b = record { words = m.words; ends = refl; reads = sym (unwritten slots vars m.words i k w v e (ap is_word is)) }
+  element_put (kind.In t) v is i k e less next w s b = record { words = m.words; ends = refl; reads = sym (unwritten slots vars m.words i k w v e (ap is_word is)); count = refl }
+  element_put (kind.Out t) v is i k e less next w s b = record { words = m.words; ends = refl; reads = sym (unwritten slots vars m.words i k w v e (ap is_word is)); count = refl }
 
   module _ (w : Execution) (e : Point) (f : mean.Frame) (below : List mean.Frame) (address : Addresses) (stands : Stands u slots f m) where
     abbrev site : Site
-    site = record { unit = u; slots = slots; address = address; runs = w; point = e; frame = f; below = below }
+    site = record { unit = u; slots = slots; address = address; runs = w; point = e; frame = f; below = below; code = m }
 
     -- a store, and what the meaning has then
     assigned : (i k : ℕ) (x : Value) (place : Span) → (place.variable ≡ i) → (place.first ≡ k) → (t : Turn) → Stored slots vars m (address e.entry.after) (written_from now i k (word_of x ∷ [])) t
@@ -153,6 +164,8 @@ module _ (p : Program) (number : ℕ) (u : ProgramUnit) (here : unit_at p number
             results = stands.results;
             loops = stands.loops;
           };
+          leaves = record { unit = refl; starts = refl; backs = refl };
+          leaves_code = record { unit = refl; count = h.count; starts = refl; backs = refl };
         })
 
     module _ (value : List Instr) (r : Result Value Fault) (follows : (is : List Instr) (s : List ℤ) (b : Scratch) → work (value ++ is) s b m ≡ then r (λ x. work is (word_of x ∷ s) b m)) where
@@ -210,6 +223,8 @@ module _ (p : Program) (number : ℕ) (u : ProgramUnit) (here : unit_at p number
           does = refl;
           leads = ap (λ c. cond c (address e.entry.after) (address e.links.other)) (truth_kept x) ∙ which (is_true x);
           stands = stands;
+          leaves = same_frame f;
+          leaves_code = same_code m;
         }))
       where
         which : (c : Bool) → cond c (address e.entry.after) (address e.links.other) ≡ address (cond c e.entry.after e.links.other)

@@ -8,3 +8,4 @@ pub mod Forms
 pub mod Tables
 pub mod Units
 pub mod Programs
+pub mod Bodies

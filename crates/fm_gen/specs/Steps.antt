@@ -1,6 +1,6 @@
 -- How a statement of code and an action of the meaning agree.
 -- Source: this profile.
-use Rattle.std.specs.Prelude.{◌≡◌, ℕ, suc, ℤ, true, Option, Some, None, List, slice_get, Ok}
+use Rattle.std.specs.Prelude.{◌≡◌, ℕ, suc, ℤ, true, Option, Some, None, List, length, slice_get, Ok}
 use Rattle.std.specs.Option.{option_map}
 use Rattle.std.specs.FinMap as finite
 use Rattle.fm_base.specs.declared.output.Printed.{Printed}
@@ -47,7 +47,20 @@ pub record Stands (u : ProgramUnit) (slots : Slots) (f : mean.Frame) (m : Frame)
   pub results : f.results ≡ m.results
   pub loops : LoopsStand u.tree.body f.loops m.loops
 
--- Where a statement is done: its unit and entry, and what runs, with its innermost frame and those below.
+-- what a statement of its process alone leaves as it is in a frame of the meaning, and in one of code
+pub record LeavesFrame (f g : mean.Frame) : Type 0 where
+  pub unit : g.unit ≡ f.unit
+  pub starts : g.starts ≡ f.starts
+  pub backs : g.backs ≡ f.backs
+
+pub record LeavesCode (m n : Frame) : Type 0 where
+  pub unit : n.unit ≡ m.unit
+  pub count : length n.words ≡ length m.words
+  pub starts : n.starts ≡ m.starts
+  pub backs : n.backs ≡ m.backs
+
+-- Where a statement is done: its unit and entry, what runs, with its innermost frame and those below, and the frame of code
+-- that stands for the innermost one.
 pub record Site : Type 0 where
   pub unit : ProgramUnit
   pub slots : Slots
@@ -56,6 +69,7 @@ pub record Site : Type 0 where
   pub point : Point
   pub frame : mean.Frame
   pub below : List mean.Frame
+  pub code : Frame
 
 -- both go on, at one entry and in frames of which one stands for the other
 pub record GoesOn (s : Site) (to : ℕ) (m : Frame) (a : Action) : Type 0 where
@@ -64,6 +78,8 @@ pub record GoesOn (s : Site) (to : ℕ) (m : Frame) (a : Action) : Type 0 where
   pub does : a ≡ goes_to s.runs s.below frame entry
   pub leads : to ≡ s.address entry
   pub stands : Stands s.unit s.slots frame m
+  pub leaves : LeavesFrame s.frame frame
+  pub leaves_code : LeavesCode s.code m
 
 -- both print a line, and then go on
 pub record PrintsLine (s : Site) (to : ℕ) (line : List Printed) (a : Action) : Type 0 where
@@ -102,4 +118,4 @@ Agree s Stuck a = a ≡ Rest
 abbrev pub KeepsUnit : Program → ProgramUnit → List Instr → Type 0
 KeepsUnit p u code = (k : ℕ) (e : Point) → point_at u k ≡ Some e → HasCode p u e.entry
     → (slots : Slots) (m : Frame) → IsFrame u slots m → (w : Execution) (f : mean.Frame) (below : List mean.Frame) → f.entry ≡ k → Stands u slots f m
-    → Agree (record { unit = u; slots = slots; address = address_of p u; runs = w; point = e; frame = f; below = below }) (statement code (address_of p u k) m) (point_action p w u f below (Some e))
+    → Agree (record { unit = u; slots = slots; address = address_of p u; runs = w; point = e; frame = f; below = below; code = m }) (statement code (address_of p u k) m) (point_action p w u f below (Some e))

@@ -6,6 +6,7 @@ ghost use Rattle.fm_frame.specs.Units.{unit_of};
 ghost use Rattle.fm_gen.specs.Code.{expression_code, names_in};
 ghost use Rattle.fm_gen.specs.Keeps.{KeepsValue};
 ghost use Rattle.fm_mean.specs.Names.{ProgramUnit, unit_at};
+ghost use Rattle.fm_gen.specs.Bodies.{KeepsProgram};
 ghost use Rattle.fm_gen.specs.Programs.{code_of};
 ghost use Rattle.fm_gen.specs.Steps.{KeepsUnit};
 ghost use Rattle.fm_gen.specs.Units.{AddressesRise, TellsLines, unit_of_code};
@@ -53,11 +54,13 @@ pub fn unit(alloc: Global, unit: &UnitView<'_>) -> Result<Unit, NoMemory>
     Ok(code)
 }
 
-/// The code of a program: that of each unit, as `unit` makes it, by its number.
+/// The code of a program: that of each unit, as `unit` makes it, by its number. A body of this code that stands for a running
+/// process does what the process does next, wherever the entry's form has its code.
 pub fn generate(alloc: Global, program: &Program) -> Result<Code, NoMemory>
     ensures code { IfOk result (λ c. c ≡ code_of program.now) }
     ensures units { IfOk result (λ c. (k : ℕ) (u : ProgramUnit) → unit_at program.now k ≡ Some u → slice_get c.units k ≡ Some (unit_of_code program.now u)) }
-    ensures keeps { IfOk result (λ c. (k : ℕ) (u : ProgramUnit) → unit_at program.now k ≡ Some u → KeepsUnit program.now u (unit_of_code program.now u).code) }
+    ensures keeps_units { IfOk result (λ c. (k : ℕ) (u : ProgramUnit) → unit_at program.now k ≡ Some u → KeepsUnit program.now u (unit_of_code program.now u).code) }
+    ensures keeps { IfOk result (λ c. KeepsProgram program.now c) }
 {
     let mut units = Seq::new(alloc);
     let count = operand(program.units().units.len())?;
