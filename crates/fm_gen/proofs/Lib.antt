@@ -6,6 +6,8 @@ pub mod Writes
 pub mod StoreLaws
 pub mod PrintLaws
 pub mod LoopLaws
+pub mod SomeWords
+pub mod LoopWords
 pub mod Ends
 pub mod StatementLaws
 pub mod NumberLaws

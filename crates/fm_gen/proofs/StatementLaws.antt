@@ -23,12 +23,15 @@ use Rattle.fm_code.specs.declared.body.Frame.{Frame}
 use Rattle.fm_code.specs.declared.instr.Instr.TheVariants as instr
 use Rattle.fm_code.specs.declared.instr.End.TheVariants as end
 use Rattle.fm_code.specs.Acts.{work, nothing}
+use Rattle.fm_tree.specs.PortFields.{Integer}
+use Rattle.fm_mean.specs.Typing.{sort_of, LoopFits}
 use Rattle.fm_gen.specs.Standing.{Slots, scope_in, IsFrame, IsDone, AreDone, AreAllDone}
 use Rattle.fm_gen.specs.Code.{names_in, expression_code}
 use Rattle.fm_gen.specs.Statements.{Addresses, goto, counts_trips, assigned_code, print_code, jump_code, return_code, again_code, end_code, loop_end_code, simple_code, statement_code}
-use Rattle.fm_gen.specs.Forms.{IsPlain, StepIsPlain, ItemsArePlain, HasWord, BoundsArePlain, LoopHasWord, OpenerHasWord, MateHasWord, IsUncalled, SimpleHasCode, StatementHasCode}
+use Rattle.fm_gen.specs.Forms.{IsPlain, StepIsPlain, ItemsArePlain, BoundsArePlain, IsUncalled, SimpleHasCode, StatementHasCode}
 use Rattle.fm_gen.specs.Steps.{IsLoop, Stands, Site, Agree}
-use Rattle.fm_gen.proofs.Follows.{IsAt, named_at, all_refs_same, keeps}
+use Rattle.fm_gen.proofs.Follows.{named_at, all_refs_same, keeps}
+use Rattle.fm_gen.proofs.LoopWords.{has_word, loop_fits}
 use Rattle.fm_gen.proofs.StoreLaws.{same_frame, same_code, agree_then, assigned_follows, test_follows}
 use Rattle.fm_gen.proofs.PrintLaws.{ItemsDone, items_follow}
 use Rattle.fm_gen.proofs.LoopLaws.{StepDone, BoundsDone, loop_follows, turn_follows}
@@ -125,31 +128,33 @@ module _ (p : Program) (number : ℕ) (u : ProgramUnit) (here : unit_at p number
   simple_follows (simple.MovePort from to) h = absurd h
   simple_follows (simple.Probe named q empty) h = absurd h
 
-  variable_there : (name : List ℕ) (h : HasWord u name) → slice_get u.names.variables h.place ≡ Some h.variable
-  variable_there name h = subst (IsAt u.names.variables) h.named (named_at p u name)
-
-  again_follows : (opener : ℕ) (o : Entry) (q : Loop) → slice_get u.tree.body opener ≡ Some o → loop_of o.stmt ≡ q → LoopHasWord u q
+  again_follows : (opener : ℕ) (o : Entry) (q : Loop) → slice_get u.tree.body opener ≡ Some o → loop_of o.stmt ≡ q → LoopFits u q
       → Agree site (work (again_code u opener q (address o.after) (address e.entry.after) (address opener)) [] nothing m) (ends_loop w u e f below opener o.after q)
   again_follows opener o (Counted name) at is h =
-      turn_follows p number u here slots m frame w e f below address stands opener o.after (record { entry = o; at = at; counted = ap counts_trips is }) name h.place h.variable (variable_there name h) h.word h.some h.named
+      let x = has_word p number u here name h in
+      turn_follows p number u here slots m frame w e f below address stands opener o.after (record { entry = o; at = at; counted = ap counts_trips is }) name x.place x.variable x.there x.word x.some x.named
   again_follows opener o While at is h = goes_on opener
   again_follows opener o NoLoop at is h = refl
 
-  opened_follows : (opener : ℕ) (x : Option Entry) → slice_get u.tree.body opener ≡ x → OpenerHasWord u x
+  opened_follows : (opener : ℕ) (x : Option Entry) → slice_get u.tree.body opener ≡ x
       → Agree site (work (end_code u address (address e.entry.after) opener x) [] nothing m) (end_by w u e f below opener x)
-  opened_follows opener None at h = refl
-  opened_follows opener (Some o) at h = again_follows opener o (loop_of o.stmt) at refl h
+  opened_follows opener None at = refl
+  opened_follows opener (Some o) at = again_follows opener o (loop_of o.stmt) at refl (loop_fits p number u here opener o at)
 
-  end_follows : (o : Option ℕ) → MateHasWord u o → Agree site (work (loop_end_code u address (address e.entry.after) o) [] nothing m) (end_of w u e f below o)
-  end_follows None h = refl
-  end_follows (Some opener) h = opened_follows opener (slice_get u.tree.body opener) refl h
+  end_follows : (o : Option ℕ) → Agree site (work (loop_end_code u address (address e.entry.after) o) [] nothing m) (end_of w u e f below o)
+  end_follows None = refl
+  end_follows (Some opener) = opened_follows opener (slice_get u.tree.body opener) refl
 
-  begin_follows : (h : LoopHead) → BoundsArePlain p u h → IsLoop u.tree.body f.entry
+  begin_follows : (h : LoopHead) → BoundsArePlain p u h → IsLoop u.tree.body f.entry → sort_of u h.variable ≡ Some Integer
       → Agree site (work (statement_code p u address f.entry e (stmt.Do h)) [] nothing m) (statement_action p w u e f below now (stmt.Do h))
-  begin_follows h k l =
-      loop_follows p number u here slots m frame w e f below address stands h (bounds_done h k) l k.3.place k.3.variable (variable_there h.variable k.3) k.3.word k.3.some k.3.named
+  begin_follows h k l sort =
+      let x = has_word p number u here h.variable sort in
+      loop_follows p number u here slots m frame w e f below address stands h (bounds_done h k) l x.place x.variable x.there x.word x.some x.named
 
-  statement_at : (s : Stmt) → StatementHasCode p u e.entry s → slice_get u.tree.body f.entry ≡ Some e.entry → e.entry.stmt ≡ s
+  counted_fits : (s : Stmt) → slice_get u.tree.body f.entry ≡ Some e.entry → e.entry.stmt ≡ s → LoopFits u (loop_of s)
+  counted_fits s at is = subst (λ t. LoopFits u (loop_of t)) is (loop_fits p number u here f.entry e.entry at)
+
+  statement_at : (s : Stmt) → StatementHasCode p u s → slice_get u.tree.body f.entry ≡ Some e.entry → e.entry.stmt ≡ s
       → Agree site (work (statement_code p u address f.entry e s) [] nothing m) (statement_action p w u e f below now s)
   statement_at (stmt.Simple s) h at is = simple_follows s h
   statement_at (stmt.LogicalIf t s) h at is = test_follows p number u here slots m frame w e f below address stands t (plain_done p u slots m t 0 h)
@@ -157,12 +162,12 @@ module _ (p : Program) (number : ℕ) (u : ProgramUnit) (here : unit_at p number
   statement_at (stmt.ElseIf t) h at is = test_follows p number u here slots m frame w e f below address stands t (plain_done p u slots m t 0 h)
   statement_at stmt.Else h at is = goes_on e.entry.after
   statement_at stmt.EndIf h at is = goes_on e.entry.after
-  statement_at (stmt.Do d) h at is = begin_follows d h (record { entry = e.entry; at = at; counted = ap (λ s. counts_trips (loop_of s)) is })
-  statement_at (stmt.ProcessDo d) h at is = begin_follows d h (record { entry = e.entry; at = at; counted = ap (λ s. counts_trips (loop_of s)) is })
+  statement_at (stmt.Do d) h at is = begin_follows d h (record { entry = e.entry; at = at; counted = ap (λ s. counts_trips (loop_of s)) is }) (counted_fits (stmt.Do d) at is)
+  statement_at (stmt.ProcessDo d) h at is = begin_follows d h (record { entry = e.entry; at = at; counted = ap (λ s. counts_trips (loop_of s)) is }) (counted_fits (stmt.ProcessDo d) at is)
   statement_at (stmt.DoWhile t) h at is = test_follows p number u here slots m frame w e f below address stands t (plain_done p u slots m t 0 h)
-  statement_at stmt.EndDo h at is = end_follows e.entry.mate h
-  statement_at stmt.EndProcessDo h at is = end_follows e.entry.mate h
-  statement_at stmt.LoopEnd h at is = end_follows e.entry.mate h
+  statement_at stmt.EndDo h at is = end_follows e.entry.mate
+  statement_at stmt.EndProcessDo h at is = end_follows e.entry.mate
+  statement_at stmt.LoopEnd h at is = end_follows e.entry.mate
   statement_at stmt.End h at is = return_follows (kind_of u) h
   statement_at stmt.Processes h at is = goes_on e.entry.after
   statement_at stmt.EndProcesses h at is = absurd h
@@ -184,7 +189,7 @@ module _ (p : Program) (number : ℕ) (u : ProgramUnit) (here : unit_at p number
   statement_at (stmt.Processors es) h at is = refl
 
   -- in the scope of the frame that it stands for
-  pub statement_follows : StatementHasCode p u e.entry e.entry.stmt → slice_get u.tree.body f.entry ≡ Some e.entry
+  pub statement_follows : StatementHasCode p u e.entry.stmt → slice_get u.tree.body f.entry ≡ Some e.entry
       → Agree site (work (statement_code p u address f.entry e e.entry.stmt) [] nothing m) (statement_action p w u e f below (scope_of p u f) e.entry.stmt)
   statement_follows h at =
       let values = sym stands.values in

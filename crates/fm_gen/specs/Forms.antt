@@ -1,6 +1,6 @@
 -- The forms of statements that have their code: those that concern their process alone, without references of functions.
 -- Source: this profile.
-use Rattle.std.specs.Prelude.{◌≡◌, ◌<◌, ℕ, true, Option, Some, None, List, [], ◌∷◌, slice_get}
+use Rattle.std.specs.Prelude.{◌≡◌, Option, Some, None, List, [], ◌∷◌}
 use Rattle.fm_tree.specs.Tree.{Tree}
 use Rattle.fm_tree.specs.declared.form.UnitKind.{UnitKind}
 use Rattle.fm_tree.specs.declared.form.UnitKind.TheVariants as unit_kind
@@ -12,13 +12,10 @@ use Rattle.fm_tree.specs.declared.statement.Simple.{Simple}
 use Rattle.fm_tree.specs.declared.statement.Simple.TheVariants as simple
 use Rattle.fm_tree.specs.declared.statement.Stmt.{Stmt}
 use Rattle.fm_tree.specs.declared.statement.Stmt.TheVariants as stmt
-use Rattle.fm_symbols.specs.declared.names.Variable.{Variable}
 use Rattle.fm_rules.specs.declared.program.Program.{Program}
-use Rattle.fm_mean.specs.Names.{ProgramUnit, kind_of, variable_of}
+use Rattle.fm_mean.specs.Names.{ProgramUnit, kind_of}
 use Rattle.fm_mean.specs.Evaluate.{refs_in, refs_in_var}
-use Rattle.fm_mean.specs.Actions.{Loop, Counted, While, NoLoop, loop_of}
 use Rattle.fm_gen.specs.Code.{names_in}
-use Rattle.fm_gen.specs.Statements.{is_word}
 
 -- no reference of a function stands in it
 abbrev pub IsPlain : Program → ProgramUnit → Tree → Type 0
@@ -33,29 +30,8 @@ ItemsArePlain p u [] = Unit {0}
 ItemsArePlain p u (item.Constant bytes ∷ is) = ItemsArePlain p u is
 ItemsArePlain p u (item.Expr e ∷ is) = IsPlain p u e × ItemsArePlain p u is
 
--- a name is that of a variable which holds a word
-pub record HasWord (u : ProgramUnit) (name : List ℕ) : Type 0 where
-  pub place : ℕ
-  pub variable : Variable
-  pub named : variable_of u name ≡ Some (place, variable)
-  pub word : is_word variable.kind ≡ true
-  pub some : 0 < variable.words
-
 abbrev pub BoundsArePlain : Program → ProgramUnit → LoopHead → Type 0
-BoundsArePlain p u h = IsPlain p u h.from × IsPlain p u h.to × StepIsPlain p u h.step × HasWord u h.variable
-
-abbrev pub LoopHasWord : ProgramUnit → Loop → Type 0
-LoopHasWord u (Counted name) = HasWord u name
-LoopHasWord u While = Unit {0}
-LoopHasWord u NoLoop = Unit {0}
-
-abbrev pub OpenerHasWord : ProgramUnit → Option Entry → Type 0
-OpenerHasWord u None = Unit {0}
-OpenerHasWord u (Some o) = LoopHasWord u (loop_of o.stmt)
-
-abbrev pub MateHasWord : ProgramUnit → Option ℕ → Type 0
-MateHasWord u None = Unit {0}
-MateHasWord u (Some opener) = OpenerHasWord u (slice_get u.tree.body opener)
+BoundsArePlain p u h = IsPlain p u h.from × IsPlain p u h.to × StepIsPlain p u h.step
 
 -- nobody calls a unit of this kind
 abbrev pub IsUncalled : UnitKind → Type 0
@@ -81,40 +57,40 @@ SimpleHasCode p u (simple.EndChannel named q) = ⊥
 SimpleHasCode p u (simple.MovePort from to) = ⊥
 SimpleHasCode p u (simple.Probe named q empty) = ⊥
 
-abbrev pub StatementHasCode : Program → ProgramUnit → Entry → Stmt → Type 0
-StatementHasCode p u e (stmt.Simple s) = SimpleHasCode p u s
-StatementHasCode p u e (stmt.LogicalIf t s) = IsPlain p u t
-StatementHasCode p u e (stmt.BlockIf t) = IsPlain p u t
-StatementHasCode p u e (stmt.ElseIf t) = IsPlain p u t
-StatementHasCode p u e stmt.Else = Unit {0}
-StatementHasCode p u e stmt.EndIf = Unit {0}
-StatementHasCode p u e (stmt.Do h) = BoundsArePlain p u h
-StatementHasCode p u e (stmt.ProcessDo h) = BoundsArePlain p u h
-StatementHasCode p u e (stmt.DoWhile t) = IsPlain p u t
-StatementHasCode p u e stmt.EndDo = MateHasWord u e.mate
-StatementHasCode p u e stmt.EndProcessDo = MateHasWord u e.mate
-StatementHasCode p u e stmt.LoopEnd = MateHasWord u e.mate
-StatementHasCode p u e stmt.End = IsUncalled (kind_of u)
-StatementHasCode p u e stmt.Processes = Unit {0}
-StatementHasCode p u e stmt.EndProcesses = ⊥
-StatementHasCode p u e (stmt.ProcessCall name part) = ⊥
-StatementHasCode p u e (stmt.Program name) = Unit {0}
-StatementHasCode p u e (stmt.Process name formals) = Unit {0}
-StatementHasCode p u e (stmt.Subroutine name formals) = Unit {0}
-StatementHasCode p u e (stmt.Function name formals) = Unit {0}
-StatementHasCode p u e (stmt.IntegerFunction name formals) = Unit {0}
-StatementHasCode p u e (stmt.LogicalFunction name formals) = Unit {0}
-StatementHasCode p u e stmt.ImplicitNone = Unit {0}
-StatementHasCode p u e (stmt.Integer ds) = Unit {0}
-StatementHasCode p u e (stmt.Logical ds) = Unit {0}
-StatementHasCode p u e (stmt.Dimension ds) = Unit {0}
-StatementHasCode p u e (stmt.Parameter ds) = Unit {0}
-StatementHasCode p u e (stmt.Inport t ds) = Unit {0}
-StatementHasCode p u e (stmt.Outport t ds) = Unit {0}
-StatementHasCode p u e (stmt.Intent way names) = Unit {0}
-StatementHasCode p u e (stmt.Processors es) = Unit {0}
+abbrev pub StatementHasCode : Program → ProgramUnit → Stmt → Type 0
+StatementHasCode p u (stmt.Simple s) = SimpleHasCode p u s
+StatementHasCode p u (stmt.LogicalIf t s) = IsPlain p u t
+StatementHasCode p u (stmt.BlockIf t) = IsPlain p u t
+StatementHasCode p u (stmt.ElseIf t) = IsPlain p u t
+StatementHasCode p u stmt.Else = Unit {0}
+StatementHasCode p u stmt.EndIf = Unit {0}
+StatementHasCode p u (stmt.Do h) = BoundsArePlain p u h
+StatementHasCode p u (stmt.ProcessDo h) = BoundsArePlain p u h
+StatementHasCode p u (stmt.DoWhile t) = IsPlain p u t
+StatementHasCode p u stmt.EndDo = Unit {0}
+StatementHasCode p u stmt.EndProcessDo = Unit {0}
+StatementHasCode p u stmt.LoopEnd = Unit {0}
+StatementHasCode p u stmt.End = IsUncalled (kind_of u)
+StatementHasCode p u stmt.Processes = Unit {0}
+StatementHasCode p u stmt.EndProcesses = ⊥
+StatementHasCode p u (stmt.ProcessCall name part) = ⊥
+StatementHasCode p u (stmt.Program name) = Unit {0}
+StatementHasCode p u (stmt.Process name formals) = Unit {0}
+StatementHasCode p u (stmt.Subroutine name formals) = Unit {0}
+StatementHasCode p u (stmt.Function name formals) = Unit {0}
+StatementHasCode p u (stmt.IntegerFunction name formals) = Unit {0}
+StatementHasCode p u (stmt.LogicalFunction name formals) = Unit {0}
+StatementHasCode p u stmt.ImplicitNone = Unit {0}
+StatementHasCode p u (stmt.Integer ds) = Unit {0}
+StatementHasCode p u (stmt.Logical ds) = Unit {0}
+StatementHasCode p u (stmt.Dimension ds) = Unit {0}
+StatementHasCode p u (stmt.Parameter ds) = Unit {0}
+StatementHasCode p u (stmt.Inport t ds) = Unit {0}
+StatementHasCode p u (stmt.Outport t ds) = Unit {0}
+StatementHasCode p u (stmt.Intent way names) = Unit {0}
+StatementHasCode p u (stmt.Processors es) = Unit {0}
 
 -- an entry whose statement has its code, and at which no reference is done
 pub record HasCode (p : Program) (u : ProgramUnit) (e : Entry) : Type 0 where
-  pub statement : StatementHasCode p u e e.stmt
+  pub statement : StatementHasCode p u e.stmt
   pub references : e.refs ≡ []
