@@ -1,19 +1,23 @@
 -- What stands behind the end of a statement doesn't count.
-use Rattle.std.proofs.Common.{◌≡◌, ℕ, ℤ, Bool, true, false, cond, Option, Some, None, List, [], ◌∷◌, ◌++◌, length, refl, sym, ap, ◌∙◌, append_assoc, Result, Ok, Err}
+use Rattle.std.proofs.Common.{◌≡◌, ℕ, ℤ, pos, Bool, true, false, cond, Option, Some, None, List, [], ◌∷◌, ◌++◌, length, refl, sym, ap, ◌∙◌, append_assoc, Result, Ok, Err}
 use Rattle.std.specs.Prelude.{slice_get, slice_set, nat_lt, ◌&&◌}
+use Rattle.std.specs.Ordering.{int_eq}
 use Rattle.fm_base.specs.declared.fault.Fault.{Fault}
+use Rattle.fm_base.specs.declared.fault.Fault.TheVariants.{NullPort}
 use Rattle.fm_values.specs.Values.{sum}
 use Rattle.fm_values.specs.Trips.{trips_behind}
 use Rattle.fm_code.specs.declared.body.Frame.{Frame}
 use Rattle.fm_code.specs.declared.body.Turns.{Turns}
 use Rattle.fm_code.specs.declared.instr.End.TheVariants as end
+use Rattle.fm_code.specs.declared.instr.Meet.{Meet}
 use Rattle.fm_code.specs.declared.instr.Meet.TheVariants as meet
 use Rattle.fm_code.specs.declared.instr.Loop.{Loop}
 use Rattle.fm_code.specs.declared.instr.Instr.{Instr}
 use Rattle.fm_code.specs.declared.instr.Instr.TheVariants as instr
+use Rattle.fm_code.specs.declared.ask.Ask.TheVariants as ask
 use Rattle.fm_code.specs.declared.scratch.Scratch.{Scratch}
 use Rattle.fm_code.specs.Acts as acts
-use Rattle.fm_code.specs.Acts.{Turn, Act, On, Over, found, gives, number_in, numbered, stored, counted, led, fewer, enters, turns, act, then_work, work}
+use Rattle.fm_code.specs.Acts.{Turn, Act, On, Over, found, gives, number_in, numbered, at_word, stored, counted, led, fewer, enters, turns, by_port, at_port, asks, closes, receives, meets, act, then_work, work}
 
 -- an act with which its statement ends
 abbrev Ends : Act → Type 0
@@ -45,7 +49,30 @@ ends_turns l body behind (Some t) m k j =
     ends_found (slice_get m.words l.word) (λ x. gives (sum x t.by) (λ v. counted l body behind (record { behind = fewer t.behind; by = t.by }) v m))
     (λ x. ends_gives (sum x t.by) (λ v. counted l body behind (record { behind = fewer t.behind; by = t.by }) v m) (λ v. ends_counted l body behind (record { behind = fewer t.behind; by = t.by }) v m)) k j
 
--- the instructions with which statements end that concern their process alone
+ends_port : (c : Bool) (a : Act) → Ends a → Ends (cond c (Over (acts.Fails NullPort)) a)
+ends_port true a h k j = refl
+ends_port false a h k j = h k j
+
+ends_by_port : (m : Frame) (n : ℕ) (f : ℤ → Act) → ((v : ℤ) → Ends (f v)) → Ends (by_port m n f)
+ends_by_port m n f h =
+    ends_found (slice_get m.words n) (λ v. cond (int_eq v (pos 0)) (Over (acts.Fails NullPort)) (f v)) (λ v. ends_port (int_eq v (pos 0)) (f v) (h v))
+
+ends_at_word : (m : Frame) (x : ℤ) (f : ℕ → Act) → ((n : ℕ) → Ends (f n)) → Ends (at_word m x f)
+ends_at_word m x f h = ends_found (numbered m (number_in x)) f h
+
+ends_at_port : (m : Frame) (x : ℤ) (f : ℤ → Act) → ((v : ℤ) → Ends (f v)) → Ends (at_port m x f)
+ends_at_port m x f h = ends_at_word m x (λ n. by_port m n f) (λ n. ends_by_port m n f h)
+
+ends_over_word : (m : Frame) (x : ℤ) (f : ℕ → Turn) → Ends (at_word m x (λ n. Over (f n)))
+ends_over_word m x f = ends_at_word m x (λ n. Over (f n)) (λ n k j. refl)
+
+ends_over_port : (m : Frame) (x : ℤ) (f : ℤ → Turn) → Ends (at_port m x (λ v. Over (f v)))
+ends_over_port m x f = ends_at_port m x (λ v. Over (f v)) (λ v k j. refl)
+
+ends_over_words : (m : Frame) (x y : ℤ) (f : ℕ → ℕ → Turn) → Ends (at_word m x (λ n. at_word m y (λ i. Over (f n i))))
+ends_over_words m x y f = ends_at_word m x (λ n. at_word m y (λ i. Over (f n i))) (λ n. ends_over_word m y (f n))
+
+-- the instructions with which statements end
 pub data IsEnd : Instr → Type 0 where
   Goes : (to : ℕ) → IsEnd (instr.End (end.Goto to))
   Tests : (holding failing : ℕ) → IsEnd (instr.End (end.Test holding failing))
@@ -54,7 +81,41 @@ pub data IsEnd : Instr → Type 0 where
   Enters : (body behind : ℕ) → IsEnd (instr.End (end.Enter body behind))
   EndsTrip : (body behind : ℕ) → IsEnd (instr.End (end.Again body behind))
   Prints : (to : ℕ) → IsEnd (instr.End (end.Print to))
-  Stops : IsEnd (instr.Meet meet.Stop)
+  Calls : (n to : ℕ) → IsEnd (instr.End (end.Call n to))
+  Refers : (n to : ℕ) → IsEnd (instr.End (end.Refer n to))
+  Returns : IsEnd (instr.End end.Return)
+  ReturnsValue : (n : ℕ) → IsEnd (instr.End (end.ReturnValue n))
+  Starts : (n to : ℕ) → IsEnd (instr.End (end.Start n to))
+  Meets : (i : Meet) → IsEnd (instr.Meet i)
+
+meet_ends : (i : Meet) (s : List ℤ) (b : Scratch) (m : Frame) → Ends (meets i s b m)
+meet_ends meet.Stop s b m k j = refl
+meet_ends (meet.Send next) [] b m k j = refl
+meet_ends (meet.Send next) (x ∷ s) b m k j = ends_over_port m x (λ v. acts.Asks (ask.Send v b.operands next)) k j
+meet_ends (meet.Receive next) [] b m k j = refl
+meet_ends (meet.Receive next) (x ∷ s) b m k j = ends_over_port m x (λ v. acts.Asks (ask.Receive v b.operands b.status None next)) k j
+meet_ends (meet.ReceiveOr to next) [] b m k j = refl
+meet_ends (meet.ReceiveOr to next) (x ∷ s) b m k j = ends_over_port m x (λ v. acts.Asks (ask.Receive v b.operands b.status (Some to) next)) k j
+meet_ends (meet.Channel next) [] b m k j = refl
+meet_ends (meet.Channel next) (y ∷ []) b m k j = refl
+meet_ends (meet.Channel next) (y ∷ x ∷ s) b m k j = ends_over_words m x y (λ i o. acts.Asks (ask.Channel i o next)) k j
+meet_ends (meet.ChannelFrom next) [] b m k j = refl
+meet_ends (meet.ChannelFrom next) (y ∷ []) b m k j = refl
+meet_ends (meet.ChannelFrom next) (y ∷ x ∷ s) b m k j = ends_over_words m x y (λ o i. acts.Asks (ask.Channel i o next)) k j
+meet_ends (meet.Merger next) [] b m k j = refl
+meet_ends (meet.Merger next) (x ∷ s) b m k j = ends_over_word m x (λ i. acts.Asks (ask.Merger i b.operands next)) k j
+meet_ends (meet.EndChannel next) [] b m k j = refl
+meet_ends (meet.EndChannel next) (x ∷ s) b m k j =
+    ends_at_word m x (λ n. closes m next n) (λ n. ends_by_port m n (λ v. Over (acts.Closes n next)) (λ v k j. refl)) k j
+meet_ends (meet.MovePort next) [] b m k j = refl
+meet_ends (meet.MovePort next) (y ∷ []) b m k j = refl
+meet_ends (meet.MovePort next) (y ∷ x ∷ s) b m k j = ends_over_words m x y (λ from into. acts.Moves from into next) k j
+meet_ends (meet.Probe next) [] b m k j = refl
+meet_ends (meet.Probe next) (y ∷ []) b m k j = refl
+meet_ends (meet.Probe next) (y ∷ x ∷ s) b m k j =
+    ends_at_word m y (λ n. at_port m x (λ v. asks (ask.Probe v n next))) (λ n. ends_over_port m x (λ v. acts.Asks (ask.Probe v n next))) k j
+meet_ends (meet.Begin next) s b m k j = refl
+meet_ends (meet.Join next) s b m k j = refl
 
 act_ends : (i : Instr) → IsEnd i → (s : List ℤ) (b : Scratch) (m : Frame) → Ends (act i s b m)
 act_ends i (Goes to) s b m k j = refl
@@ -75,7 +136,12 @@ act_ends i (EndsTrip body behind) s b m k j =
     ends_found b.counts (λ l. found (slice_get m.loops l.number) (λ t. turns l body behind t m))
     (λ l. ends_found (slice_get m.loops l.number) (λ t. turns l body behind t m) (λ o. ends_turns l body behind o m)) k j
 act_ends i (Prints to) s b m k j = refl
-act_ends i Stops s b m k j = refl
+act_ends i (Calls n to) s b m k j = refl
+act_ends i (Refers n to) s b m k j = refl
+act_ends i Returns s b m k j = refl
+act_ends i (ReturnsValue n) s b m k j = ends_found (slice_get m.words n) (λ v. Over (acts.ReturnsValue v)) (λ v k j. refl) k j
+act_ends i (Starts n to) s b m k j = refl
+act_ends i (Meets q) s b m k j = meet_ends q s b m k j
 
 then_same : (a : Act) (k j : List ℤ → Scratch → Turn) → ((s : List ℤ) (b : Scratch) → k s b ≡ j s b) → then_work a k ≡ then_work a j
 then_same (On s b) k j h = h s b
@@ -97,6 +163,9 @@ alone i h = record { before = []; last = i; ends = h; is = refl }
 
 pub behind : (is code : List Instr) → IsEnded code → IsEnded (is ++ code)
 behind is code h = record { before = is ++ h.before; last = h.last; ends = h.ends; is = ap (λ l. is ++ l) h.is ∙ sym (append_assoc is h.before (h.last ∷ [])) }
+
+pub closing : (before : List Instr) (i : Instr) → IsEnd i → IsEnded (before ++ i ∷ [])
+closing before i h = behind before (i ∷ []) (alone i h)
 
 pub whole_alone : (code : List Instr) → IsEnded code → (rest : List Instr) (s : List ℤ) (b : Scratch) (m : Frame) → work (code ++ rest) s b m ≡ work code s b m
 whole_alone code h rest s b m =

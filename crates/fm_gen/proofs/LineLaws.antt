@@ -8,16 +8,19 @@ use Rattle.std.proofs.lemmas.List.{reverse-append}
 use Rattle.std.proofs.lemmas.List.Folds.{find-append}
 use Rattle.fm_links.specs.Links.{links_of}
 use Rattle.fm_tree.specs.declared.program_unit.Entry as tree
+use Rattle.fm_tree.specs.declared.statement.Stmt.TheVariants as stmt
 use Rattle.fm_rules.specs.declared.program.Program.{Program}
-use Rattle.fm_mean.specs.Names.{ProgramUnit, Point, point_at}
+use Rattle.fm_mean.specs.Names.{ProgramUnit, Point, point_at, line_of}
 use Rattle.fm_code.specs.declared.code.Entry.{Entry}
 use Rattle.fm_code.specs.declared.instr.Instr.{Instr}
-use Rattle.fm_code.specs.Statements.{line_in}
-use Rattle.fm_gen.specs.Statements.{Addresses, entry_code, entries_code, address_of}
+use Rattle.fm_code.specs.Statements.{line_in, line_at}
+use Rattle.fm_executable.specs.Statements.{Addresses, statement_code}
+use Rattle.fm_gen.specs.Entries.{references_code, references_length, entry_code, entries_code, address_of, statement_address, join_address}
 use Rattle.fm_gen.specs.Units.{entries_at, TellsLines, AddressesRise}
 use Rattle.fm_gen.proofs.Ends.{IsEnded}
-use Rattle.fm_gen.proofs.KeptUnits.{entry_there}
-use Rattle.fm_gen.proofs.UnitLaws.{statement_ended}
+use Rattle.fm_gen.proofs.ReferenceLaws.{all_references, references_front}
+use Rattle.fm_gen.proofs.Standings.{join_at, statement_at}
+use Rattle.fm_gen.proofs.UnitLaws.{entry_there, statement_ended}
 
 -- Addresses.
 
@@ -31,25 +34,50 @@ module _ (p : Program) (u : ProgramUnit) where
   next_address : (k : ℕ) → address_of p u (suc k) ≡ address_of p u k + length (code_at k)
   next_address k = length-append (entries_code p u (λ j. 0) k) (code_at k)
 
-  entry_has_code : (k : ℕ) (e : Point) → point_at u k ≡ Some e → 0 < length (code_at k)
-  entry_has_code k e at =
-      let has = not_empty (entry_code p u (λ j. 0) k (Some e)) (statement_ended p u (λ j. 0) e k e.entry.stmt) in
-      let same : length (code_at k) ≡ length (entry_code p u (λ j. 0) k (Some e)) = ap (λ o. length (entry_code p u (λ j. 0) k o)) at in
-      omega (arith, has, same)
+  later : (k n : ℕ) → k ≤ n → address_of p u k ≤ address_of p u n
+  later k zero le = let same : k ≡ 0 = omega (arith, le) in let here : address_of p u k ≡ address_of p u 0 = ap (address_of p u) same in omega (arith, here)
+  later k (suc n) le = ⊎_elim
+      (λ (l : k < suc n). omega (arith, later k n (omega (arith, l)), next_address n))
+      (λ (l : suc n ≤ k).
+      let same : k ≡ suc n = omega (arith, l, le) in
+      let here : address_of p u k ≡ address_of p u (suc n) = ap (address_of p u) same in
+      omega (arith, here))
+      (cases_lt k (suc n))
 
-  behind_entry : (k n : ℕ) (e : Point) → point_at u k ≡ Some e → k < n → address_of p u k < address_of p u n
-  behind_entry k zero e at less = absurd (omega (arith, less))
-  behind_entry k (suc n) e at less = ⊎_elim
-      (λ (l : k < n). omega (arith, behind_entry k n e at l, next_address n))
-      (λ (l : n ≤ k).
-      let same : k ≡ n = omega (arith, l, less) in
-      let here : address_of p u k ≡ address_of p u n = ap (address_of p u) same in
-      let some : length (code_at k) ≡ length (code_at n) = ap (λ j. length (code_at j)) same in
-      omega (arith, here, some, entry_has_code k e at, next_address n))
-      (cases_lt k n)
+  module _ (k : ℕ) (e : Point) (at : point_at u k ≡ Some e) where
+    abbrev last : ℕ
+    last = 0 + references_length p u e.entry (length e.entry.refs)
+
+    abbrev references : List Instr
+    references = references_code p u e.entry.stmt 0 0 e.entry.refs
+
+    -- the next entry begins behind the references and the statement
+    entry_long : address_of p u (suc k) ≡ address_of p u k + (length references + length (statement_code p u (λ j. 0) last k e e.entry.stmt))
+    entry_long =
+        next_address k
+        ∙ ap (λ o. address_of p u k + length (entry_code p u (λ j. 0) k o)) at
+        ∙ ap (λ n. address_of p u k + n) (length-append references (statement_code p u (λ j. 0) last k e e.entry.stmt))
+
+    statement_within : (n : ℕ) → statement_address p u k n < address_of p u (suc k)
+    statement_within n =
+        let has = not_empty (statement_code p u (λ j. 0) last k e e.entry.stmt) (statement_ended p u (λ j. 0) e last k e.entry.stmt) in
+        let front = references_front p u e.entry.stmt 0 0 n e.entry.refs in
+        omega (arith, has, front, entry_long, statement_at p u k e at n)
+
+    join_within : e.entry.stmt ≡ stmt.EndProcesses → join_address p u k < address_of p u (suc k)
+    join_within is =
+        let two : length (statement_code p u (λ j. 0) last k e e.entry.stmt) ≡ 2 = ap (λ s. length (statement_code p u (λ j. 0) last k e s)) is in
+        let all = all_references p u e.entry (length e.entry.refs) (omega arith) in
+        omega (arith, two, all, entry_long, join_at p u k e at)
+
+    behind_entry : (n : ℕ) → k < n → address_of p u k < address_of p u n
+    behind_entry n less =
+        let more = statement_within 0 in
+        let from = later (suc k) n (omega (arith, less)) in
+        omega (arith, more, from, statement_at p u k e at 0)
 
   pub addresses_rise : AddressesRise p u
-  addresses_rise = record { first = refl; rise = behind_entry }
+  addresses_rise = record { first = refl; rise = λ k n e at. behind_entry k e at n }
 
 -- Lines.
 
@@ -76,12 +104,13 @@ module _ (address : Addresses) (a : ℕ) where
       found_in k e es
       ∙ (λ i. option_or (none_begun (suc k) es (λ n l. h n (omega (arith, l))) i) (found_one k e false (lt-leb (address k) a (h k (omega arith))) i))
 
-  one_begun : (k d n : ℕ) (es : List tree.Entry) (e : tree.Entry) → slice_get es d ≡ Some e → n ≡ k + d → address n ≡ a → ((j : ℕ) → n < j → a < address j)
+  one_begun : (k d n : ℕ) (es : List tree.Entry) (e : tree.Entry) → slice_get es d ≡ Some e → n ≡ k + d → address n ≤ a → ((j : ℕ) → n < j → a < address j)
       → find begun (reverse (entries_at address k es)) ≡ Some (told n e)
   one_begun k d n [] e at is here h = absurd (cc)
   one_begun k zero n (x ∷ es) e at is here h =
       let same : k ≡ n = omega (arith, is) in
-      let below : address k ≤ a = omega (arith, here, ap address same) in
+      let begin : address k ≡ address n = ap address same in
+      let below : address k ≤ a = omega (arith, here, begin) in
       found_in k x es
       ∙ (λ i. option_or (none_begun (suc k) es (λ j l. h j (omega (arith, l, is))) i) (found_one k x true (le-leb (address k) a below) i))
       ∙ (λ i. option_map_told (same i) (at i))
@@ -93,7 +122,15 @@ module _ (address : Addresses) (a : ℕ) where
       found_in k x es
       ∙ ap (λ o. option_or o (find begun (told k x ∷ []))) (one_begun (suc k) d n es e at (omega (arith, is)) here h)
 
-pub tells_lines : (p : Program) (u : ProgramUnit) → TellsLines p u (entries_at (address_of p u) 0 u.tree.body)
-tells_lines p u k e at =
-    ap line_in (one_begun (address_of p u) (address_of p u k) 0 k k u.tree.body e.entry (entry_there (slice_get u.tree.body k) (slice_get (links_of u.tree.body) k) e at) (omega arith) refl
-    (λ n l. behind_entry p u k n e at l))
+module _ (p : Program) (u : ProgramUnit) where
+  -- all addresses of an entry are told its line
+  line_within : (k a : ℕ) (e : Point) → point_at u k ≡ Some e → address_of p u k ≤ a → a < address_of p u (suc k) → line_at (entries_at (address_of p u) 0 u.tree.body) a ≡ line_of e
+  line_within k a e at from to =
+      ap line_in (one_begun (address_of p u) a 0 k k u.tree.body e.entry (entry_there (slice_get u.tree.body k) (slice_get (links_of u.tree.body) k) e at) (omega arith) from
+      (λ n l. let more = later p u (suc k) n (omega (arith, l)) in omega (arith, to, more)))
+
+  pub tells_lines : TellsLines p u (entries_at (address_of p u) 0 u.tree.body)
+  tells_lines = record {
+    statements = λ k e at n. line_within k (statement_address p u k n) e at (omega (arith, statement_at p u k e at n)) (statement_within p u k e at n);
+    joins = λ k e at is. line_within k (join_address p u k) e at (omega (arith, join_at p u k e at)) (join_within p u k e at is);
+  }

@@ -1,10 +1,11 @@
 -- Where entries begin, and what stands there.
 use Rattle.std.proofs.Common.{◌≡◌, ℕ, zero, suc, ◌+◌, ◌<◌, ◌≤◌, Bool, true, false, cond, Option, Some, None, List, [], ◌∷◌, ◌++◌, length, drop, refl, sym, ap, ◌∙◌, arith, append_assoc, ◌-◌, length-append, ⊎_elim}
-use Rattle.std.specs.Prelude.{slice_get, unwrap_or}
+use Rattle.std.specs.Prelude.{option_map, slice_get, unwrap_or}
 use Rattle.std.proofs.Math.Seq.{drop-append_seam}
 use Rattle.std.proofs.lemmas.Bool.{cases_lt}
 use Rattle.std.proofs.lemmas.List.{append-nil}
 use Rattle.std.proofs.lemmas.Option.{slice_get_past}
+use Rattle.fm_links.specs.declared.entry_links.EntryLinks.{EntryLinks}
 use Rattle.fm_links.specs.Links.{links_of}
 use Rattle.fm_tree.specs.Tree.{Trees, NoTrees, More, trees_from}
 use Rattle.fm_tree.specs.declared.form.UnitKind.{UnitKind}
@@ -12,24 +13,40 @@ use Rattle.fm_tree.specs.declared.form.UnitKind.TheVariants as unit_kind
 use Rattle.fm_tree.specs.declared.port_type.Kind.{Kind}
 use Rattle.fm_tree.specs.declared.port_type.Kind.TheVariants as kind
 use Rattle.fm_tree.specs.declared.program_unit.Entry.{Entry}
+use Rattle.fm_tree.specs.declared.statement.CallPart.{CallPart}
+use Rattle.fm_tree.specs.declared.statement.Extra.{Extra}
 use Rattle.fm_tree.specs.declared.statement.LoopHead.{LoopHead}
 use Rattle.fm_tree.specs.declared.statement.Simple.{Simple}
 use Rattle.fm_tree.specs.declared.statement.Simple.TheVariants as simple
 use Rattle.fm_tree.specs.declared.statement.Stmt.{Stmt}
 use Rattle.fm_tree.specs.declared.statement.Stmt.TheVariants as stmt
+use Rattle.fm_tree.specs.declared.statement.Var.{Var}
 use Rattle.fm_symbols.specs.declared.names.Variable.{Variable}
 use Rattle.fm_rules.specs.declared.program.Program.{Program}
-use Rattle.fm_mean.specs.Names.{ProgramUnit, Point, point_with, point_at, kind_of, variable_of}
-use Rattle.fm_mean.specs.Evaluate.{refs_in_var}
-use Rattle.fm_mean.specs.Actions.{Loop, Counted, While, NoLoop, loop_of}
+use Rattle.fm_mean.specs.Names.{ProgramUnit, Point, point_with, point_at, kind_of, variable_of, unit_named}
+use Rattle.fm_mean.specs.Evaluate.{refs_in_all, refs_in_var}
+use Rattle.fm_mean.specs.Actions.{Loop, Counted, While, NoLoop, loop_of, arguments_in, trees_in, where_in}
 use Rattle.fm_code.specs.declared.instr.Instr.{Instr}
 use Rattle.fm_code.specs.declared.instr.Instr.TheVariants as instr
 use Rattle.fm_code.specs.declared.instr.End.TheVariants as end
 use Rattle.fm_code.specs.declared.instr.Meet.TheVariants as meet
-use Rattle.fm_gen.specs.Code.{names_in, place_code, trees_count, expression_code, expressions_code}
-use Rattle.fm_gen.specs.Statements.{Addresses, goto, holds_word, variable_meant, first_store, locate_code, element_store, assigned_code, items_code, bounds_code, do_code, loop_code, loop_number, again_code, end_code, loop_end_code, jump_code, return_code, simple_code, statement_code, entry_code, entries_code, address_of, unit_code, starts_of}
-use Rattle.fm_gen.specs.Tables.{address_in}
-use Rattle.fm_gen.proofs.Ends.{IsEnded, Goes, Tests, Stores, StoresAt, Enters, EndsTrip, Prints, Stops, alone, behind}
+use Rattle.fm_operands.specs.Code.{place_code, trees_count, expression_code, expressions_code}
+use Rattle.fm_operands.specs.Places.{arguments_code, seat_code, targets_code, var_code}
+use Rattle.fm_checked.specs.Sound.{names_in}
+use Rattle.fm_executable.specs.Statements.{Addresses, goto, holds_word, variable_meant, first_store, locate_code, element_store, assigned_code, items_code, bounds_code, do_code, loop_code, again_code, end_code, loop_end_code, jump_code, call_by, result_word, return_code, start_by, block_code, send_code, extras_code, refs_behind, receive_end, receive_code, channel_code, merger_code, two_code, simple_code, statement_code}
+use Rattle.fm_gen.specs.Entries.{references_code, references_length, entry_code, entries_code, address_of, unit_code, starts_of}
+use Rattle.fm_standing.specs.Frames.{loop_number}
+use Rattle.fm_executable.specs.Tables.{address_in}
+use Rattle.fm_gen.proofs.Ends.{IsEnd, IsEnded, Goes, Tests, Stores, StoresAt, Enters, EndsTrip, Prints, Calls, Returns, ReturnsValue, Starts, Meets, alone, behind, closing}
+use Rattle.fm_gen.proofs.ReferenceLaws.{references_same}
+
+the_point : (a b : Point) → Some a ≡ Some b → a ≡ b
+the_point a b e = cc
+
+pub entry_there : (o : Option Entry) (l : Option EntryLinks) (e : Point) → point_with o l ≡ Some e → o ≡ Some e.entry
+entry_there None l e is = absurd (cc)
+entry_there (Some x) None e is = absurd (cc)
+entry_there (Some x) (Some l) e is = ap (λ (q : Point). Some q.entry) (the_point (record { entry = x; links = l }) e is)
 
 -- Each statement's code ends its statement.
 
@@ -51,13 +68,20 @@ stuck_ended : IsEnded (instr.End (end.Store 0 0) ∷ [])
 stuck_ended = alone (instr.End (end.Store 0 0)) (Stores 0 0)
 
 stop_ended : IsEnded (instr.Meet meet.Stop ∷ [])
-stop_ended = alone (instr.Meet meet.Stop) Stops
+stop_ended = alone (instr.Meet meet.Stop) (Meets meet.Stop)
 
-return_ended : (q : UnitKind) → IsEnded (return_code q)
-return_ended unit_kind.Program = stop_ended
-return_ended unit_kind.Process = stop_ended
-return_ended unit_kind.Subroutine = stuck_ended
-return_ended unit_kind.Function = stuck_ended
+return_ended : (u : ProgramUnit) (q : UnitKind) → IsEnded (return_code u q)
+return_ended u unit_kind.Program = stop_ended
+return_ended u unit_kind.Process = stop_ended
+return_ended u unit_kind.Subroutine = alone (instr.End end.Return) Returns
+return_ended u unit_kind.Function = alone (instr.End (end.ReturnValue (result_word u))) (ReturnsValue (result_word u))
+
+block_ended : (here next : ℕ) → IsEnded (block_code here next)
+block_ended here next = behind (instr.Meet (meet.Begin (suc here)) ∷ []) (instr.Meet (meet.Join next) ∷ []) (alone (instr.Meet (meet.Join next)) (Meets (meet.Join next)))
+
+receive_ends : (at_end : Option ℕ) (next : ℕ) → IsEnd (receive_end at_end next)
+receive_ends None next = Meets (meet.Receive next)
+receive_ends (Some to) next = Meets (meet.ReceiveOr to next)
 
 module _ (p : Program) (u : ProgramUnit) where
   assigned_ended : (o : Option (ℕ × Variable)) (ts : Trees) (value : List Instr) (next : ℕ) → IsEnded (assigned_code p u o ts value next)
@@ -85,6 +109,48 @@ module _ (p : Program) (u : ProgramUnit) where
   jump_ended address None = stuck_ended
   jump_ended address (Some k) = alone (goto (address k)) (Goes (address k))
 
+  call_ended : (o : Option (ℕ × ProgramUnit)) (args : Trees) (to : ℕ) → IsEnded (call_by p u o args to)
+  call_ended None args to = stuck_ended
+  call_ended (Some callee) args to = closing (arguments_code p u args 0) (instr.End (end.Call callee.0 to)) (Calls callee.0 to)
+
+  start_ended : (o : Option (ℕ × ProgramUnit)) (part : Option CallPart) (to : ℕ) → IsEnded (start_by p u o part to)
+  start_ended None part to = stuck_ended
+  start_ended (Some callee) part to =
+      let args = trees_from (arguments_in part) in
+      let seat = seat_code p u (where_in part) (refs_in_all (names_in p u) args) in
+      behind (arguments_code p u args 0) (seat ++ instr.End (end.Start callee.0 to) ∷ []) (closing seat (instr.End (end.Start callee.0 to)) (Starts callee.0 to))
+
+  send_ended : (q : Var) (items : Trees) (to : ℕ) → IsEnded (send_code p u q items to)
+  send_ended q items to =
+      let sent = arguments_code p u items (refs_in_var (names_in p u) q) in
+      behind (var_code p u q 0) (sent ++ instr.Meet (meet.Send to) ∷ []) (closing sent (instr.Meet (meet.Send to)) (Meets (meet.Send to)))
+
+  receive_ended : (q : Var) (extras : List Extra) (items : List Var) (at_end : Option ℕ) (to : ℕ) → IsEnded (receive_code p u q extras items at_end to)
+  receive_ended q extras items at_end to =
+      let s = names_in p u in
+      let more = extras_code p u extras (refs_in_var s q) in
+      let got = targets_code p u items (refs_behind s extras (refs_in_var s q)) in
+      let last = receive_end at_end to in
+      behind (var_code p u q 0) (more ++ (got ++ last ∷ [])) (behind more (got ++ last ∷ []) (closing got last (receive_ends at_end to)))
+
+  channel_ended : (in_first : Bool) (i o : Var) (to : ℕ) → IsEnded (channel_code p u in_first i o to)
+  channel_ended true i o to =
+      let second = var_code p u o (refs_in_var (names_in p u) i) in
+      behind (var_code p u i 0) (second ++ instr.Meet (meet.Channel to) ∷ []) (closing second (instr.Meet (meet.Channel to)) (Meets (meet.Channel to)))
+  channel_ended false i o to =
+      let second = var_code p u i (refs_in_var (names_in p u) o) in
+      behind (var_code p u o 0) (second ++ instr.Meet (meet.ChannelFrom to) ∷ []) (closing second (instr.Meet (meet.ChannelFrom to)) (Meets (meet.ChannelFrom to)))
+
+  merger_ended : (i : Var) (os : List Var) (to : ℕ) → IsEnded (merger_code p u i os to)
+  merger_ended i os to =
+      let others = targets_code p u os (refs_in_var (names_in p u) i) in
+      behind (var_code p u i 0) (others ++ instr.Meet (meet.Merger to) ∷ []) (closing others (instr.Meet (meet.Merger to)) (Meets (meet.Merger to)))
+
+  two_ended : (first second : Var) (i : Instr) → IsEnd i → IsEnded (two_code p u first second i)
+  two_ended first second i h =
+      let other = var_code p u second (refs_in_var (names_in p u) first) in
+      behind (var_code p u first 0) (other ++ i ∷ []) (closing other i h)
+
   module _ (address : Addresses) (e : Point) where
     abbrev next : ℕ
     next = address e.entry.after
@@ -96,18 +162,18 @@ module _ (p : Program) (u : ProgramUnit) where
     simple_ended (simple.Assignment v t) = assigned_ended (variable_of u v.name) (trees_from v.subscripts) (expression_code p u t (refs_in_var (names_in p u) v)) next
     simple_ended (simple.Goto l) = jump_ended address e.links.jump
     simple_ended simple.Continue = alone (goto next) (Goes next)
-    simple_ended simple.Return = return_ended (kind_of u)
+    simple_ended simple.Return = return_ended u (kind_of u)
     simple_ended simple.Stop = stop_ended
-    simple_ended (simple.Call name args) = stuck_ended
+    simple_ended (simple.Call name args) = call_ended (unit_named p name) (trees_in args) next
     simple_ended (simple.Print items) = behind (items_code p u items 0) (instr.End (end.Print next) ∷ []) (alone (instr.End (end.Print next)) (Prints next))
     simple_ended (simple.Write unit items) = behind (items_code p u items 0) (instr.End (end.Print next) ∷ []) (alone (instr.End (end.Print next)) (Prints next))
-    simple_ended (simple.Channel in_first i o) = stuck_ended
-    simple_ended (simple.Merger i os) = stuck_ended
-    simple_ended (simple.Send named q items) = stuck_ended
-    simple_ended (simple.Receive named q extras items) = stuck_ended
-    simple_ended (simple.EndChannel named q) = stuck_ended
-    simple_ended (simple.MovePort from to) = stuck_ended
-    simple_ended (simple.Probe named q empty) = stuck_ended
+    simple_ended (simple.Channel in_first i o) = channel_ended in_first i o next
+    simple_ended (simple.Merger i os) = merger_ended i os next
+    simple_ended (simple.Send named q items) = send_ended q (trees_from items) next
+    simple_ended (simple.Receive named q extras items) = receive_ended q extras items (option_map address e.links.jump) next
+    simple_ended (simple.EndChannel named q) = closing (var_code p u q 0) (instr.Meet (meet.EndChannel next)) (Meets (meet.EndChannel next))
+    simple_ended (simple.MovePort from to) = two_ended from to (instr.Meet (meet.MovePort next)) (Meets (meet.MovePort next))
+    simple_ended (simple.Probe named q empty) = two_ended q empty (instr.Meet (meet.Probe next)) (Meets (meet.Probe next))
 
     test_ended : (before : List Instr) → IsEnded (before ++ instr.End (end.Test next other) ∷ [])
     test_ended before = behind before (instr.End (end.Test next other) ∷ []) (alone (instr.End (end.Test next other)) (Tests next other))
@@ -120,46 +186,49 @@ module _ (p : Program) (u : ProgramUnit) where
     goes_ended : IsEnded (goto next ∷ [])
     goes_ended = alone (goto next) (Goes next)
 
-    pub statement_ended : (k : ℕ) (s : Stmt) → IsEnded (statement_code p u address k e s)
-    statement_ended k (stmt.Simple s) = simple_ended s
-    statement_ended k (stmt.LogicalIf t s) = test_ended (expression_code p u t 0)
-    statement_ended k (stmt.BlockIf t) = test_ended (expression_code p u t 0)
-    statement_ended k (stmt.ElseIf t) = test_ended (expression_code p u t 0)
-    statement_ended k stmt.Else = goes_ended
-    statement_ended k stmt.EndIf = goes_ended
-    statement_ended k (stmt.Do h) = enter_ended h (loop_number u.tree.body k)
-    statement_ended k (stmt.ProcessDo h) = enter_ended h (loop_number u.tree.body k)
-    statement_ended k (stmt.DoWhile t) = test_ended (expression_code p u t 0)
-    statement_ended k stmt.EndDo = loop_end_ended address next e.entry.mate
-    statement_ended k stmt.EndProcessDo = loop_end_ended address next e.entry.mate
-    statement_ended k stmt.LoopEnd = loop_end_ended address next e.entry.mate
-    statement_ended k stmt.End = return_ended (kind_of u)
-    statement_ended k stmt.Processes = goes_ended
-    statement_ended k stmt.EndProcesses = stuck_ended
-    statement_ended k (stmt.ProcessCall name part) = stuck_ended
-    statement_ended k (stmt.Program name) = stuck_ended
-    statement_ended k (stmt.Process name formals) = stuck_ended
-    statement_ended k (stmt.Subroutine name formals) = stuck_ended
-    statement_ended k (stmt.Function name formals) = stuck_ended
-    statement_ended k (stmt.IntegerFunction name formals) = stuck_ended
-    statement_ended k (stmt.LogicalFunction name formals) = stuck_ended
-    statement_ended k stmt.ImplicitNone = stuck_ended
-    statement_ended k (stmt.Integer ds) = stuck_ended
-    statement_ended k (stmt.Logical ds) = stuck_ended
-    statement_ended k (stmt.Dimension ds) = stuck_ended
-    statement_ended k (stmt.Parameter ds) = stuck_ended
-    statement_ended k (stmt.Inport t ds) = stuck_ended
-    statement_ended k (stmt.Outport t ds) = stuck_ended
-    statement_ended k (stmt.Intent way names) = stuck_ended
-    statement_ended k (stmt.Processors es) = stuck_ended
+    pub statement_ended : (here k : ℕ) (s : Stmt) → IsEnded (statement_code p u address here k e s)
+    statement_ended here k (stmt.Simple s) = simple_ended s
+    statement_ended here k (stmt.LogicalIf t s) = test_ended (expression_code p u t 0)
+    statement_ended here k (stmt.BlockIf t) = test_ended (expression_code p u t 0)
+    statement_ended here k (stmt.ElseIf t) = test_ended (expression_code p u t 0)
+    statement_ended here k stmt.Else = goes_ended
+    statement_ended here k stmt.EndIf = goes_ended
+    statement_ended here k (stmt.Do h) = enter_ended h (loop_number u.tree.body k)
+    statement_ended here k (stmt.ProcessDo h) = enter_ended h (loop_number u.tree.body k)
+    statement_ended here k (stmt.DoWhile t) = test_ended (expression_code p u t 0)
+    statement_ended here k stmt.EndDo = loop_end_ended address next e.entry.mate
+    statement_ended here k stmt.EndProcessDo = loop_end_ended address next e.entry.mate
+    statement_ended here k stmt.LoopEnd = loop_end_ended address next e.entry.mate
+    statement_ended here k stmt.End = return_ended u (kind_of u)
+    statement_ended here k stmt.Processes = goes_ended
+    statement_ended here k stmt.EndProcesses = block_ended here next
+    statement_ended here k (stmt.ProcessCall name part) = start_ended (unit_named p name) part next
+    statement_ended here k (stmt.Program name) = stuck_ended
+    statement_ended here k (stmt.Process name formals) = stuck_ended
+    statement_ended here k (stmt.Subroutine name formals) = stuck_ended
+    statement_ended here k (stmt.Function name formals) = stuck_ended
+    statement_ended here k (stmt.IntegerFunction name formals) = stuck_ended
+    statement_ended here k (stmt.LogicalFunction name formals) = stuck_ended
+    statement_ended here k stmt.ImplicitNone = stuck_ended
+    statement_ended here k (stmt.Integer ds) = stuck_ended
+    statement_ended here k (stmt.Logical ds) = stuck_ended
+    statement_ended here k (stmt.Dimension ds) = stuck_ended
+    statement_ended here k (stmt.Parameter ds) = stuck_ended
+    statement_ended here k (stmt.Inport t ds) = stuck_ended
+    statement_ended here k (stmt.Outport t ds) = stuck_ended
+    statement_ended here k (stmt.Intent way names) = stuck_ended
+    statement_ended here k (stmt.Processors es) = stuck_ended
 
 -- How long code is doesn't depend on where entries begin.
 
 same_front : (xs ys zs : List Instr) → length ys ≡ length zs → length (xs ++ ys) ≡ length (xs ++ zs)
 same_front xs ys zs e = length-append xs ys ∙ ap (λ n. length xs + n) e ∙ sym (length-append xs zs)
 
-first_length : (o : Option Variable) (a b : ℕ) → length (first_store o a ∷ []) ≡ length (first_store o b ∷ [])
-first_length o a b = refl
+same_last : (xs : List Instr) (a b : Instr) → length (xs ++ a ∷ []) ≡ length (xs ++ b ∷ [])
+same_last xs a b = same_front xs (a ∷ []) (b ∷ []) refl
+
+same_second : (xs ys : List Instr) (a b : Instr) → length (xs ++ (ys ++ a ∷ [])) ≡ length (xs ++ (ys ++ b ∷ []))
+same_second xs ys a b = same_front xs (ys ++ a ∷ []) (ys ++ b ∷ []) (same_last ys a b)
 
 module _ (p : Program) (u : ProgramUnit) (a b : Addresses) where
   assigned_length : (o : Option (ℕ × Variable)) (ts : Trees) (value : List Instr) (n k : ℕ) → length (assigned_code p u o ts value n) ≡ length (assigned_code p u o ts value k)
@@ -188,22 +257,48 @@ module _ (p : Program) (u : ProgramUnit) (a b : Addresses) where
   jump_length None = refl
   jump_length (Some k) = refl
 
+  call_length : (o : Option (ℕ × ProgramUnit)) (args : Trees) (n k : ℕ) → length (call_by p u o args n) ≡ length (call_by p u o args k)
+  call_length None args n k = refl
+  call_length (Some callee) args n k = same_last (arguments_code p u args 0) (instr.End (end.Call callee.0 n)) (instr.End (end.Call callee.0 k))
+
+  start_length : (o : Option (ℕ × ProgramUnit)) (part : Option CallPart) (n k : ℕ) → length (start_by p u o part n) ≡ length (start_by p u o part k)
+  start_length None part n k = refl
+  start_length (Some callee) part n k =
+      let args = trees_from (arguments_in part) in
+      same_second (arguments_code p u args 0) (seat_code p u (where_in part) (refs_in_all (names_in p u) args)) (instr.End (end.Start callee.0 n)) (instr.End (end.Start callee.0 k))
+
+  receive_length : (q : Var) (extras : List Extra) (items : List Var) (c d : Option ℕ) (n k : ℕ) → length (receive_code p u q extras items c n) ≡ length (receive_code p u q extras items d k)
+  receive_length q extras items c d n k =
+      let s = names_in p u in
+      let more = extras_code p u extras (refs_in_var s q) in
+      let got = targets_code p u items (refs_behind s extras (refs_in_var s q)) in
+      same_front (var_code p u q 0) (more ++ (got ++ receive_end c n ∷ [])) (more ++ (got ++ receive_end d k ∷ [])) (same_second more got (receive_end c n) (receive_end d k))
+
+  channel_length : (in_first : Bool) (i o : Var) (n k : ℕ) → length (channel_code p u in_first i o n) ≡ length (channel_code p u in_first i o k)
+  channel_length true i o n k = same_second (var_code p u i 0) (var_code p u o (refs_in_var (names_in p u) i)) (instr.Meet (meet.Channel n)) (instr.Meet (meet.Channel k))
+  channel_length false i o n k = same_second (var_code p u o 0) (var_code p u i (refs_in_var (names_in p u) o)) (instr.Meet (meet.ChannelFrom n)) (instr.Meet (meet.ChannelFrom k))
+
   simple_length : (e : Point) (s : Simple) → length (simple_code p u a e s) ≡ length (simple_code p u b e s)
   simple_length e (simple.Assignment v t) = assigned_length (variable_of u v.name) (trees_from v.subscripts) (expression_code p u t (refs_in_var (names_in p u) v)) (a e.entry.after) (b e.entry.after)
   simple_length e (simple.Goto l) = jump_length e.links.jump
   simple_length e simple.Continue = refl
   simple_length e simple.Return = refl
   simple_length e simple.Stop = refl
-  simple_length e (simple.Call name args) = refl
+  simple_length e (simple.Call name args) = call_length (unit_named p name) (trees_in args) (a e.entry.after) (b e.entry.after)
   simple_length e (simple.Print items) = same_front (items_code p u items 0) (instr.End (end.Print (a e.entry.after)) ∷ []) (instr.End (end.Print (b e.entry.after)) ∷ []) refl
   simple_length e (simple.Write unit items) = same_front (items_code p u items 0) (instr.End (end.Print (a e.entry.after)) ∷ []) (instr.End (end.Print (b e.entry.after)) ∷ []) refl
-  simple_length e (simple.Channel in_first i o) = refl
-  simple_length e (simple.Merger i os) = refl
-  simple_length e (simple.Send named q items) = refl
-  simple_length e (simple.Receive named q extras items) = refl
-  simple_length e (simple.EndChannel named q) = refl
-  simple_length e (simple.MovePort from to) = refl
-  simple_length e (simple.Probe named q empty) = refl
+  simple_length e (simple.Channel in_first i o) = channel_length in_first i o (a e.entry.after) (b e.entry.after)
+  simple_length e (simple.Merger i os) =
+      same_second (var_code p u i 0) (targets_code p u os (refs_in_var (names_in p u) i)) (instr.Meet (meet.Merger (a e.entry.after))) (instr.Meet (meet.Merger (b e.entry.after)))
+  simple_length e (simple.Send named q items) =
+      same_second (var_code p u q 0) (arguments_code p u (trees_from items) (refs_in_var (names_in p u) q)) (instr.Meet (meet.Send (a e.entry.after))) (instr.Meet (meet.Send (b e.entry.after)))
+  simple_length e (simple.Receive named q extras items) =
+      receive_length q extras items (option_map a e.links.jump) (option_map b e.links.jump) (a e.entry.after) (b e.entry.after)
+  simple_length e (simple.EndChannel named q) = same_last (var_code p u q 0) (instr.Meet (meet.EndChannel (a e.entry.after))) (instr.Meet (meet.EndChannel (b e.entry.after)))
+  simple_length e (simple.MovePort from to) =
+      same_second (var_code p u from 0) (var_code p u to (refs_in_var (names_in p u) from)) (instr.Meet (meet.MovePort (a e.entry.after))) (instr.Meet (meet.MovePort (b e.entry.after)))
+  simple_length e (simple.Probe named q empty) =
+      same_second (var_code p u q 0) (var_code p u empty (refs_in_var (names_in p u) q)) (instr.Meet (meet.Probe (a e.entry.after))) (instr.Meet (meet.Probe (b e.entry.after)))
 
   test_length : (e : Point) (before : List Instr) → length (before ++ instr.End (end.Test (a e.entry.after) (a e.links.other)) ∷ []) ≡ length (before ++ instr.End (end.Test (b e.entry.after) (b e.links.other)) ∷ [])
   test_length e before = same_front before (instr.End (end.Test (a e.entry.after) (a e.links.other)) ∷ []) (instr.End (end.Test (b e.entry.after) (b e.links.other)) ∷ []) refl
@@ -211,26 +306,33 @@ module _ (p : Program) (u : ProgramUnit) (a b : Addresses) where
   enter_length : (e : Point) (h : LoopHead) (n : ℕ) → length (do_code p u h n (a e.entry.after) (a e.links.other)) ≡ length (do_code p u h n (b e.entry.after) (b e.links.other))
   enter_length e h n = same_front (bounds_code p u h) (loop_code u n h.variable ∷ instr.End (end.Enter (a e.entry.after) (a e.links.other)) ∷ []) (loop_code u n h.variable ∷ instr.End (end.Enter (b e.entry.after) (b e.links.other)) ∷ []) refl
 
-  statement_length : (k : ℕ) (e : Point) (s : Stmt) → length (statement_code p u a k e s) ≡ length (statement_code p u b k e s)
-  statement_length k e (stmt.Simple s) = simple_length e s
-  statement_length k e (stmt.LogicalIf t s) = test_length e (expression_code p u t 0)
-  statement_length k e (stmt.BlockIf t) = test_length e (expression_code p u t 0)
-  statement_length k e (stmt.ElseIf t) = test_length e (expression_code p u t 0)
-  statement_length k e stmt.Else = refl
-  statement_length k e stmt.EndIf = refl
-  statement_length k e (stmt.Do h) = enter_length e h (loop_number u.tree.body k)
-  statement_length k e (stmt.ProcessDo h) = enter_length e h (loop_number u.tree.body k)
-  statement_length k e (stmt.DoWhile t) = test_length e (expression_code p u t 0)
-  statement_length k e stmt.EndDo = loop_end_length (a e.entry.after) (b e.entry.after) e.entry.mate
-  statement_length k e stmt.EndProcessDo = loop_end_length (a e.entry.after) (b e.entry.after) e.entry.mate
-  statement_length k e stmt.LoopEnd = loop_end_length (a e.entry.after) (b e.entry.after) e.entry.mate
-  statement_length k e s = refl
+  statement_length : (m n k : ℕ) (e : Point) (s : Stmt) → length (statement_code p u a m k e s) ≡ length (statement_code p u b n k e s)
+  statement_length m n k e (stmt.Simple s) = simple_length e s
+  statement_length m n k e (stmt.LogicalIf t s) = test_length e (expression_code p u t 0)
+  statement_length m n k e (stmt.BlockIf t) = test_length e (expression_code p u t 0)
+  statement_length m n k e (stmt.ElseIf t) = test_length e (expression_code p u t 0)
+  statement_length m n k e stmt.Else = refl
+  statement_length m n k e stmt.EndIf = refl
+  statement_length m n k e (stmt.Do h) = enter_length e h (loop_number u.tree.body k)
+  statement_length m n k e (stmt.ProcessDo h) = enter_length e h (loop_number u.tree.body k)
+  statement_length m n k e (stmt.DoWhile t) = test_length e (expression_code p u t 0)
+  statement_length m n k e stmt.EndDo = loop_end_length (a e.entry.after) (b e.entry.after) e.entry.mate
+  statement_length m n k e stmt.EndProcessDo = loop_end_length (a e.entry.after) (b e.entry.after) e.entry.mate
+  statement_length m n k e stmt.LoopEnd = loop_end_length (a e.entry.after) (b e.entry.after) e.entry.mate
+  statement_length m n k e (stmt.ProcessCall name part) = start_length (unit_named p name) part (a e.entry.after) (b e.entry.after)
+  statement_length m n k e s = refl
 
   entry_length : (k : ℕ) (o : Option Point) → length (entry_code p u a k o) ≡ length (entry_code p u b k o)
   entry_length k None = refl
-  entry_length k (Some e) = statement_length k e e.entry.stmt
+  entry_length k (Some e) =
+      let refs = e.entry.refs in
+      let mine = a k + references_length p u e.entry (length refs) in
+      let theirs = b k + references_length p u e.entry (length refs) in
+      length-append (references_code p u e.entry.stmt (a k) 0 refs) (statement_code p u a mine k e e.entry.stmt)
+      ∙ (λ i. references_same p u e.entry.stmt (a k) (b k) 0 refs i + statement_length mine theirs k e e.entry.stmt i)
+      ∙ sym (length-append (references_code p u e.entry.stmt (b k) 0 refs) (statement_code p u b theirs k e e.entry.stmt))
 
-  entries_length : (k : ℕ) → length (entries_code p u a k) ≡ length (entries_code p u b k)
+  pub entries_length : (k : ℕ) → length (entries_code p u a k) ≡ length (entries_code p u b k)
   entries_length zero = refl
   entries_length (suc k) =
       length-append (entries_code p u a k) (entry_code p u a k (point_at u k))
@@ -305,7 +407,7 @@ module _ (p : Program) (u : ProgramUnit) where
   second_pass a b code starts none c s e = e ∙ (λ i. address_in (s i) (length (c i))) ∙ table_is a none
 
   -- what stands at an entry's address
-  standing : (a : Addresses) (n k : ℕ) → k < n → (rest : List Instr) × (entries_code p u a n ≡ entries_code p u a k ++ (entry_code p u a k (point_at u k) ++ rest))
+  pub standing : (a : Addresses) (n k : ℕ) → k < n → (rest : List Instr) × (entries_code p u a n ≡ entries_code p u a k ++ (entry_code p u a k (point_at u k) ++ rest))
   standing a zero k less = absurd (omega (arith, less))
   standing a (suc n) k less = ⊎_elim
       (λ (l : k < n).

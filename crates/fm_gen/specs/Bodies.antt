@@ -1,80 +1,92 @@
 -- How a body stands for a process, and what it means that it does what the process does.
 -- Source: this profile.
-use Rattle.std.specs.Prelude.{◌≡◌, ◌≤◌, ℕ, ℤ, Some, List, [], ◌∷◌, length}
+use Rattle.std.specs.Prelude.{◌≡◌, ℕ, ℤ, Some, List, ◌∷◌, length, map}
+use Rattle.fm_tree.specs.declared.statement.Stmt.TheVariants as stmt
 use Rattle.fm_rules.specs.declared.program.Program.{Program}
-use Rattle.fm_mean.specs.Names.{ProgramUnit, Point, unit_at, point_at}
+use Rattle.fm_mean.specs.Names.{ProgramUnit, Point, point_at}
 use Rattle.fm_mean.specs.Process as mean
-use Rattle.fm_mean.specs.Process.{Execution, Running, Proc}
+use Rattle.fm_mean.specs.Process.{Execution, Kid, Phase, Running, Joining, Ended, Faulted, Proc}
 use Rattle.fm_mean.specs.Fits.{Types, IsFine}
 use Rattle.fm_mean.specs.Actions as mean_actions
-use Rattle.fm_mean.specs.Actions.{Rest, Meets, End, fails, gone_on}
+use Rattle.fm_mean.specs.Actions.{Rest, Meets, Join, fails, gone_on}
 use Rattle.fm_code.specs.declared.ask.Ask.{Ask}
 use Rattle.fm_code.specs.declared.ask.Ask.TheVariants as ask
 use Rattle.fm_code.specs.declared.body.Body.{Body}
 use Rattle.fm_code.specs.declared.code.Code.{Code}
 use Rattle.fm_code.specs.Statements as code_actions
-use Rattle.fm_gen.specs.Standing.{Slots}
-use Rattle.fm_gen.specs.Statements.{address_of}
-use Rattle.fm_gen.specs.Forms.{HasCode}
-use Rattle.fm_gen.specs.Steps.{Stands, LeavesFrame, LeavesCode}
+use Rattle.fm_standing.specs.Standing.{Slots}
+use Rattle.fm_standing.specs.Frames.{FrameStands, BelowStand}
+use Rattle.fm_gen.specs.Entries.{address_of, statement_address, join_address}
+use Rattle.fm_executable.specs.Steps.{AsksAlike}
+use Rattle.fm_gen.specs.Kept.{site_at}
 
--- A body of this code stands for a running process by its innermost frame, which is at the address of the process's entry.
+-- where the next statement of a process is: at its entry, or at the join of its block
+abbrev pub next_address : Program → Phase → mean.Frame → ProgramUnit → ℕ
+next_address p Running f u = statement_address p u f.entry (length f.results)
+next_address p (Joining block kids) f u = join_address p u f.entry
+next_address p Ended f u = 0
+next_address p (Faulted line fault) f u = 0
+
+-- a process that joins is at the end of a block
+pub record EndsBlock (u : ProgramUnit) (f : mean.Frame) : Type 0 where
+  pub point : Point
+  pub at : point_at u f.entry ≡ Some point
+  pub is : point.entry.stmt ≡ stmt.EndProcesses
+
+-- a process that has more to do
+abbrev pub IsAlive : Phase → ProgramUnit → mean.Frame → Type 0
+IsAlive Running u f = Unit {0}
+IsAlive (Joining block kids) u f = EndsBlock u f
+IsAlive Ended u f = ⊥
+IsAlive (Faulted line fault) u f = ⊥
+
+-- A body of this code stands for a process that has more to do, frame by frame.
 pub record StandsFor (p : Program) (code : Code) (slots : Slots) (x : Proc) (b : Body) : Type 0 where
-  pub runs : x.phase ≡ Running
   pub frame : mean.Frame
   pub below : List mean.Frame
   pub frames : x.execution.frames ≡ frame ∷ below
-  pub unit : ProgramUnit
-  pub there : unit_at p frame.unit ≡ Some unit
   pub loaded : b.code ≡ code
-  pub number : b.frame.unit ≡ frame.unit
-  pub address : b.frame.address ≡ address_of p unit frame.entry
-  pub stands : Stands unit slots frame b.frame
-  pub words : length b.frame.words ≤ 4294967296
+  pub machine : b.machine ≡ x.execution.machine
+  pub node : b.node ≡ x.execution.node
+  pub first : FrameStands p slots (next_address p x.phase frame) frame b.frame
+  pub others : BelowStand p (statement_address p) slots frame b.frame below b.below
+  pub alive : IsAlive x.phase first.unit frame
 
--- Two bodies, of which each stands for a process: the later ones differ from the earlier ones in the entry, the values, the
--- loops and the results of the innermost frame, and in what was put out.
-pub record LeavesOthers (p : Program) (code : Code) (slots : Slots) (x : Proc) (b : Body) (y : Proc) (c : Body) (s : StandsFor p code slots x b) (t : StandsFor p code slots y c) : Type 0 where
-  pub frame : LeavesFrame s.frame t.frame
-  pub below : t.below ≡ s.below
-  pub machine : y.execution.machine ≡ x.execution.machine
-  pub node : y.execution.node ≡ x.execution.node
-  pub code_frame : LeavesCode b.frame c.frame
-  pub code_below : c.below ≡ b.below
-  pub code_machine : c.machine ≡ b.machine
-  pub code_node : c.node ≡ b.node
-
--- A step of the process alone that lets nothing go: of the same lines and cost, and the body after it stands for the process
--- after it.
-pub record StepsAlike (p : Program) (code : Code) (slots : Slots) (x : Proc) (b : Body) (s : StandsFor p code slots x b) (after : Body) (lines : List (List ℕ)) (drops : List ℤ) (cost : ℕ) (a : mean_actions.Action) : Type 0 where
+-- A step of the process alone: of the same lines, ports let go and cost, and the body after it stands for the process after it.
+pub record StepsAlike (p : Program) (code : Code) (slots : Slots) (x : Proc) (after : Body) (lines : List (List ℕ)) (drops : List ℤ) (cost : ℕ) (a : mean_actions.Action) : Type 0 where
   pub execution : Execution
-  pub does : a ≡ mean_actions.Own execution lines [] cost
-  pub none : drops ≡ []
+  pub does : a ≡ mean_actions.Own execution lines (map slots drops) cost
   pub stands : StandsFor p code slots (gone_on x execution lines) after
-  pub others : LeavesOthers p code slots x b (gone_on x execution lines) after s stands
 
--- both ask for the end, or meet the same fault at the same line
-abbrev pub MeetsAlike : Ask → mean_actions.Action → Type 0
-MeetsAlike (ask.Fail line fault) a = a ≡ fails line.0 fault
-MeetsAlike (ask.LetGo slots) a = ⊥
-MeetsAlike (ask.Channel inport outport next) a = ⊥
-MeetsAlike (ask.Merger inport outports next) a = ⊥
-MeetsAlike (ask.Send slot items next) a = ⊥
-MeetsAlike (ask.Receive slot items status at_end next) a = ⊥
-MeetsAlike (ask.Probe slot empty next) a = ⊥
-MeetsAlike (ask.Begin next) a = ⊥
-MeetsAlike (ask.Join next) a = ⊥
-MeetsAlike ask.End a = a ≡ Meets End
+-- both ask for the join of a block, and go on at one entry
+pub record JoinsAlike (p : Program) (u : ProgramUnit) (next : ℕ) (a : mean_actions.Action) : Type 0 where
+  pub block : ℕ
+  pub kids : List Kid
+  pub entry : ℕ
+  pub does : a ≡ Meets (Join block kids entry)
+  pub leads : next ≡ address_of p u entry
+
+-- both ask for the same, or meet the same fault at the same line
+abbrev pub MeetsAlike : (p : Program) (code : Code) (slots : Slots) (x : Proc) (b : Body) (s : StandsFor p code slots x b) (e : Point) → Ask → mean_actions.Action → Type 0
+MeetsAlike p code slots x b s e (ask.Fail line fault) a = a ≡ fails line.0 fault
+MeetsAlike p code slots x b s e (ask.LetGo dropped) a = ⊥
+MeetsAlike p code slots x b s e (ask.Channel inport outport next) a = AsksAlike (site_at p s.first.unit slots x.execution e s.frame s.below b.frame) (ask.Channel inport outport next) a
+MeetsAlike p code slots x b s e (ask.Merger inport outports next) a = AsksAlike (site_at p s.first.unit slots x.execution e s.frame s.below b.frame) (ask.Merger inport outports next) a
+MeetsAlike p code slots x b s e (ask.Send slot items next) a = AsksAlike (site_at p s.first.unit slots x.execution e s.frame s.below b.frame) (ask.Send slot items next) a
+MeetsAlike p code slots x b s e (ask.Receive slot items status at_end next) a = AsksAlike (site_at p s.first.unit slots x.execution e s.frame s.below b.frame) (ask.Receive slot items status at_end next) a
+MeetsAlike p code slots x b s e (ask.Probe slot empty next) a = AsksAlike (site_at p s.first.unit slots x.execution e s.frame s.below b.frame) (ask.Probe slot empty next) a
+MeetsAlike p code slots x b s e (ask.Begin next) a = AsksAlike (site_at p s.first.unit slots x.execution e s.frame s.below b.frame) (ask.Begin next) a
+MeetsAlike p code slots x b s e (ask.Join next) a = JoinsAlike p s.first.unit next a
+MeetsAlike p code slots x b s e ask.End a = a ≡ Meets mean_actions.End
 
 -- a body that stands for a process does what the process does
-abbrev pub DoesAlike : (p : Program) (code : Code) (slots : Slots) (x : Proc) (b : Body) → StandsFor p code slots x b → code_actions.Action → mean_actions.Action → Type 0
-DoesAlike p code slots x b s code_actions.Stuck a = a ≡ Rest
-DoesAlike p code slots x b s (code_actions.Own after lines drops cost) a = StepsAlike p code slots x b s after lines drops cost a
-DoesAlike p code slots x b s (code_actions.Meets k) a = MeetsAlike k a
+abbrev pub DoesAlike : (p : Program) (code : Code) (slots : Slots) (x : Proc) (b : Body) (s : StandsFor p code slots x b) (e : Point) → code_actions.Action → mean_actions.Action → Type 0
+DoesAlike p code slots x b s e code_actions.Stuck a = a ≡ Rest
+DoesAlike p code slots x b s e (code_actions.Own after lines drops cost) a = StepsAlike p code slots x after lines drops cost a
+DoesAlike p code slots x b s e (code_actions.Meets k) a = MeetsAlike p code slots x b s e k a
 
--- Each body that stands for a process whose values are of their types, at an entry that has its code, does what the process
--- does next.
+-- Each body that stands for a process whose values are of their types does what the process does next.
 abbrev pub KeepsProgram : Program → Code → Type 0
 KeepsProgram p code = (types : Types) (slots : Slots) (x : Proc) → IsFine p types x → (b : Body) (s : StandsFor p code slots x b)
-    → (e : Point) → point_at s.unit s.frame.entry ≡ Some e → HasCode p s.unit e.entry
-    → DoesAlike p code slots x b s (code_actions.action_of b) (mean_actions.action_of p x)
+    → (e : Point) → point_at s.first.unit s.frame.entry ≡ Some e
+    → DoesAlike p code slots x b s e (code_actions.action_of b) (mean_actions.action_of p x)

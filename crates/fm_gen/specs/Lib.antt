@@ -1,11 +1,5 @@
-pub mod Standing
-pub mod Code
-pub mod Keeps
-pub mod References
-pub mod Statements
-pub mod Steps
-pub mod Forms
-pub mod Tables
+pub mod Entries
+pub mod Kept
 pub mod Units
 pub mod Programs
 pub mod Bodies

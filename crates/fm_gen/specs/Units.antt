@@ -1,34 +1,17 @@
 -- What code tells of a unit besides its instructions: where its statements begin, and what is in the words of its frame.
 -- Source: this profile.
-use Rattle.std.specs.Prelude.{◌≡◌, ◌<◌, ℕ, suc, not, cond, Some, List, [], ◌∷◌, length}
+use Rattle.std.specs.Prelude.{◌≡◌, ◌<◌, ℕ, suc, Some, List, [], ◌∷◌, length}
 use Rattle.fm_tree.specs.declared.program_unit.Entry as tree
-use Rattle.fm_symbols.specs.declared.names.Variable.{Variable}
+use Rattle.fm_tree.specs.declared.statement.Stmt.TheVariants as stmt
 use Rattle.fm_rules.specs.declared.program.Program.{Program}
 use Rattle.fm_mean.specs.Names.{ProgramUnit, Point, point_at, line_of}
-use Rattle.fm_mean.specs.Calls.{is_formal}
 use Rattle.fm_code.specs.declared.code.Entry.{Entry}
-use Rattle.fm_code.specs.declared.code.Formal.{Formal}
-use Rattle.fm_code.specs.declared.code.Span.{Span}
 use Rattle.fm_code.specs.declared.code.Unit as code
 use Rattle.fm_code.specs.Statements.{line_at}
-use Rattle.fm_gen.specs.Statements.{Addresses, is_word, loop_number, address_of, unit_code}
-
--- the words of a variable
-abbrev pub span_of : Variable → Span
-span_of v = record { first = v.first; count = v.words }
-
--- those of all ports, in the order of the variables
-abbrev pub ports_of : List Variable → List Span
-ports_of [] = []
-ports_of (v ∷ vs) = cond (is_word v.kind) (ports_of vs) (span_of v ∷ ports_of vs)
-
-abbrev pub formal_of : Variable → Formal
-formal_of v = record { span = span_of v; port = not (is_word v.kind); input = v.input }
-
--- the formals, in the order of the heading, which is that of the variables
-abbrev pub formals_of : List Variable → List Formal
-formals_of [] = []
-formals_of (v ∷ vs) = cond (is_formal v.formal) (formal_of v ∷ formals_of vs) (formals_of vs)
+use Rattle.fm_executable.specs.Statements.{Addresses}
+use Rattle.fm_gen.specs.Entries.{address_of, join_address, statement_address, unit_code}
+use Rattle.fm_standing.specs.Frames.{loop_number}
+use Rattle.fm_standing.specs.Formals.{ports_of, formals_of}
 
 -- the lines of entries and where they begin; the first one has this number
 abbrev pub entries_at : Addresses → (number : ℕ) → List tree.Entry → List Entry
@@ -51,9 +34,10 @@ unit_of_code p u = record {
   extents = u.names.extents;
 }
 
--- at the address of each entry stands its line
-abbrev pub TellsLines : Program → ProgramUnit → List Entry → Type 0
-TellsLines p u entries = (k : ℕ) (e : Point) → point_at u k ≡ Some e → line_at entries (address_of p u k) ≡ line_of e
+-- at the address of each statement stands the line of its entry, at that of a join the line of the block's end
+pub record TellsLines (p : Program) (u : ProgramUnit) (entries : List Entry) : Type 0 where
+  pub statements : (k : ℕ) (e : Point) → point_at u k ≡ Some e → (n : ℕ) → line_at entries (statement_address p u k n) ≡ line_of e
+  pub joins : (k : ℕ) (e : Point) → point_at u k ≡ Some e → e.entry.stmt ≡ stmt.EndProcesses → line_at entries (join_address p u k) ≡ line_of e
 
 -- the first entry begins at 0, and each one behind the entries before it
 pub record AddressesRise (p : Program) (u : ProgramUnit) : Type 0 where

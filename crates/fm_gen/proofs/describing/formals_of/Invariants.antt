@@ -1,6 +1,10 @@
-use Rattle.std.proofs.Common.{◌≡◌, ◌++◌, drop}
-use Rattle.fm_gen.specs.Units.{formals_of}
+use Rattle.std.proofs.Common.{◌≡◌, ◌++◌, length}
+use Rattle.fm_checked.specs.Sound.{formals_among}
+use Rattle.fm_standing.specs.Formals.{formals_from}
 use Rattle.fm_gen.proofs.describing.formals_of.Given as goal
 
-abbrev pub invariant-variables : goal.invariant-variables
-invariant-variables l = l.formals ++ formals_of (drop l.variable-index l.variables) ≡ formals_of l.variables
+abbrev pub decreases-formals : goal.decreases-formals
+decreases-formals l = l.left
+
+abbrev pub invariant-formals : goal.invariant-formals
+invariant-formals l = l.formals ++ formals_from l.variables l.number l.left ≡ formals_from l.variables 1 (length (formals_among l.variables))

@@ -1,0 +1,13 @@
+pub mod Context
+pub mod Owned
+pub mod Beginning
+pub mod Joins
+pub mod Going
+pub mod Ending
+pub mod Sending
+pub mod Making
+pub mod Receiving
+pub mod Live
+pub mod Meeting
+pub mod Beyond
+pub mod Alike

@@ -1,0 +1,14 @@
+pub mod SomeWords
+pub mod Units
+pub mod Shaped
+pub mod Kept
+pub mod Meant
+pub mod Targets
+pub mod FirstUnits
+pub mod ArrayNames
+pub mod References
+pub mod FormalCounts
+pub mod EntryFlags
+pub mod Counts
+pub mod Entries
+pub mod Numbered

@@ -1,0 +1,10 @@
+pub mod Assigned
+pub mod StoreLaws
+pub mod PrintLaws
+pub mod LoopLaws
+pub mod LoopWords
+pub mod PortPlaces
+pub mod PortLaws
+pub mod CallStatements
+pub mod StatementLaws
+pub mod NumberLaws

@@ -1,0 +1,4 @@
+pub mod Statements
+pub mod Steps
+pub mod Asking
+pub mod Tables

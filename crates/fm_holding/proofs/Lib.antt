@@ -1,0 +1,10 @@
+pub mod Slots
+pub mod Exchange
+pub mod Messages
+pub mod Stores
+pub mod Joining
+pub mod PortLists
+pub mod Same
+pub mod Overlaid
+pub mod Kept
+pub mod Children

@@ -1,0 +1,10 @@
+pub mod FrameWords
+pub mod Writes
+pub mod Spans
+pub mod Passing
+pub mod PortWords
+pub mod Held
+pub mod GivenWords
+pub mod Giving
+pub mod Done
+pub mod Actuals
