@@ -8,11 +8,11 @@ use Rattle.fm_net.proofs.Correspondences.{alike}
 use Rattle.fm_rules.specs.declared.program.Program.{Program}
 use Rattle.fm_mean.specs.Names.{Point, point_at}
 use Rattle.fm_mean.specs.Process as mean
-use Rattle.fm_mean.specs.Process.{Running, Joining, Ended, Faulted, Proc, held}
+use Rattle.fm_mean.specs.Process.{Running, Joining, Ended, Faulted, Proc}
 use Rattle.fm_mean.specs.Calls.{variables_in}
 use Rattle.fm_mean.specs.Fits.{Types}
 use Rattle.fm_mean.specs.Actions as mean_actions
-use Rattle.fm_mean.specs.Actions.{Action, Rest, Meets, Begin, Join, End, fails, running, joining, action_at, action_in, point_action, after_in, after_at}
+use Rattle.fm_mean.specs.Actions.{Action, Meets, Begin, Join, running, joining, action_at, action_in, point_action, after_at}
 use Rattle.fm_mean.specs.Steps.{ask_for, ask, language}
 use Rattle.fm_code.specs.declared.ask.Ask as asked
 use Rattle.fm_code.specs.declared.ask.Ask.TheVariants as ask_of
@@ -28,6 +28,7 @@ use Rattle.fm_gen.proofs.BodyLaws.{keeps_program}
 use Rattle.fm_alike.specs.Corresponds.{KidsStand, PhaseStands, BodyAlike, Corresponds, IsLive, first_variables}
 use Rattle.fm_alike.specs.Here.{Here}
 use Rattle.fm_alike.proofs.Owned.{here_running, here_joining, owned_once}
+use Rattle.fm_alike.proofs.Elsewhere.{sends_from, receives_from, probes_from}
 use Rattle.fm_alike.proofs.Going.{own_alike}
 use Rattle.fm_alike.proofs.Sending.{sends_alike, probes_alike}
 use Rattle.fm_alike.proofs.Making.{channel_alike, merger_alike}
@@ -95,25 +96,25 @@ module _ (p : Program) (s : State Proc) (live : IsLive p s) (q : Place) (x : Pro
           no_join : (a : Action) → mean_actions.action_of p x ≡ a → (block : ℕ) (kids : List mean.Kid) (entry : ℕ) → a ≡ Meets (Join block kids entry) → ⊥
           no_join a does block kids entry joins = may_do p types y x b h phase e at (Meets (Join block kids entry)) (does ∙ joins)
 
-          event_alike : (k : asked.Ask) (a : Action) → mean_actions.action_of p x ≡ a → MeetsAlike p (code_of p) (port_in y.slots) x b h.stands e k a → Both (runs_by y b k) (ask_for p x a)
-          event_alike (ask_of.Fail line fault) a does m = fails_alike p types y x b h phase runs body e at line fault a m (ComesIn (language p) s) q
-          event_alike (ask_of.LetGo slots) a does m = absurd m
-          event_alike (ask_of.Channel inport outport next) a does m = channel_alike p types y x b h phase runs body e at inport outport next a m (ComesIn (language p) s) q
-          event_alike (ask_of.Merger inport outports next) a does m = merger_alike p types y x b h phase runs body e at inport outports next a m (ComesIn (language p) s) q
-          event_alike (ask_of.Send slot items next) a does m = sends_alike p types y x b h phase runs body e at slot items next a m (ComesIn (language p) s) q
-          event_alike (ask_of.Receive slot items status at_end next) a does m =
-              receives_alike p types y x b h phase runs body e at slot items status at_end next a m (ComesIn (language p) s) q (λ d r n comes. message_fits p types s live.typed.1 q d r comes n)
-          event_alike (ask_of.Probe slot empty next) a does m = probes_alike p types y x b h phase runs body e at slot empty next a m (ComesIn (language p) s) q
-          event_alike (ask_of.Begin next) a does m =
+          event_alike : (k : asked.Ask) → code_actions.action_of b ≡ code_actions.Meets k → (a : Action) → mean_actions.action_of p x ≡ a → MeetsAlike p (code_of p) (port_in y.slots) x b h.stands e k a → Both (runs_by y b k) (ask_for p x a)
+          event_alike (ask_of.Fail line fault) told a does m = fails_alike p types y x b h phase runs body e at line fault a m (ComesIn (language p) s) q
+          event_alike (ask_of.LetGo slots) told a does m = absurd m
+          event_alike (ask_of.Channel inport outport next) told a does m = channel_alike p types y x b h phase runs body e at inport outport next a m (ComesIn (language p) s) q
+          event_alike (ask_of.Merger inport outports next) told a does m = merger_alike p types y x b h phase runs body e at inport outports next a m (ComesIn (language p) s) q
+          event_alike (ask_of.Send slot items next) told a does m = sends_alike p types y x b h phase runs body e at slot items next a m (sends_from p types y x b h phase e at slot items next told a does m) (ComesIn (language p) s) q
+          event_alike (ask_of.Receive slot items status at_end next) told a does m =
+              receives_alike p types y x b h phase runs body e at slot items status at_end next a m (receives_from p types y x b h phase e at slot items status at_end next told a does m) (ComesIn (language p) s) q (λ d r n comes. message_fits p types s live.typed.1 q d r comes n)
+          event_alike (ask_of.Probe slot empty next) told a does m = probes_alike p types y x b h phase runs body e at slot empty next a m (probes_from p types y x b h phase e at slot empty next told a does m) (ComesIn (language p) s) q
+          event_alike (ask_of.Begin next) told a does m =
               begins_alike p types y x b h phase runs body e at next a m (may_do p types y x b h phase e at (Meets Begin) (does ∙ m.does)) (ComesIn (language p) s) q
-          event_alike (ask_of.Join next) a does m = absurd (no_join a does m.block m.kids m.entry m.does)
-          event_alike ask_of.End a does m = ends_alike p types y x b h phase runs body e at a m (ComesIn (language p) s) q
+          event_alike (ask_of.Join next) told a does m = absurd (no_join a does m.block m.kids m.entry m.does)
+          event_alike ask_of.End told a does m = ends_alike p types y x b h phase runs body e at a m (ComesIn (language p) s) q
 
           runs_alike : (k : code_actions.Action) → code_actions.action_of b ≡ k → DoesAlike p (code_of p) (port_in y.slots) x b h.stands e k (mean_actions.action_of p x) → Both (running_by y b k) (ask p x)
           runs_alike code_actions.Stuck does m = subst (λ a. Both Stop (ask_for p x a)) (sym m) tt
           runs_alike (code_actions.Own after lines drops cost) does m =
               own_alike p types y x b h phase runs body e at after lines drops cost does (owned_once p s live.owned q x is) (ComesIn (language p) s) q
-          runs_alike (code_actions.Meets k) does m = event_alike k (mean_actions.action_of p x) refl m
+          runs_alike (code_actions.Meets k) does m = event_alike k does (mean_actions.action_of p x) refl m
 
         -- at an entry, or behind the last one
         at_entry_alike : (o : Option Point) → point_at h.stands.first.unit h.stands.frame.entry ≡ o → Both (running_by y b (code_actions.action_of b)) (ask p x)

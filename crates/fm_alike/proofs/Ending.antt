@@ -37,9 +37,9 @@ use Rattle.fm_bodies.specs.Processes as code
 use Rattle.fm_bodies.specs.Processes.{CodeProc, frame_words, body_words, ended_frame, runs_by}
 use Rattle.fm_holding.specs.Holding.{IsHeld, IsOther, AreOnce}
 use Rattle.fm_holding.proofs.Kept.{AreNumbered, code_left, meant_left, kept_alike}
-use Rattle.fm_holding.proofs.PortLists.{IsParted, all_mine, all_first, all_second, other_first, other_second, other_both, once_between}
+use Rattle.fm_holding.proofs.PortLists.{IsParted, all_mine, all_first, all_second, other_first, other_second, other_both, once_first, once_between}
 use Rattle.fm_holding.proofs.Same.{TellsPorts, frame_agrees, frame_held, frame_same}
-use Rattle.fm_holding.proofs.Slots.{all_left_others}
+use Rattle.fm_holding.proofs.Slots.{all_left_others, vacated_held}
 use Rattle.fm_gen.specs.Entries.{statement_address}
 use Rattle.fm_gen.specs.Units.{unit_of_code}
 use Rattle.fm_alike.specs.Corresponds.{Corresponds, PhaseStands, first_variables}
@@ -219,14 +219,19 @@ module _ (p : Program) (types : Types) (y : CodeProc) (x : Proc) (b : Body) (h :
   abbrev last_body : Body
   last_body = record b { frame = last.0; below = [] }
 
+  -- what stays and what is let go names slots in use, each one once
+  parts_held : AllIn (IsHeld y.slots) last.1 × AllIn (IsHeld y.slots) (frame_words b last.0)
+  parts_held = ends.parted.0 (IsHeld y.slots) h.held
+
+  parts_once : AreOnce (last.1 ++ frame_words b last.0)
+  parts_once =
+      subst (λ l. AreOnce (last.1 ++ l)) (append-nil (frame_words b last.0)) (ends.parted.1 [] (subst AreOnce (sym (append-nil (body_words b))) h.once))
+
   end_stands : Corresponds p (code.ended y b).self (mean_steps.ended p x).self
   end_stands =
       let e = ends in
       let words = frame_words b last.0 in
-      let held = e.parted.0 (IsHeld y.slots) h.held in
-      let once : AreOnce (last.1 ++ words) =
-      subst (λ l. AreOnce (last.1 ++ l)) (append-nil words) (e.parted.1 [] (subst AreOnce (sym (append-nil (body_words b))) h.once)) in
-      let left = all_left_others y.slots last.1 words h.slots (both_all (IsHeld y.slots) last.1 words held.0 held.1) once in
+      let left = all_left_others y.slots last.1 words h.slots (both_all (IsHeld y.slots) last.1 words parts_held.0 parts_held.1) parts_once in
       record {
         phase = tt;
         lines = h.lines;
@@ -253,7 +258,7 @@ module _ (p : Program) (types : Types) (y : CodeProc) (x : Proc) (b : Body) (h :
     self = end_stands;
     block = h.next_block;
     starts = tt;
-    drops = ends.drops ∙ ap (λ fs. (ended_frames p fs).1) (sym h.stands.frames);
+    drops = vacated_held y.slots last.1 parts_held.0 (once_first last.1 (frame_words b last.0) parts_once) ∙ ends.drops ∙ ap (λ fs. (ended_frames p fs).1) (sym h.stands.frames);
     cost = refl;
   }
 

@@ -1,10 +1,8 @@
 -- Steps of a process alone: the body after the step names slots in use, each one once, and so it stands under the slots that stay.
-use Rattle.std.proofs.Common.{◌≡◌, ℕ, zero, suc, ◌+◌, ◌≤◌, ℤ, pos, negsuc, Bool, true, false, Option, Some, None, List, [], ◌∷◌, ◌++◌, map, slice_get, refl, sym, ap, subst, ◌∙◌, arith}
-use Rattle.std.specs.List.{flat_map}
+use Rattle.std.proofs.Common.{◌≡◌, ℕ, ◌+◌, ◌≤◌, ℤ, Some, List, [], ◌∷◌, ◌++◌, map, refl, sym, ap, subst, ◌∙◌, arith}
 use Rattle.std.proofs.lemmas.List.{map-append}
 use Rattle.fm_base.specs.declared.path.ChanName.{ChanName}
 use Rattle.fm_base.specs.declared.port.PortValue.{PortValue}
-use Rattle.fm_base.specs.declared.port.PortValue.TheVariants.{Writer, Reader}
 use Rattle.fm_net.specs.Machine.{Place, Need, Reply, Nothing, reply_with}
 use Rattle.fm_net.specs.Typed.{AllIn}
 use Rattle.fm_net.specs.Owned.{one, count}
@@ -13,8 +11,7 @@ use Rattle.fm_net.specs.Correspondence.{AsksCorrespond}
 use Rattle.fm_net.proofs.Counts.{one_self, count-nil, count-cons, count-append}
 use Rattle.fm_symbols.specs.declared.names.Variable.{Variable}
 use Rattle.fm_rules.specs.declared.program.Program.{Program}
-use Rattle.fm_mean.specs.Names.{ProgramUnit, Point, unit_at, point_at}
-use Rattle.fm_mean.specs.Process as mean
+use Rattle.fm_mean.specs.Names.{ProgramUnit, Point, point_at}
 use Rattle.fm_mean.specs.Process.{Execution, Phase, Running, Proc, frames_ports, held}
 use Rattle.fm_mean.specs.Fits.{Types}
 use Rattle.fm_mean.specs.Actions as mean_actions
@@ -25,85 +22,23 @@ use Rattle.fm_mean.proofs.Lawful.{lawful}
 use Rattle.fm_code.specs.declared.body.Body.{Body}
 use Rattle.fm_code.specs.Statements as code_actions
 use Rattle.fm_bodies.specs.Slots as by_slots
-use Rattle.fm_bodies.specs.Slots.{port_in, all_left}
+use Rattle.fm_bodies.specs.Slots.{port_in, all_left, vacated}
 use Rattle.fm_bodies.specs.Processes as code
-use Rattle.fm_bodies.specs.Processes.{CodeProc, frame_words, body_words, running_by}
+use Rattle.fm_bodies.specs.Processes.{CodeProc, body_words, running_by}
 use Rattle.fm_standing.specs.Standing.{Slots}
 use Rattle.fm_standing.specs.Frames.{FrameStands}
 use Rattle.fm_gen.specs.Entries.{statement_address}
 use Rattle.fm_gen.specs.Programs.{code_of}
-use Rattle.fm_gen.specs.Bodies.{next_address, IsAlive, StandsFor, StepsAlike, DoesAlike}
-use Rattle.fm_gen.proofs.StandLaws.{unit_found}
+use Rattle.fm_gen.specs.Bodies.{next_address, StandsFor, StepsAlike, DoesAlike}
 use Rattle.fm_gen.proofs.BodyLaws.{keeps_program}
 use Rattle.fm_holding.specs.Holding.{IsHeld, IsSlots, IsOther, AreOnce, NameTheSame}
-use Rattle.fm_holding.proofs.Slots.{all_left_others}
-use Rattle.fm_holding.proofs.PortLists.{all_first, all_second, all_of}
-use Rattle.fm_holding.proofs.Same.{AgreeOn, TellsPorts, frame_same, below_same, frame_agrees, frames_agree, frames_held}
+use Rattle.fm_holding.proofs.Slots.{all_left_others, vacated_held}
+use Rattle.fm_holding.proofs.PortLists.{all_first, once_first}
+use Rattle.fm_holding.proofs.Same.{frames_held}
 use Rattle.fm_alike.specs.Corresponds.{first_variables, PhaseStands, frame_address, EndsWhereJoining, BodyStands, Corresponds}
 use Rattle.fm_alike.specs.Here.{Here}
-
--- Ports elsewhere.
-
--- another port than this one
-abbrev other_port : PortValue → PortValue
-other_port (Writer c w) = Reader c
-other_port (Reader c) = Writer c 0
-
-is_other_port : (v : PortValue) → other_port v ≡ v → ⊥
-is_other_port (Writer c w) e = cc
-is_other_port (Reader c) e = cc
-
--- whether a port stands in the slot that the word names
-abbrev has_port : Option (Option PortValue) → Bool
-has_port None = false
-has_port (Some None) = false
-has_port (Some (Some v)) = true
-
-abbrev in_use : by_slots.Slots → ℤ → Bool
-in_use s (pos zero) = false
-in_use s (pos (suc k)) = has_port (slice_get s.ports k)
-in_use s (negsuc k) = false
-
-held_in_use : (s : by_slots.Slots) (z : ℤ) → IsHeld s z → in_use s z ≡ true
-held_in_use s z h = ap (in_use s) h.number ∙ ap has_port h.there
-
-slot_held : (s : by_slots.Slots) (k : ℕ) (o : Option (Option PortValue)) → slice_get s.ports k ≡ o → has_port o ≡ true → IsHeld s (pos (suc k))
-slot_held s k None e h = absurd (cc)
-slot_held s k (Some None) e h = absurd (cc)
-slot_held s k (Some (Some v)) e h = record { before = k; port = v; number = refl; there = e }
-
-in_use_held : (s : by_slots.Slots) (z : ℤ) → in_use s z ≡ true → IsHeld s z
-in_use_held s (pos zero) h = absurd (cc)
-in_use_held s (pos (suc k)) h = slot_held s k (slice_get s.ports k) refl h
-in_use_held s (negsuc k) h = absurd (cc)
-
-abbrev kept_or_other : Bool → PortValue → PortValue
-kept_or_other true v = v
-kept_or_other false v = other_port v
-
--- the same ports where words name slots in use, and others everywhere else
-abbrev elsewhere : by_slots.Slots → Slots
-elsewhere s z = kept_or_other (in_use s z) (port_in s z)
-
-same_where_held : (s : by_slots.Slots) (z : ℤ) → IsHeld s z → elsewhere s z ≡ port_in s z
-same_where_held s z h = ap (λ b. kept_or_other b (port_in s z)) (held_in_use s z h)
-
--- what names the same port under both names a slot in use
-held_where_same : (s : by_slots.Slots) (z : ℤ) → port_in s z ≡ elsewhere s z → IsHeld s z
-held_where_same s z same = go (in_use s z) refl same
-  where
-    go : (b : Bool) → in_use s z ≡ b → port_in s z ≡ kept_or_other b (port_in s z) → IsHeld s z
-    go true e h = in_use_held s z e
-    go false e h = absurd (is_other_port (port_in s z) (sym h))
-
-first_same : (v w : PortValue) (vs ws : List PortValue) → v ∷ vs ≡ w ∷ ws → (v ≡ w) × (vs ≡ ws)
-first_same v w vs ws e = (cc, cc)
-
-all_held : (s : by_slots.Slots) (zs : List ℤ) → map (port_in s) zs ≡ map (elsewhere s) zs → AllIn (IsHeld s) zs
-all_held s [] e = tt
-all_held s (z ∷ zs) e =
-    let parts = first_same (port_in s z) (elsewhere s z) (map (port_in s) zs) (map (elsewhere s) zs) e in
-    (held_where_same s z parts.0, all_held s zs parts.1)
+use Rattle.fm_alike.proofs.Context.{tells_ports}
+use Rattle.fm_alike.proofs.Elsewhere.{elsewhere, all_held, stands_same, stands_elsewhere, does_elsewhere}
 
 -- Words whose ports stand once.
 
@@ -120,45 +55,6 @@ once_by_count f (z ∷ zs) few = (
   other_by_count f z zs (omega (arith, few (f z), count-cons (f z) (f z) (map f zs), one_self (f z))),
   once_by_count f zs (λ v. omega (arith, few v, count-cons v (f z) (map f zs))),
 )
-
--- The body under other ports.
-
-same_unit : (u v : ProgramUnit) → Some u ≡ Some v → u ≡ v
-same_unit u v e = cc
-
-tells_ports : (p : Program) (b : Body) → b.code ≡ code_of p → TellsPorts p b
-tells_ports p b loaded n u there = ap code_actions.ports_of (unit_found p b loaded n u there)
-
--- a body stands for the same under ports that agree on its words
-stands_same : (p : Program) (f g : Slots) (x : Proc) (b : Body) → x.phase ≡ Running → StandsFor p (code_of p) f x b → AgreeOn f g (body_words b) → StandsFor p (code_of p) g x b
-stands_same p f g x b running s same =
-    let tells = tells_ports p b s.loaded in
-    let top = all_first (λ z. g z ≡ f z) (frame_words b b.frame) (flat_map (frame_words b) b.below) same in
-    let rest = all_second (λ z. g z ≡ f z) (frame_words b b.frame) (flat_map (frame_words b) b.below) same in
-    let first = frame_same p f g (next_address p x.phase s.frame) s.frame b.frame s.first (frame_agrees p f g b tells b.frame top) in
-    record {
-      frame = s.frame;
-      below = s.below;
-      frames = s.frames;
-      loaded = s.loaded;
-      machine = s.machine;
-      node = s.node;
-      first = first;
-      others = below_same p (statement_address p) f g s.frame b.frame s.below b.below s.others (frames_agree p f g b tells b.below rest);
-      alive = subst (λ h. IsAlive h first.unit s.frame) (sym running) tt;
-    }
-
-same_frame : (f g : mean.Frame) (fs gs : List mean.Frame) → f ∷ fs ≡ g ∷ gs → f ≡ g
-same_frame f g fs gs e = cc
-
-same_point : (p : Program) (u v : ProgramUnit) (f g : mean.Frame) → f ≡ g → unit_at p f.unit ≡ Some u → unit_at p g.unit ≡ Some v → point_at v g.entry ≡ point_at u f.entry
-same_point p u v f g same here there =
-    let units : u ≡ v = same_unit u v (sym here ∙ ap (λ (k : mean.Frame). unit_at p k.unit) same ∙ there) in
-    λ i. point_at (sym units i) ((sym same i).entry)
-
--- what stands for the same process is at the same entry
-stands_there : (p : Program) (f g : Slots) (x : Proc) (b : Body) (s : StandsFor p (code_of p) f x b) (t : StandsFor p (code_of p) g x b) → point_at t.first.unit t.frame.entry ≡ point_at s.first.unit s.frame.entry
-stands_there p f g x b s t = same_point p s.first.unit t.first.unit s.frame t.frame (same_frame s.frame t.frame s.below t.below (sym s.frames ∙ t.frames)) s.first.there t.first.there
 
 -- the ports of its words are those that the process holds
 words_held : (p : Program) (slots : Slots) (x : Proc) (b : Body) → StandsFor p (code_of p) slots x b → map slots (body_words b) ≡ held x
@@ -266,34 +162,27 @@ goes_then p types y x b h running runs after lines drops w is stands = record {
     phases q r e k mine = subst (λ o. PhaseStands p mine o r) (sym e) (subst (PhaseStands p mine Running) (sym k) tt)
 
 asks_then : (p : Program) (y : CodeProc) (x : Proc) (b after : Body) (lines : List (List ℕ)) (drops : List ℤ) (cost : ℕ) (w : Execution) → y.next_block ≡ x.next_block
-    → Corresponds p (code.gone_on y after lines drops) (gone_on x w lines) → (Comes : Place → Need → Reply Proc → Type 0) (q : Place)
+    → vacated y.slots drops ≡ map (port_in y.slots) drops → Corresponds p (code.gone_on y after lines drops) (gone_on x w lines) → (Comes : Place → Need → Reply Proc → Type 0) (q : Place)
     → AsksCorrespond (Corresponds p) Comes q (running_by y b (code_actions.Own after lines drops cost)) (ask_for p x (mean_actions.Own w lines (map (port_in y.slots) drops) cost))
-asks_then p y x b after lines drops cost w block self Comes q = (refl, λ u r comes replies. record { self = self; block = block; starts = tt; drops = refl; cost = refl })
+asks_then p y x b after lines drops cost w block gone self Comes q = (refl, λ u r comes replies. record { self = self; block = block; starts = tt; drops = gone; cost = refl })
 
 module _ (p : Program) (types : Types) (y : CodeProc) (x : Proc) (b : Body) (h : Here p types y x b) (running : x.phase ≡ Running) (runs : y.phase ≡ code.Running)
     (e : Point) (at : point_at h.stands.first.unit h.stands.frame.entry ≡ Some e)
     (after : Body) (lines : List (List ℕ)) (drops : List ℤ) (cost : ℕ) (does : code_actions.action_of b ≡ code_actions.Own after lines drops cost) where
-  steps_by : (f : Slots) (s : StandsFor p (code_of p) f x b) → point_at s.first.unit s.frame.entry ≡ Some e → StepsAlike p (code_of p) f x after lines drops cost (mean_actions.action_of p x)
-  steps_by f s there = subst (λ a. DoesAlike p (code_of p) f x b s e a (mean_actions.action_of p x)) does (keeps_program p types f x h.fine b s e there)
-
   steps : StepsAlike p (code_of p) (port_in y.slots) x after lines drops cost (mean_actions.action_of p x)
-  steps = steps_by (port_in y.slots) h.stands at
-
-  agrees : AgreeOn (port_in y.slots) (elsewhere y.slots) (body_words b)
-  agrees = all_of (IsHeld y.slots) (λ z. elsewhere y.slots z ≡ port_in y.slots z) (same_where_held y.slots) (body_words b) h.held
-
-  stands_elsewhere : StandsFor p (code_of p) (elsewhere y.slots) x b
-  stands_elsewhere = stands_same p (port_in y.slots) (elsewhere y.slots) x b running h.stands agrees
+  steps = subst (λ a. DoesAlike p (code_of p) (port_in y.slots) x b h.stands e a (mean_actions.action_of p x)) does (keeps_program p types (port_in y.slots) x h.fine b h.stands e at)
 
   steps_elsewhere : StepsAlike p (code_of p) (elsewhere y.slots) x after lines drops cost (mean_actions.action_of p x)
-  steps_elsewhere = steps_by (elsewhere y.slots) stands_elsewhere (stands_there p (port_in y.slots) (elsewhere y.slots) x b h.stands stands_elsewhere ∙ at)
+  steps_elsewhere = subst (λ a. DoesAlike p (code_of p) (elsewhere y.slots) x b (stands_elsewhere p types y x b h running) e a (mean_actions.action_of p x)) does (does_elsewhere p types y x b h running e at)
 
   own_by : ((v : PortValue) → count v (held x) ≤ 1) → (Comes : Place → Need → Reply Proc → Type 0) (q : Place)
       → AsksCorrespond (Corresponds p) Comes q (running_by y b (code_actions.Own after lines drops cost)) (ask p x)
   own_by few Comes q =
-      let then = stands_then p y.slots x after lines drops cost steps running h.slots (spent p y.slots x after lines drops cost steps steps_elsewhere few) in
+      let words = spent p y.slots x after lines drops cost steps steps_elsewhere few in
+      let then = stands_then p y.slots x after lines drops cost steps running h.slots words in
+      let gone = vacated_held y.slots drops (all_first (IsHeld y.slots) drops (body_words after) words.held) (once_first drops (body_words after) words.once) in
       subst (λ a. AsksCorrespond (Corresponds p) Comes q (running_by y b (code_actions.Own after lines drops cost)) (ask_for p x a)) (sym steps.does)
-      (asks_then p y x b after lines drops cost steps.execution h.next_block (goes_then p types y x b h running runs after lines drops steps.execution then.0 then.1) Comes q)
+      (asks_then p y x b after lines drops cost steps.execution h.next_block gone (goes_then p types y x b h running runs after lines drops steps.execution then.0 then.1) Comes q)
 
 -- A step of a process alone: the process of code and that of the meaning ask for nothing, and go on alike.
 pub own_alike : (p : Program) (types : Types) (y : CodeProc) (x : Proc) (b : Body) (h : Here p types y x b) → x.phase ≡ Running → y.phase ≡ code.Running → y.body ≡ Some b

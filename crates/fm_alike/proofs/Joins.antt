@@ -16,7 +16,7 @@ use Rattle.fm_mean.specs.Names.{ProgramUnit, unit_at}
 use Rattle.fm_mean.specs.Places.{Returned}
 use Rattle.fm_mean.specs.Calls as mean_calls
 use Rattle.fm_mean.specs.Process as mean
-use Rattle.fm_mean.specs.Process.{Running, Joining, Proc, held, started_ports, frames_ports}
+use Rattle.fm_mean.specs.Process.{Joining, Proc, held, started_ports, frames_ports}
 use Rattle.fm_mean.specs.Fits.{Types, IsFine}
 use Rattle.fm_mean.specs.Actions.{Join, Meets}
 use Rattle.fm_mean.specs.Steps as mean_steps
@@ -34,15 +34,16 @@ use Rattle.fm_standing.specs.Operands.{MeanBack, BacksStand, code_back}
 use Rattle.fm_standing.specs.Formals.{ports_of}
 use Rattle.fm_standing.specs.Frames.{FrameStands, BelowStand}
 use Rattle.fm_standing.proofs.Held.{started_alike}
-use Rattle.fm_bodies.specs.Slots.{Slots, no_slots, port_in}
+use Rattle.fm_bodies.specs.Slots.{Slots, no_slots, port_in, vacated}
 use Rattle.fm_bodies.specs.Frames.{Held, Joined}
 use Rattle.fm_bodies.specs.Processes as code
 use Rattle.fm_bodies.specs.Processes.{CodeProc, Kid, frame_words, body_words, holding, joins_by}
-use Rattle.fm_holding.specs.Holding.{IsHeld, AreOnce, IsSlots, HeldStands, NameTheSame, GoesTo}
+use Rattle.fm_holding.specs.Holding.{IsHeld, AreOnce, IsSlots, HeldStands, GoesTo}
 use Rattle.fm_holding.specs.Joining.{JoinsAlike}
 use Rattle.fm_holding.proofs.Exchange.{goes_on, goes_nowhere}
 use Rattle.fm_holding.proofs.Joining.{all_given_alike, rest_alike}
 use Rattle.fm_holding.proofs.Same.{TellsPorts, frames_held}
+use Rattle.fm_holding.proofs.Slots.{maps_same, vacated_held}
 use Rattle.fm_gen.specs.Entries.{address_of, statement_address}
 use Rattle.fm_gen.specs.Programs.{code_of}
 use Rattle.fm_gen.proofs.StandLaws.{unit_found}
@@ -84,11 +85,6 @@ below_held p slots b tells f m [] (n ∷ ms) stand = absurd stand
 below_held p slots b tells f m (g ∷ fs) [] stand = absurd stand
 below_held p slots b tells f m (g ∷ fs) (n ∷ ms) stand = frames_held p (statement_address p) (port_in slots) b tells _ g n fs ms stand.0 stand.3
 
--- the same ports in other slots that name the same
-maps_same : (zs : List ℤ) (s t : Slots) → NameTheSame zs s t → map (port_in t) zs ≡ map (port_in s) zs
-maps_same [] s t same = refl
-maps_same (z ∷ zs) s t same = λ i. same.0 i ∷ maps_same zs s t same.1 i
-
 module _
     (p : Program) (slots : Slots) (b : Body) (loaded : b.code ≡ code_of p) (begin : ProgramUnit → ℕ) (f : mean.Frame) (fs : List mean.Frame) (first : FrameStands p (port_in slots) begin f b.frame)
     (others_stand : BelowStand p (statement_address p) (port_in slots) f b.frame fs b.below) where
@@ -127,9 +123,10 @@ module _
 
   -- what is left of it after giving back
   left_alike : (h : Held) (ys : List Item) → GoesTo tv (other_words b) its h ys
-      → map (port_in h.slots) (left_ports b h.words ++ flat_map (frame_words b) b.below) ≡ message_ports ys ++ (started_ports f.starts ++ frames_ports fs)
+      → vacated h.slots (left_ports b h.words ++ flat_map (frame_words b) b.below) ≡ message_ports ys ++ (started_ports f.starts ++ frames_ports fs)
   left_alike h ys goes =
-      ap (map (port_in h.slots)) (words_parted h.words)
+      ap (vacated h.slots) (words_parted h.words)
+      ∙ vacated_held h.slots (ports_in (ports_of tv) h.words ++ other_words b) goes.stands.held goes.stands.once
       ∙ map-append (port_in h.slots) (ports_in (ports_of tv) h.words) (other_words b)
       ∙ ap (λ l. l ++ map (port_in h.slots) (other_words b)) (rest_alike theirs (other_words b) h ys goes.stands)
       ∙ ap (λ l. message_ports ys ++ l) (maps_same (other_words b) slots h.slots goes.same ∙ others_held)

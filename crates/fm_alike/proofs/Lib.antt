@@ -1,5 +1,6 @@
 pub mod Context
 pub mod Owned
+pub mod Elsewhere
 pub mod Beginning
 pub mod Joins
 pub mod Going
@@ -11,3 +12,7 @@ pub mod Live
 pub mod Meeting
 pub mod Beyond
 pub mod Alike
+pub mod Asking
+pub mod Entries
+pub mod Shows
+pub mod First

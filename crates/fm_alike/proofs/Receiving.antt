@@ -7,14 +7,14 @@ use Rattle.fm_base.specs.declared.path.ChanName.{ChanName}
 use Rattle.fm_base.specs.declared.port.PortValue.TheVariants.{Reader}
 use Rattle.fm_base.specs.Channels.{Item, Message, Pop}
 use Rattle.fm_net.specs.Machine as net
-use Rattle.fm_net.specs.Machine.{Place, Need, Reply, Ask}
+use Rattle.fm_net.specs.Machine.{Place, Need, Reply}
 use Rattle.fm_net.specs.Correspondence.{AsksCorrespond, OnwardsCorrespond}
 use Rattle.fm_tree.specs.PortFields.{PortFields, In}
 use Rattle.fm_tree.specs.declared.statement.Var.{Var}
 use Rattle.fm_symbols.specs.declared.names.Variable.{Variable}
 use Rattle.fm_rules.specs.declared.program.Program.{Program}
 use Rattle.fm_mean.specs.Names as names
-use Rattle.fm_mean.specs.Names.{ProgramUnit, Point, unit_at, point_at}
+use Rattle.fm_mean.specs.Names.{ProgramUnit, Point, point_at}
 use Rattle.fm_mean.specs.Places.{written, port_at, stored_all}
 use Rattle.fm_mean.specs.Process.{Proc, Running}
 use Rattle.fm_mean.specs.Calls.{variables_in}
@@ -22,7 +22,7 @@ use Rattle.fm_mean.specs.Evaluate.{Scope, places_of}
 use Rattle.fm_mean.specs.Fits.{Types, ValuesFit, Fits, MessageFits, FramesFit, sort_at}
 use Rattle.fm_mean.specs.Actions.{Action, Receive}
 use Rattle.fm_mean.specs.Steps as mean_steps
-use Rattle.fm_mean.specs.Steps.{ask_at, ask_event, ask_for}
+use Rattle.fm_mean.specs.Steps.{ask_at, ask_for}
 use Rattle.fm_mean.proofs.Fitting.{MayStandAt, exchange_fits, null_stands}
 use Rattle.fm_mean.proofs.TypedLanguage.{top_fits}
 use Rattle.fm_code.specs.declared.ask.Ask.TheVariants as ask
@@ -33,7 +33,7 @@ use Rattle.fm_checked.specs.Sound.{IsSoundUnit}
 use Rattle.fm_checked.specs.Targets.{TargetsFit}
 use Rattle.fm_standing.specs.Standing.{scope_in}
 use Rattle.fm_standing.specs.Operands.{MeanSpan, word_number, target_of}
-use Rattle.fm_bodies.specs.Slots.{port_in}
+use Rattle.fm_bodies.specs.Slots.{in_slot, port_in}
 use Rattle.fm_bodies.specs.Frames.{Held, all_stored}
 use Rattle.fm_bodies.specs.Processes as code
 use Rattle.fm_bodies.specs.Processes.{CodeProc, holding, runs_by, receives_by}
@@ -166,10 +166,11 @@ module _ (p : Program) (types : Types) (y : CodeProc) (x : Proc) (b : Body) (h :
     received_alike qs iostat (Some m) whole status match = came_alike qs iostat m whole (match m refl) status
 
     pub receives_alike : (slot : ℤ) (items : List Operand) (status at_end : Option ℕ) (next : ℕ) (a : Action)
-        → ReceivesAlike (site_at p h.stands.first.unit (port_in y.slots) x.execution e h.stands.frame h.stands.below b.frame) slot items status at_end next a
+        → (s : ReceivesAlike (site_at p h.stands.first.unit (port_in y.slots) x.execution e h.stands.frame h.stands.below b.frame) slot items status at_end next a)
+        → in_slot y.slots slot ≡ Some (Reader s.channel)
         → (Comes : Place → Need → Reply Proc → Type 0) (q : Place) → ((c : ChanName) (r : Reply Proc) (m : Message) → Comes q (net.Event c (Pop [])) r → r.message ≡ Some m → Fits types c m)
         → AsksCorrespond (Corresponds p) Comes q (runs_by y b (ask.Receive slot items status at_end next)) (ask_for p x a)
-    receives_alike slot items status at_end next a s Comes q fitting =
+    receives_alike slot items status at_end next a s there Comes q fitting =
         let f = h.stands.frame in
         let c = s.channel in
         let event = Receive c (names.line_of e) s.places s.iostat jump after in
@@ -177,11 +178,11 @@ module _ (p : Program) (types : Types) (y : CodeProc) (x : Proc) (b : Body) (h :
         let typed = channel_typed types vars f.values s.inport s.fields c values_fit s.sort s.stands in
         let scope = scope_in p unit (port_in y.slots) b.frame in
         meets p Comes q x f h.stands.below (runs_by y b (ask.Receive slot items status at_end next)) event a s.does h.stands.frames
-        (subst (λ z. AsksCorrespond (Corresponds p) Comes q (receives_by y b z items status at_end next) asked) (sym s.port)
-        (subst (λ os. AsksCorrespond (Corresponds p) Comes q (receives_by y b (Reader c) os status at_end next) asked) (sym s.same)
-        (subst (λ k. AsksCorrespond (Corresponds p) Comes q (receives_by y b (Reader c) (map (target_of vars) s.places) k at_end next) asked) (sym s.status_is)
-        (subst (λ k. AsksCorrespond (Corresponds p) Comes q (receives_by y b (Reader c) (map (target_of vars) s.places) (option_map word s.iostat) k next) asked) (sym s.at_end_is)
-        (subst (λ n. AsksCorrespond (Corresponds p) Comes q (receives_by y b (Reader c) (map (target_of vars) s.places) (option_map word s.iostat) (option_map address jump) n) asked) (sym s.leads) (
+        (subst (λ z. AsksCorrespond (Corresponds p) Comes q (receives_by y b z items status at_end next) asked) (sym there)
+        (subst (λ os. AsksCorrespond (Corresponds p) Comes q (receives_by y b (Some (Reader c)) os status at_end next) asked) (sym s.same)
+        (subst (λ k. AsksCorrespond (Corresponds p) Comes q (receives_by y b (Some (Reader c)) (map (target_of vars) s.places) k at_end next) asked) (sym s.status_is)
+        (subst (λ k. AsksCorrespond (Corresponds p) Comes q (receives_by y b (Some (Reader c)) (map (target_of vars) s.places) (option_map word s.iostat) k next) asked) (sym s.at_end_is)
+        (subst (λ n. AsksCorrespond (Corresponds p) Comes q (receives_by y b (Some (Reader c)) (map (target_of vars) s.places) (option_map word s.iostat) (option_map address jump) n) asked) (sym s.leads) (
           refl,
           λ u r comes replies.
               subst (λ o. OnwardsCorrespond (Corresponds p) (code.received y b (address after) (map (target_of vars) s.places) (option_map word s.iostat) (option_map address jump) o)

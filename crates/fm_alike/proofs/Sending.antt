@@ -20,7 +20,7 @@ use Rattle.fm_code.specs.declared.ask.Ask.TheVariants as ask
 use Rattle.fm_code.specs.declared.ask.Operand.{Operand}
 use Rattle.fm_code.specs.declared.body.Body.{Body}
 use Rattle.fm_standing.specs.Operands.{word_number, operand_of}
-use Rattle.fm_bodies.specs.Slots.{port_in}
+use Rattle.fm_bodies.specs.Slots.{in_slot, port_in}
 use Rattle.fm_bodies.specs.Frames.{Held, message_from}
 use Rattle.fm_bodies.specs.Processes as code
 use Rattle.fm_bodies.specs.Processes.{CodeProc, holding, runs_by, sends_by, probes_by}
@@ -66,9 +66,10 @@ module _ (p : Program) (types : Types) (y : CodeProc) (x : Proc) (b : Body) (h :
 
   module _ (body : y.body ≡ Some b) (e : Point) (at : point_at h.stands.first.unit h.stands.frame.entry ≡ Some e) where
     pub sends_alike : (slot : ℤ) (items : List Operand) (next : ℕ) (a : Action)
-        → SendsAlike (site_at p h.stands.first.unit (port_in y.slots) x.execution e h.stands.frame h.stands.below b.frame) slot items next a
+        → (s : SendsAlike (site_at p h.stands.first.unit (port_in y.slots) x.execution e h.stands.frame h.stands.below b.frame) slot items next a)
+        → in_slot y.slots slot ≡ Some (Writer s.channel s.writer)
         → (Comes : Place → Need → Reply Proc → Type 0) (q : Place) → AsksCorrespond (Corresponds p) Comes q (runs_by y b (ask.Send slot items next)) (ask_for p x a)
-    sends_alike slot items next a s Comes q =
+    sends_alike slot items next a s there Comes q =
         let vs = h.stands.first.unit.names.variables in
         let f = h.stands.frame in
         let mine = message_from (holding y b) (map (operand_of vs) s.actuals) in
@@ -76,8 +77,8 @@ module _ (p : Program) (types : Types) (y : CodeProc) (x : Proc) (b : Body) (h :
         let both = message_alike h.stands.first.unit (sound_here p types y x b h) (other_words b) (holding y b) f.values (words_here p types y x b h) (held_here p types y x b h) s.actuals s.whole in
         let asked = ask_at p x h.stands.below f (Send s.channel s.writer s.actuals e.entry.after) in
         meets p Comes q x f h.stands.below (runs_by y b (ask.Send slot items next)) (Send s.channel s.writer s.actuals e.entry.after) a s.does h.stands.frames
-        (subst (λ z. AsksCorrespond (Corresponds p) Comes q (sends_by y b z (message_from (holding y b) items) next) asked) (sym s.port)
-        (subst (λ os. AsksCorrespond (Corresponds p) Comes q (sends_by y b (Writer s.channel s.writer) (message_from (holding y b) os) next) asked) (sym s.same) (
+        (subst (λ z. AsksCorrespond (Corresponds p) Comes q (sends_by y b z (message_from (holding y b) items) next) asked) (sym there)
+        (subst (λ os. AsksCorrespond (Corresponds p) Comes q (sends_by y b (Some (Writer s.channel s.writer)) (message_from (holding y b) os) next) asked) (sym s.same) (
           ap (λ m. net.Event s.channel (Push s.writer m)) both.1,
           λ u r comes replies. record {
             self = onward_alike mine.0 theirs.0 both.0 next e.entry.after s.leads;
@@ -89,15 +90,16 @@ module _ (p : Program) (types : Types) (y : CodeProc) (x : Proc) (b : Body) (h :
         )))
 
     pub probes_alike : (slot : ℤ) (empty next : ℕ) (a : Action)
-        → ProbesAlike (site_at p h.stands.first.unit (port_in y.slots) x.execution e h.stands.frame h.stands.below b.frame) slot empty next a
+        → (s : ProbesAlike (site_at p h.stands.first.unit (port_in y.slots) x.execution e h.stands.frame h.stands.below b.frame) slot empty next a)
+        → in_slot y.slots slot ≡ Some (Reader s.channel)
         → (Comes : Place → Need → Reply Proc → Type 0) (q : Place) → AsksCorrespond (Corresponds p) Comes q (runs_by y b (ask.Probe slot empty next)) (ask_for p x a)
-    probes_alike slot empty next a s Comes q =
+    probes_alike slot empty next a s there Comes q =
         let vs = h.stands.first.unit.names.variables in
         let f = h.stands.frame in
         let asked = ask_at p x h.stands.below f (Probe s.channel s.place e.entry.after) in
         meets p Comes q x f h.stands.below (runs_by y b (ask.Probe slot empty next)) (Probe s.channel s.place e.entry.after) a s.does h.stands.frames
-        (subst (λ z. AsksCorrespond (Corresponds p) Comes q (probes_by y b z empty next) asked) (sym s.port)
-        (subst (λ k. AsksCorrespond (Corresponds p) Comes q (probes_by y b (Reader s.channel) k next) asked) (sym s.number) (
+        (subst (λ z. AsksCorrespond (Corresponds p) Comes q (probes_by y b z empty next) asked) (sym there)
+        (subst (λ k. AsksCorrespond (Corresponds p) Comes q (probes_by y b (Some (Reader s.channel)) k next) asked) (sym s.number) (
           refl,
           λ u r comes replies.
               subst (λ w. OnwardsCorrespond (Corresponds p) (code.probed y b next (word_number vs s.place) w) (mean_steps.probed x h.stands.below f e.entry.after s.place r.waits)) (sym replies.waits) (record {

@@ -1,2 +1,3 @@
 pub mod Corresponds
 pub mod Here
+pub mod Shown

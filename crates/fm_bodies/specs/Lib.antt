@@ -1,3 +1,4 @@
 pub mod Slots
 pub mod Frames
 pub mod Processes
+pub mod Needs

@@ -24,7 +24,7 @@ use Rattle.fm_code.specs.declared.code.Formal.{Formal}
 use Rattle.fm_code.specs.Passing.{back_words}
 use Rattle.fm_code.specs.Statements as code
 use Rattle.fm_code.specs.Statements.{CodeUnit, unit_at, ports_of, line_of, at_statement, new_frame, action_of, start_ports, left_ports}
-use Rattle.fm_bodies.specs.Slots.{Slots, no_slots, port_in, all_left}
+use Rattle.fm_bodies.specs.Slots.{Slots, no_slots, in_slot, port_in, all_left, vacated}
 use Rattle.fm_bodies.specs.Frames.{Held, message_from, all_stored, port_words, all_placed, moved_over, Joined, all_given, kept}
 
 -- a child that is to be joined: its unit, and what it gives back
@@ -182,7 +182,7 @@ given_back false j bs = j
 
 -- copying back from the frame of a child, and then discarding what it still has
 abbrev pub rest_dropped : Body → Joined → Joined
-rest_dropped b j = record j { drops = j.drops ++ map (port_in j.theirs.slots) (left_ports b j.theirs.words ++ flat_map (frame_words b) b.below) }
+rest_dropped b j = record j { drops = j.drops ++ vacated j.theirs.slots (left_ports b j.theirs.words ++ flat_map (frame_words b) b.below) }
 
 abbrev pub kid_back : Joined → Kid → Slots → Option Body → Joined
 kid_back j k slots None = j
@@ -221,22 +221,26 @@ ended_frame b m (n ∷ ns) = ((ended_frame b n ns).0, frame_words b m ++ (ended_
 abbrev pub ended : CodeProc → Body → Onward CodeProc
 ended y b =
     let e = ended_frame b b.frame b.below in
-    onward y (record y { phase = Ended; body = Some (record b { frame = e.0; below = [] }); slots = all_left y.slots e.1 }) [] (map (port_in y.slots) e.1) 1
+    onward y (record y { phase = Ended; body = Some (record b { frame = e.0; below = [] }); slots = all_left y.slots e.1 }) [] (vacated y.slots e.1) 1
 
 -- Asking.
 
--- the event at the channel of a port: a send by a writer, or a receive or a look at an inport
-abbrev pub sends_by : CodeProc → Body → PortValue → Held × Message → (next : ℕ) → net.Ask CodeProc
-sends_by y b (Reader c) m next = Stop
-sends_by y b (Writer c w) m next = Go (net.Event c (Push w m.1)) (λ n r. sent y b next m)
+-- the event at the channel of a port: a send by a writer, or a receive or a look at an inport. Where no such port stands in the
+-- slot, nothing is asked
+abbrev pub sends_by : CodeProc → Body → Option PortValue → Held × Message → (next : ℕ) → net.Ask CodeProc
+sends_by y b None m next = Stop
+sends_by y b (Some (Reader c)) m next = Stop
+sends_by y b (Some (Writer c w)) m next = Go (net.Event c (Push w m.1)) (λ n r. sent y b next m)
 
-abbrev pub receives_by : CodeProc → Body → PortValue → List Operand → (status at_end : Option ℕ) → (next : ℕ) → net.Ask CodeProc
-receives_by y b (Writer c w) items status at_end next = Stop
-receives_by y b (Reader c) items status at_end next = Go (net.Event c (Pop [])) (λ n r. received y b next items status at_end r.message)
+abbrev pub receives_by : CodeProc → Body → Option PortValue → List Operand → (status at_end : Option ℕ) → (next : ℕ) → net.Ask CodeProc
+receives_by y b None items status at_end next = Stop
+receives_by y b (Some (Writer c w)) items status at_end next = Stop
+receives_by y b (Some (Reader c)) items status at_end next = Go (net.Event c (Pop [])) (λ n r. received y b next items status at_end r.message)
 
-abbrev pub probes_by : CodeProc → Body → PortValue → (empty next : ℕ) → net.Ask CodeProc
-probes_by y b (Writer c w) empty next = Stop
-probes_by y b (Reader c) empty next = Go (net.Event c Look) (λ n r. probed y b next empty r.waits)
+abbrev pub probes_by : CodeProc → Body → Option PortValue → (empty next : ℕ) → net.Ask CodeProc
+probes_by y b None empty next = Stop
+probes_by y b (Some (Writer c w)) empty next = Stop
+probes_by y b (Some (Reader c)) empty next = Go (net.Event c Look) (λ n r. probed y b next empty r.waits)
 
 -- of a running process
 abbrev pub runs_by : CodeProc → Body → Ask → net.Ask CodeProc
@@ -245,16 +249,16 @@ runs_by y b (ask.LetGo slots) = Stop
 runs_by y b (ask.Channel inport outport next) = Go (New y.next_channel 1) (λ c r. made y b next (inport ∷ outport ∷ []) 1 1 c)
 runs_by y b (ask.Merger inport outports next) =
     Go (New y.next_channel (length (port_words outports))) (λ c r. made y b next (inport ∷ port_words outports) (length (port_words outports)) (1 + length (port_words outports)) c)
-runs_by y b (ask.Send slot items next) = sends_by y b (port_in y.slots slot) (message_from (holding y b) items) next
-runs_by y b (ask.Receive slot items status at_end next) = receives_by y b (port_in y.slots slot) items status at_end next
-runs_by y b (ask.Probe slot empty next) = probes_by y b (port_in y.slots slot) empty next
+runs_by y b (ask.Send slot items next) = sends_by y b (in_slot y.slots slot) (message_from (holding y b) items) next
+runs_by y b (ask.Receive slot items status at_end next) = receives_by y b (in_slot y.slots slot) items status at_end next
+runs_by y b (ask.Probe slot empty next) = probes_by y b (in_slot y.slots slot) empty next
 runs_by y b (ask.Begin next) = Go Nothing (λ c r. began y b next)
 runs_by y b (ask.Join next) = Stop
 runs_by y b ask.End = Go Nothing (λ c r. ended y b)
 
 abbrev pub running_by : CodeProc → Body → code.Action → net.Ask CodeProc
 running_by y b code.Stuck = Stop
-running_by y b (code.Own after lines drops cost) = Go Nothing (λ c r. onward y (gone_on y after lines drops) [] (map (port_in y.slots) drops) cost)
+running_by y b (code.Own after lines drops cost) = Go Nothing (λ c r. onward y (gone_on y after lines drops) [] (vacated y.slots drops) cost)
 running_by y b (code.Meets k) = runs_by y b k
 
 -- of one that joins

@@ -1,6 +1,6 @@
 -- The ports that a process holds, by slots.
 -- Source: this profile.
-use Rattle.std.specs.Prelude.{ℕ, suc, pred, ℤ, pos, Option, Some, None, List, [], ◌∷◌, ◌++◌, length, slice_get, slice_set, unwrap_or, cond}
+use Rattle.std.specs.Prelude.{ℕ, suc, pred, ℤ, pos, Option, Some, None, List, [], ◌∷◌, ◌++◌, length, option_to_list, slice_get, slice_set, unwrap_or, cond}
 use Rattle.fm_base.specs.declared.port.PortValue.{PortValue}
 use Rattle.fm_base.specs.declared.port.PortValue.TheVariants.{Reader}
 use Rattle.fm_values.specs.Trips.{natural}
@@ -49,6 +49,11 @@ left s z = record { ports = slice_set s.ports (before z) None; free = before z �
 abbrev pub all_left : Slots → List ℤ → Slots
 all_left s [] = s
 all_left s (z ∷ zs) = all_left (left s z) zs
+
+-- the ports that stand in these slots, which are left one after the other
+abbrev pub vacated : Slots → List ℤ → List PortValue
+vacated s [] = []
+vacated s (z ∷ zs) = option_to_list (in_slot s z) ++ vacated (left s z) zs
 
 -- what stands at a port word, whose slot is left
 abbrev pub taken : Slots → ℤ → Option PortValue × Slots

@@ -8,6 +8,9 @@ mod passing;
 mod seats;
 
 pub use giving::give_all;
-pub use looking::{Look, fail, look_back, look_close, look_move, look_value, unit_at, word_at};
+pub use looking::{
+    Look, fail, line_of, look_back, look_close, look_move, look_value, push_frame_ports,
+    push_start_ports, unit_at, word_at,
+};
 pub use passing::{Entered, all_fit, enter};
 pub use seats::{Seat, seat_for};

@@ -7,7 +7,7 @@ ghost use Rattle.std.specs.List.{flat_map, list_any};
 ghost use Rattle.fm_code.specs.declared.body.Back.{Back};
 ghost use Rattle.fm_code.specs.declared.body.Start.{Start};
 ghost use Rattle.fm_code.specs.Passing.{backs_fit, live, ports_in};
-ghost use Rattle.fm_code.specs.Statements.{Meets, word_at, unit_at, ports_of, line_at, fails, start_ports, left_ports, given, gives_back, results_in, closes, moves};
+ghost use Rattle.fm_code.specs.Statements.{Meets, word_at, unit_at, ports_of, line_at, line_of, fails, start_ports, left_ports, given, gives_back, results_in, closes, moves};
 ghost use Rattle.fm_calling.specs.Looks.{look_in, look_by};
 
 use crate::giving::{backs_fit, give_all, push_ports};
@@ -56,15 +56,22 @@ fn line_at(entries: &[Entry], address: u32) -> Line
     Line(0)
 }
 
-/// The fault of the next statement.
-pub fn fail(body: &Body, fault: Fault) -> Ask
-    ensures { Meets result ≡ fails body.now fault }
+/// The line of the next statement.
+pub fn line_of(body: &Body) -> Line
+    ensures { result.0 ≡ line_of body.now }
 {
     let entries = match unit_at(&body.code, body.frame.unit) {
         Some(unit) => unit.entries.as_slice(),
         None => &[],
     };
-    let line = line_at(entries, body.frame.address);
+    line_at(entries, body.frame.address)
+}
+
+/// The fault of the next statement.
+pub fn fail(body: &Body, fault: Fault) -> Ask
+    ensures { Meets result ≡ fails body.now fault }
+{
+    let line = line_of(body);
     Ask::Fail { line, fault }
 }
 
@@ -96,7 +103,8 @@ fn push_unit_ports(
     }
 }
 
-fn push_start_ports(
+/// Adds the ports of these starts.
+pub fn push_start_ports(
     code: &SharedCode,
     starts: &[Start],
     ports: &mut Row<i64>,
@@ -109,12 +117,35 @@ fn push_start_ports(
     Ok(())
 }
 
+/// Adds the ports of a frame, were these its words, and of its starts.
+fn push_ports_with(
+    code: &SharedCode,
+    frame: &Frame,
+    words: &[i64],
+    ports: &mut Row<i64>,
+) -> Result<(), NoMemory>
+    ensures { OnOk result (ports.new ≡ ports.old ++ (ports_in (ports_of (slice_get code.now.units frame.now.unit)) words.now ++ flat_map (λ (s : Start). ports_in (ports_of (slice_get code.now.units s.unit)) s.words) frame.now.starts)) }
+{
+    push_unit_ports(code, frame.unit, words, ports)?;
+    push_start_ports(code, frame.starts.as_slice(), ports)
+}
+
+/// Adds the ports of a frame and of its starts.
+pub fn push_frame_ports(
+    code: &SharedCode,
+    frame: &Frame,
+    ports: &mut Row<i64>,
+) -> Result<(), NoMemory>
+    ensures { OnOk result (ports.new ≡ ports.old ++ (ports_in (ports_of (slice_get code.now.units frame.now.unit)) frame.now.words ++ flat_map (λ (s : Start). ports_in (ports_of (slice_get code.now.units s.unit)) s.words) frame.now.starts)) }
+{
+    push_ports_with(code, frame, frame.words.as_slice(), ports)
+}
+
 /// Adds the ports of the innermost frame, with these words, and of its starts.
 fn push_left_ports(body: &Body, words: &[i64], ports: &mut Row<i64>) -> Result<(), NoMemory>
     ensures { OnOk result (ports.new ≡ ports.old ++ left_ports body.now words.now) }
 {
-    push_unit_ports(&body.code, body.frame.unit, words, ports)?;
-    push_start_ports(&body.code, body.frame.starts.as_slice(), ports)
+    push_ports_with(&body.code, &body.frame, words, ports)
 }
 
 fn gives_ports(backs: &[Back]) -> bool
@@ -174,7 +205,7 @@ pub fn look_value(alloc: Global, body: &Body, value: i64) -> Result<Look, NoMemo
         return Ok(Look::Asks(Ask::End));
     }
     let mut ports = Row::new(alloc);
-    push_left_ports(body, body.frame.words.as_slice(), &mut ports)?;
+    push_frame_ports(&body.code, &body.frame, &mut ports)?;
     Ok(look_by(alloc, ports))
 }
 

@@ -1,5 +1,5 @@
 -- What putting a port into a slot, and leaving slots, are to the words that name slots in use.
-use Rattle.std.proofs.Common.{◌≡◌, ℕ, zero, suc, ℤ, pos, Bool, true, false, not, Option, Some, None, unwrap_or, List, [], ◌∷◌, ◌++◌, length, set, slice_get, refl, sym, ap, ◌∙◌, arith, suc-ne-zero}
+use Rattle.std.proofs.Common.{◌≡◌, ℕ, zero, suc, ℤ, pos, Bool, true, false, not, Option, Some, None, unwrap_or, List, [], ◌∷◌, ◌++◌, length, map, option_to_list, set, slice_get, refl, sym, ap, ◌∙◌, arith, suc-ne-zero}
 use Rattle.std.specs.Ordering.{int_eq}
 use Rattle.std.proofs.lemmas.Bool.Decides.{Decides-int_eq}
 use Rattle.fm_base.specs.declared.port.PortValue.{PortValue}
@@ -7,7 +7,7 @@ use Rattle.fm_net.specs.Typed.{AllIn}
 use Rattle.fm_values.specs.Trips.{natural}
 use Rattle.fm_code.specs.Passing.{is_port}
 use Rattle.fm_bodies.specs.Slots as slots
-use Rattle.fm_bodies.specs.Slots.{no_port, in_slot, port_in, put_by, put, left, all_left}
+use Rattle.fm_bodies.specs.Slots.{no_port, in_slot, port_in, put_by, put, left, all_left, vacated}
 use Rattle.fm_holding.specs.Holding.{IsHeld, IsSlots, IsOther, AreOnce, NameTheSame}
 
 -- Lists.
@@ -177,3 +177,16 @@ all_left_others s (z ∷ zs) ws is held once =
     let one = left_all s z (zs ++ ws) held.0 once.0 held.1 in
     let rest = all_left_others (left s z) zs ws (left_slots s z is held.0) one.0 once.1 in
     (rest.0, rest.1, names_on ws s (left s z) (all_left (left s z) zs) (names_right zs ws s (left s z) one.1) rest.2)
+
+-- the same ports in other slots that name the same
+pub maps_same : (zs : List ℤ) (s t : slots.Slots) → NameTheSame zs s t → map (port_in t) zs ≡ map (port_in s) zs
+maps_same [] s t same = refl
+maps_same (z ∷ zs) s t same = λ i. same.0 i ∷ maps_same zs s t same.1 i
+
+-- the ports that are let go are those that the words name, where each names a slot in use, and none does twice
+pub vacated_held : (s : slots.Slots) (zs : List ℤ) → AllIn (IsHeld s) zs → AreOnce zs → vacated s zs ≡ map (port_in s) zs
+vacated_held s [] held once = refl
+vacated_held s (z ∷ zs) held once =
+    let later = left_all s z zs held.0 once.0 held.1 in
+    (λ i. option_to_list ((held_port s z held.0).1 i) ++ vacated (left s z) zs)
+    ∙ ap (λ l. port_in s z ∷ l) (vacated_held (left s z) zs later.0 once.1 ∙ maps_same zs s (left s z) later.1)

@@ -1,5 +1,5 @@
 -- A slice makes a step, unless its start asks for something or is stuck.
-use Rattle.std.proofs.Common.{◌≡◌, ℕ, zero, suc, ◌+◌, ◌++◌, add-one, option_and_then, option_map, ◌≤◌, true, false, Option, Some, None, List, [], ◌∷◌, refl, sym, ap, arith, ◌∙◌}
+use Rattle.std.proofs.Common.{◌≡◌, ◌≢◌, ℕ, zero, suc, ◌+◌, ◌++◌, add-one, option_and_then, option_map, ◌≤◌, true, false, Option, Some, None, List, [], ◌∷◌, refl, sym, ap, arith, ◌∙◌}
 use Rattle.fm_code.specs.declared.body.Body.{Body}
 use Rattle.fm_code.specs.Statements as statements
 use Rattle.fm_code.specs.Statements.{Action, Own, Meets, Ran, ran, action_of, ask_in, ask_of, is_stuck_in, is_stuck, run, not_moved, grown, one_more}
@@ -15,12 +15,13 @@ the_body r s e =
     let same : r ≡ s = cc in
     ap (λ (t : Ran). t.body) same
 
-pub moves_so : (steps : ℕ) (start body : Body) (lines : List (List ℕ)) (cost : ℕ) → run steps start ≡ Some (record { body = body; lines = lines; cost = cost }) → None ≡ ran (action_of body) → None ≡ ask_of body → is_stuck start ≡ false → 1 ≤ steps
-moves_so zero start body lines cost e f g h =
+pub moves_so : (steps slice : ℕ) (start body : Body) (lines : List (List ℕ)) (cost : ℕ) → run steps start ≡ Some (record { body = body; lines = lines; cost = cost }) → (steps ≢ slice → ran (action_of body) ≡ None) → 1 ≤ slice → ask_of body ≡ None → is_stuck start ≡ false → 1 ≤ steps
+moves_so zero slice start body lines cost e f g h i =
     let same : start ≡ body = the_body (not_moved start) (record { body = body; lines = lines; cost = cost }) e in
-    let stuck : is_stuck start ≡ true = ap is_stuck same ∙ stuck_by (action_of body) (sym f) (sym g) in
+    let short : zero ≢ slice = omega (arith, g) in
+    let stuck : is_stuck start ≡ true = ap is_stuck same ∙ stuck_by (action_of body) (f short) h in
     absurd (cc)
-moves_so (suc n) start body lines cost e f g h = omega arith
+moves_so (suc n) slice start body lines cost e f g h i = omega arith
 
 abbrev some_ran : Ran → Option Ran
 some_ran r = Some r

@@ -1,12 +1,12 @@
 -- What came of the end of a statement.
 -- Source: this profile.
-use Rattle.std.specs.Prelude.{◌≡◌, ℕ, Bool, if◌then◌else◌, Ok, Option, Some, None, List, [], option_to_list}
+use Rattle.std.specs.Prelude.{◌≡◌, ℕ, ℤ, Bool, if◌then◌else◌, Ok, Option, Some, None, List, [], option_to_list}
 use Rattle.fm_map.specs.Placement.{Seat}
 use Rattle.fm_code.specs.declared.ask.Ask.{Ask}
 use Rattle.fm_code.specs.declared.ask.Operand.{Operand}
 use Rattle.fm_code.specs.declared.body.Body.{Body}
 use Rattle.fm_code.specs.Statements as statements
-use Rattle.fm_code.specs.Statements.{Action, Own, Ran, CodeUnit, unit_at, calls, refers, starts_at}
+use Rattle.fm_code.specs.Statements.{Action, Own, Meets, Ran, CodeUnit, unit_at, calls, refers, starts_at}
 use Rattle.fm_calling.specs.declared.looking.Look.{Look}
 use Rattle.fm_calling.specs.declared.looking.Look.TheVariants as look
 use Rattle.fm_machine.specs.declared.performing.Finish.{Finish}
@@ -23,11 +23,17 @@ went (finish.Went line cost) b = Some (record { body = b; lines = option_to_list
 went (finish.Asks a) b = None
 went finish.Stuck b = None
 
--- what was asked for instead
-abbrev pub asked : Finish → Option Ask
-asked (finish.Went line cost) = None
-asked (finish.Asks a) = Some a
-asked finish.Stuck = None
+-- what it tells of the body before
+abbrev pub told : Finish → Look
+told (finish.Went line cost) = look.Goes
+told (finish.Asks a) = look.Asks a
+told finish.Stuck = look.Stuck
+
+-- the ports that a step lets go
+abbrev pub drops_in : Action → List ℤ
+drops_in statements.Stuck = []
+drops_in (Own b lines drops cost) = drops
+drops_in (Meets a) = []
 
 -- where no step was made, the body is as it was
 abbrev pub Stays : Finish → Body → Body → Type 0

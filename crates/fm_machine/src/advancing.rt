@@ -1,16 +1,18 @@
 //! Statements, one after another.
 
-ghost use Rattle.std.specs.Prelude.{◌≡◌, ◌≢◌, ◌≤◌, ◌+◌, ◌++◌, None, IfOk, OnOk, option_to_list};
+ghost use Rattle.std.specs.Prelude.{◌≡◌, ◌≢◌, ◌≤◌, ◌+◌, ◌++◌, [], Some, None, IfOk, OnOk, option_to_list};
+ghost use Rattle.fm_code.specs.declared.ask.Ask.TheVariants as ask;
 ghost use Rattle.fm_code.specs.Statements as statements;
-ghost use Rattle.fm_code.specs.Statements.{ran, action_of, ask_of, turn_of, code_in};
+ghost use Rattle.fm_code.specs.Statements.{Own, run, ran, action_of, ask_of, turn_of, code_in};
 ghost use Rattle.fm_instructions.specs.Told.{turned};
-ghost use Rattle.fm_machine.specs.Finished.{went, asked, asked_in, Stays};
+ghost use Rattle.fm_calling.specs.Looks.{look_in};
+ghost use Rattle.fm_machine.specs.Finished.{went, told, Stays};
 
 use crate::done::{Done, Made};
-use crate::performing::{Finish, look, perform};
+use crate::performing::{Finish, let_go_at_ending, look, perform};
 use fm_base::{NoMemory, Seq};
 use fm_calling::{Look, unit_at};
-use fm_code::{Ask, Body, Instr, copy_body};
+use fm_code::{Body, Instr, copy_body};
 use fm_instructions::{Turn, Work, statement};
 use std::alloc::Global;
 use std::sync::Arc;
@@ -36,30 +38,39 @@ fn next_turn(alloc: Global, work: &mut Work, body: &Body) -> Result<Turn, NoMemo
 /// Does the next statement. After something other than a step the body is as it was.
 fn step(alloc: Global, work: &mut Work, body: &mut Body) -> Result<Finish, NoMemory>
     ensures ran { IfOk result (λ f. went f body.new ≡ ran (action_of body.old)) }
-    ensures asks { IfOk result (λ f. asked f ≡ ask_of body.old) }
+    ensures tells { IfOk result (λ f. told f ≡ look_in (action_of body.old)) }
     ensures stays { IfOk result (λ f. Stays f body.old body.new) }
 {
     let turn = next_turn(alloc, work, body)?;
     perform(alloc, turn, &work.scratch, body)
 }
 
-fn asked_in(look: Look) -> Option<Ask>
-    ensures { result ≡ asked_in look }
-{
-    match look {
-        Look::Goes => None,
-        Look::Asks(ask) => Some(ask),
-        Look::Stuck => None,
-    }
-}
-
-/// What the next statement asks for.
-#[tactic(auto, using(crate::proofs::Telling::asked_look))]
-fn next_ask(alloc: Global, work: &mut Work, body: &Body) -> Result<Option<Ask>, NoMemory>
-    ensures { IfOk result (λ a. a ≡ ask_of body.now) }
+/// What the next statement of a body does, without doing it.
+pub fn next_look(alloc: Global, work: &mut Work, body: &Body) -> Result<Look, NoMemory>
+    ensures { IfOk result (λ l. l ≡ look_in (action_of body.now)) }
 {
     let turn = next_turn(alloc, work, body)?;
-    Ok(asked_in(look(alloc, turn, &work.scratch, body)?))
+    look(alloc, turn, &work.scratch, body)
+}
+
+/// Does the next statement of a body, which asks that these ports be let go. The cost. That the ports go is
+/// up to the caller. After want of memory the body may have changed.
+pub fn let_go(
+    alloc: Global,
+    work: &mut Work,
+    body: &mut Body,
+    slots: &[i64],
+) -> Result<u64, NoMemory>
+    requires { ask_of body.old ≡ Some (ask.LetGo slots.now) }
+    ensures { IfOk result (λ cost. action_of body.old ≡ Own body.new [] slots.now cost) }
+{
+    match next_turn(alloc, work, body)? {
+        Turn::Over(ending) => let_go_at_ending(alloc, ending, body),
+        // These let no port go.
+        Turn::Prints(_) | Turn::Calls(_, _) | Turn::Refers(_, _) | Turn::Starts(_, _) => {
+            Err(NoMemory)
+        }
+    }
 }
 
 fn add_line(lines: &mut Seq<Seq<u8>>, line: Option<Seq<u8>>) -> Result<(), NoMemory>
@@ -78,6 +89,57 @@ fn both(first: u64, second: u64) -> Result<u64, NoMemory>
     first.checked_add(second).ok_or(NoMemory)
 }
 
+/// Does statements of a body in its place, as many as `slice` at most, and stops where the next one asks for
+/// something or finds the body stuck. After want of memory the body may have gone on.
+pub fn proceed(
+    alloc: Global,
+    work: &mut Work,
+    body: &mut Body,
+    slice: u32,
+) -> Result<Made, NoMemory>
+    ensures ran { IfOk result (λ m. run m.steps body.old ≡ Some (record { body = body.new; lines = m.lines; cost = m.cost })) }
+    ensures within { IfOk result (λ m. m.steps ≤ slice) }
+    ensures next { IfOk result (λ m. m.next ≡ look_in (action_of body.new)) }
+    ensures stops { IfOk result (λ m. m.steps ≢ slice → ran (action_of body.new) ≡ None) }
+{
+    let mut lines = Seq::new(alloc);
+    let mut cost: u64 = 0;
+    'steps: for steps in 0..slice {
+        match step(alloc, work, body)? {
+            Finish::Went(line, more) => {
+                add_line(&mut lines, line)?;
+                cost = both(cost, more)?;
+            }
+            Finish::Asks(ask) => {
+                let next = Look::Asks(ask);
+                return Ok(Made {
+                    steps,
+                    cost,
+                    lines,
+                    next,
+                });
+            }
+            Finish::Stuck => {
+                let next = Look::Stuck;
+                return Ok(Made {
+                    steps,
+                    cost,
+                    lines,
+                    next,
+                });
+            }
+        }
+    }
+    let next = next_look(alloc, work, body)?;
+    let steps = slice;
+    Ok(Made {
+        steps,
+        cost,
+        lines,
+        next,
+    })
+}
+
 /// Does statements of a process, as many as `slice` at most, from a copy of its start, and stops where the
 /// next one asks for something or finds its body stuck. `slice` is 1 to 1,000,000. After want of memory
 /// nothing has changed.
@@ -91,26 +153,7 @@ pub fn advance(alloc: Global, process: u32, start: Arc<Body>, slice: u32) -> Res
 {
     let mut body = copy_body(alloc, &start)?;
     let mut work = Work::new(alloc);
-    let mut lines = Seq::new(alloc);
-    let mut cost: u64 = 0;
-    'steps: for steps in 0..slice {
-        match step(alloc, &mut work, &mut body)? {
-            Finish::Went(line, more) => {
-                add_line(&mut lines, line)?;
-                cost = both(cost, more)?;
-            }
-            Finish::Asks(ask) => {
-                let end = Arc::new(alloc, body)?;
-                return Ok(Done::new(process, start, end, Made { steps, cost, lines }, Some(ask)));
-            }
-            Finish::Stuck => {
-                let end = Arc::new(alloc, body)?;
-                return Ok(Done::new(process, start, end, Made { steps, cost, lines }, None));
-            }
-        }
-    }
-    let ask = next_ask(alloc, &mut work, &body)?;
+    let made = proceed(alloc, &mut work, &mut body, slice)?;
     let end = Arc::new(alloc, body)?;
-    let steps = slice;
-    Ok(Done::new(process, start, end, Made { steps, cost, lines }, ask))
+    Ok(Done::new(process, start, end, made))
 }

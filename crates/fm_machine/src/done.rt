@@ -2,21 +2,36 @@
 
 ghost use Rattle.std.specs.Prelude.{◌≡◌, ◌≤◌, Some, None, false};
 ghost use Rattle.std.specs.Option.{option_map};
-ghost use Rattle.fm_code.specs.Statements.{run, ask_of, is_stuck};
+ghost use Rattle.fm_code.specs.Statements.{run, action_of, ask_of, is_stuck};
+ghost use Rattle.fm_calling.specs.Looks.{look_in};
+ghost use Rattle.fm_machine.specs.Finished.{asked_in};
 
 use fm_base::Seq;
+use fm_calling::Look;
 use fm_code::{Ask, Body};
 use std::sync::Arc;
 
 /// What was made of a slice.
 #[derive(Drop)]
-pub(crate) struct Made {
+pub struct Made {
     /// How many statements were done.
-    pub(crate) steps: u32,
+    pub steps: u32,
     /// What they cost.
-    pub(crate) cost: u64,
+    pub cost: u64,
     /// The lines that they put out.
-    pub(crate) lines: Seq<Seq<u8>>,
+    pub lines: Seq<Seq<u8>>,
+    /// What the next statement does.
+    pub next: Look,
+}
+
+fn asked_in(look: Look) -> Option<Ask>
+    ensures { result ≡ asked_in look }
+{
+    match look {
+        Look::Goes => None,
+        Look::Asks(ask) => Some(ask),
+        Look::Stuck => None,
+    }
 }
 
 /// What a slice of a process came to: its start, run for so many statements, gives its end, its new output
@@ -37,24 +52,25 @@ pub struct Done {
 }
 
 impl Done {
-    /// What came of a slice: the body after it, what was made of it, and what is asked for then.
-    pub(crate) fn new(
-        process: u32,
-        start: Arc<Body>,
-        end: Arc<Body>,
-        made: Made,
-        ask: Option<Ask>,
-    ) -> Done
+    /// What came of a slice: the body after it, and what was made of it.
+    #[tactic(auto, using(crate::proofs::Telling::asked_look))]
+    pub(crate) fn new(process: u32, start: Arc<Body>, end: Arc<Body>, made: Made) -> Done
         requires ran { run made.steps start.value ≡ Some (record { body = end.value; lines = made.lines; cost = made.cost }) }
-        requires asks { ask ≡ ask_of end.value }
+        requires next { made.next ≡ look_in (action_of end.value) }
         requires within { made.steps ≤ 1000000 }
-        requires moves { ask ≡ None → is_stuck start.value ≡ false → 1 ≤ made.steps }
+        requires moves { ask_of end.value ≡ None → is_stuck start.value ≡ false → 1 ≤ made.steps }
         ensures process { result.process ≡ process }
         ensures start { result.start ≡ start }
         ensures steps { result.steps ≡ made.steps }
         ensures end { result.end ≡ end }
     {
-        let Made { steps, cost, lines } = made;
+        let Made {
+            steps,
+            cost,
+            lines,
+            next,
+        } = made;
+        let ask = asked_in(next);
         Done {
             process,
             steps,

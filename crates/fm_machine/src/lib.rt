@@ -1,6 +1,7 @@
 //! The machine: runs the stack code of one process.
 //!
-//! `advance` does statements that touch nothing but the process, and tells what the next one asks for.
+//! `advance` and, in place, `proceed` do statements that touch nothing but the process, and tell what the
+//! next one asks for. `let_go` does one that lets ports go.
 #![tactic(auto)]
 
 mod advancing;
@@ -8,5 +9,5 @@ mod done;
 mod opening;
 mod performing;
 
-pub use advancing::advance;
-pub use done::Done;
+pub use advancing::{advance, let_go, next_look, proceed};
+pub use done::{Done, Made};

@@ -1,10 +1,10 @@
 //! Calls, references and starts.
 
 ghost use Rattle.std.specs.Prelude.{◌≡◌, IfOk, Some, None, replicate};
-ghost use Rattle.fm_code.specs.Statements.{unit_at, at_statement, new_frame, ran, ask_in, starts};
+ghost use Rattle.fm_code.specs.Statements.{unit_at, at_statement, new_frame, ran, starts};
 ghost use Rattle.fm_code.specs.Passing.{all_fit};
 ghost use Rattle.fm_calling.specs.Looks.{look_in};
-ghost use Rattle.fm_machine.specs.Finished.{opened_by, opening, starting, went, asked, Stays};
+ghost use Rattle.fm_machine.specs.Finished.{opened_by, opening, starting, went, told, Stays};
 
 use crate::performing::Finish;
 use fm_base::{Machine, NoMemory, Seq};
@@ -192,7 +192,7 @@ pub(crate) fn start(
     body: &mut Body,
 ) -> Result<Finish, NoMemory>
     ensures ran { IfOk result (λ f. went f body.new ≡ ran (starts number (unit_at body.old number) body.old to operands.now place.now)) }
-    ensures asks { IfOk result (λ f. asked f ≡ ask_in (starts number (unit_at body.old number) body.old to operands.now place.now)) }
+    ensures tells { IfOk result (λ f. told f ≡ look_in (starts number (unit_at body.old number) body.old to operands.now place.now)) }
     ensures stays { IfOk result (λ f. Stays f body.old body.new) }
 {
     match seat_for(body, number, place)? {

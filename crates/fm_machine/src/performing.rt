@@ -1,13 +1,12 @@
 //! What statements do to their body.
 
-ghost use Rattle.std.specs.Prelude.{◌≡◌, [], ◌∷◌, slice_set, IfOk, OnOk};
+ghost use Rattle.std.specs.Prelude.{◌≡◌, [], ◌∷◌, false, slice_set, IfOk, OnOk};
 ghost use Rattle.fm_code.specs.Acts.{Prints};
 ghost use Rattle.fm_code.specs.Passing.{back_words};
-ghost use Rattle.fm_code.specs.Statements.{Own, action_by, gives_back, results_in, closes, moves, ran, ask_in, at_statement};
+ghost use Rattle.fm_code.specs.Statements.{Own, action_by, gives_back, results_in, closes, moves, ran, is_stuck_in, at_statement};
 ghost use Rattle.fm_instructions.specs.Told.{changed, ended, turned};
-ghost use Rattle.fm_calling.specs.declared.looking.Look.TheVariants as look;
 ghost use Rattle.fm_calling.specs.Looks.{look_in};
-ghost use Rattle.fm_machine.specs.Finished.{went, asked, Stays, opening};
+ghost use Rattle.fm_machine.specs.Finished.{went, told, drops_in, Stays, opening};
 
 use crate::opening::{go_to, look_open, look_start, open, start};
 use fm_base::{NoMemory, Printed, Seq, output_line};
@@ -86,8 +85,8 @@ fn back_words(backs: &[Back]) -> Result<u64, NoMemory>
 /// The innermost frame gives back to the one below it. The cost.
 #[tactic(auto, using(crate::proofs::Returning::returns_fit, crate::proofs::Returning::returns_so))]
 fn give_back(alloc: Global, body: &mut Body) -> Result<u64, NoMemory>
-    requires { look_in (gives_back body.old body.old.below) ≡ look.Goes }
-    ensures { IfOk result (λ cost. gives_back body.old body.old.below ≡ Own body.new [] [] cost) }
+    requires { is_stuck_in (gives_back body.old body.old.below) ≡ false }
+    ensures { IfOk result (λ cost. gives_back body.old body.old.below ≡ Own body.new [] (drops_in (gives_back body.old body.old.below)) cost) }
 {
     // A step was told, so there is a caller.
     let Some(caller) = body.below.pop() else {
@@ -109,8 +108,7 @@ fn give_back(alloc: Global, body: &mut Body) -> Result<u64, NoMemory>
 /// The innermost frame leaves a result with the one below it.
 #[tactic(auto, using(crate::proofs::Returning::results_so))]
 fn leave_result(value: i64, body: &mut Body) -> Result<(), NoMemory>
-    requires { look_in (results_in body.old value body.old.below) ≡ look.Goes }
-    ensures { OnOk result (results_in body.old value body.old.below ≡ Own body.new [] [] 1) }
+    ensures { OnOk result (results_in body.old value body.old.below ≡ Own body.new [] (drops_in (results_in body.old value body.old.below)) 1) }
 {
     // A step was told, so there is a caller.
     let Some(caller) = body.below.pop() else {
@@ -121,21 +119,17 @@ fn leave_result(value: i64, body: &mut Body) -> Result<(), NoMemory>
     Ok(())
 }
 
-/// A port is let go, which isn't there.
-#[tactic(auto, using(crate::proofs::Telling::own_so))]
+/// A port is let go, if it is there.
 fn close(number: u32, to: u32, body: &mut Body)
-    requires { look_in (closes body.old number to) ≡ look.Goes }
-    ensures { closes body.old number to ≡ Own body.new [] [] 1 }
+    ensures { closes body.old number to ≡ Own body.new [] (drops_in (closes body.old number to)) 1 }
 {
     write(&mut body.frame.words, number as usize, 0);
     go_to(&mut body.frame, to);
 }
 
 /// What is in one word goes to another.
-#[tactic(auto, using(crate::proofs::Telling::own_so))]
 fn move_port(from: u32, into: u32, to: u32, body: &mut Body)
-    requires { look_in (moves body.old from into to) ≡ look.Goes }
-    ensures { moves body.old from into to ≡ Own body.new [] [] 1 }
+    ensures { moves body.old from into to ≡ Own body.new [] (drops_in (moves body.old from into to)) 1 }
 {
     let port = word_at(body.frame.words.as_slice(), from as usize);
     write(&mut body.frame.words, from as usize, 0);
@@ -143,10 +137,10 @@ fn move_port(from: u32, into: u32, to: u32, body: &mut Body)
     go_to(&mut body.frame, to);
 }
 
-#[tactic(auto, using(crate::proofs::Telling::asks_run, crate::proofs::Telling::asks_so, crate::proofs::Telling::stuck_so))]
+#[tactic(auto, using(crate::proofs::Telling::goes_run, crate::proofs::Telling::asks_run, crate::proofs::Telling::stuck_run))]
 fn finish_return(alloc: Global, body: &mut Body) -> Result<Finish, NoMemory>
     ensures ran { IfOk result (λ f. went f body.new ≡ ran (gives_back body.old body.old.below)) }
-    ensures asks { IfOk result (λ f. asked f ≡ ask_in (gives_back body.old body.old.below)) }
+    ensures tells { IfOk result (λ f. told f ≡ look_in (gives_back body.old body.old.below)) }
     ensures stays { IfOk result (λ f. Stays f body.old body.new) }
 {
     match look_back(alloc, body)? {
@@ -156,10 +150,10 @@ fn finish_return(alloc: Global, body: &mut Body) -> Result<Finish, NoMemory>
     }
 }
 
-#[tactic(auto, using(crate::proofs::Telling::asks_run, crate::proofs::Telling::asks_so, crate::proofs::Telling::stuck_so))]
+#[tactic(auto, using(crate::proofs::Telling::goes_run, crate::proofs::Telling::asks_run, crate::proofs::Telling::stuck_run))]
 fn finish_value(alloc: Global, value: i64, body: &mut Body) -> Result<Finish, NoMemory>
     ensures ran { IfOk result (λ f. went f body.new ≡ ran (results_in body.old value body.old.below)) }
-    ensures asks { IfOk result (λ f. asked f ≡ ask_in (results_in body.old value body.old.below)) }
+    ensures tells { IfOk result (λ f. told f ≡ look_in (results_in body.old value body.old.below)) }
     ensures stays { IfOk result (λ f. Stays f body.old body.new) }
 {
     match look_value(alloc, body, value)? {
@@ -172,10 +166,10 @@ fn finish_value(alloc: Global, value: i64, body: &mut Body) -> Result<Finish, No
     }
 }
 
-#[tactic(auto, using(crate::proofs::Telling::asks_run, crate::proofs::Telling::asks_so, crate::proofs::Telling::stuck_so))]
+#[tactic(auto, using(crate::proofs::Telling::goes_run, crate::proofs::Telling::asks_run, crate::proofs::Telling::stuck_run))]
 fn finish_close(alloc: Global, number: u32, to: u32, body: &mut Body) -> Result<Finish, NoMemory>
     ensures ran { IfOk result (λ f. went f body.new ≡ ran (closes body.old number to)) }
-    ensures asks { IfOk result (λ f. asked f ≡ ask_in (closes body.old number to)) }
+    ensures tells { IfOk result (λ f. told f ≡ look_in (closes body.old number to)) }
     ensures stays { IfOk result (λ f. Stays f body.old body.new) }
 {
     match look_close(alloc, body, number, to)? {
@@ -188,7 +182,7 @@ fn finish_close(alloc: Global, number: u32, to: u32, body: &mut Body) -> Result<
     }
 }
 
-#[tactic(auto, using(crate::proofs::Telling::asks_run, crate::proofs::Telling::asks_so, crate::proofs::Telling::stuck_so))]
+#[tactic(auto, using(crate::proofs::Telling::goes_run, crate::proofs::Telling::asks_run, crate::proofs::Telling::stuck_run))]
 fn finish_move(
     alloc: Global,
     from: u32,
@@ -197,7 +191,7 @@ fn finish_move(
     body: &mut Body,
 ) -> Result<Finish, NoMemory>
     ensures ran { IfOk result (λ f. went f body.new ≡ ran (moves body.old from into to)) }
-    ensures asks { IfOk result (λ f. asked f ≡ ask_in (moves body.old from into to)) }
+    ensures tells { IfOk result (λ f. told f ≡ look_in (moves body.old from into to)) }
     ensures stays { IfOk result (λ f. Stays f body.old body.new) }
 {
     match look_move(alloc, body, from, into, to)? {
@@ -212,7 +206,7 @@ fn finish_move(
 
 fn finish_ending(alloc: Global, ending: Ending, body: &mut Body) -> Result<Finish, NoMemory>
     ensures ran { IfOk result (λ f. went f body.new ≡ ran (action_by body.old (ended ending body.old.frame))) }
-    ensures asks { IfOk result (λ f. asked f ≡ ask_in (action_by body.old (ended ending body.old.frame))) }
+    ensures tells { IfOk result (λ f. told f ≡ look_in (action_by body.old (ended ending body.old.frame))) }
     ensures stays { IfOk result (λ f. Stays f body.old body.new) }
 {
     match ending {
@@ -230,6 +224,34 @@ fn finish_ending(alloc: Global, ending: Ending, body: &mut Body) -> Result<Finis
     }
 }
 
+/// Does a statement that ends so, with the ports that it lets go. The cost; want of memory where no port
+/// can go.
+pub(crate) fn let_go_at_ending(
+    alloc: Global,
+    ending: Ending,
+    body: &mut Body,
+) -> Result<u64, NoMemory>
+    requires { is_stuck_in (action_by body.old (ended ending body.old.frame)) ≡ false }
+    ensures { IfOk result (λ cost. action_by body.old (ended ending body.old.frame) ≡ Own body.new [] (drops_in (action_by body.old (ended ending body.old.frame))) cost) }
+{
+    match ending {
+        Ending::Returns => give_back(alloc, body),
+        Ending::ReturnsValue(value) => {
+            leave_result(value, body)?;
+            Ok(1)
+        }
+        Ending::Closes(number, to) => {
+            close(number, to, body);
+            Ok(1)
+        }
+        Ending::Moves(from, into, to) => {
+            move_port(from, into, to, body);
+            Ok(1)
+        }
+        Ending::Goes(_) | Ending::Fails(_) | Ending::Asks(_) | Ending::Stuck => Err(NoMemory),
+    }
+}
+
 fn finish_open(
     alloc: Global,
     number: u32,
@@ -239,7 +261,7 @@ fn finish_open(
     body: &mut Body,
 ) -> Result<Finish, NoMemory>
     ensures ran { IfOk result (λ f. went f body.new ≡ ran (opening keeps number to operands.now body.old)) }
-    ensures asks { IfOk result (λ f. asked f ≡ ask_in (opening keeps number to operands.now body.old)) }
+    ensures tells { IfOk result (λ f. told f ≡ look_in (opening keeps number to operands.now body.old)) }
     ensures stays { IfOk result (λ f. Stays f body.old body.new) }
 {
     match open(alloc, number, to, keeps, operands, body)? {
@@ -256,7 +278,7 @@ pub(crate) fn perform(
     body: &mut Body,
 ) -> Result<Finish, NoMemory>
     ensures ran { IfOk result (λ f. went f body.new ≡ ran (action_by body.old (turned turn scratch.now body.old.frame))) }
-    ensures asks { IfOk result (λ f. asked f ≡ ask_in (action_by body.old (turned turn scratch.now body.old.frame))) }
+    ensures tells { IfOk result (λ f. told f ≡ look_in (action_by body.old (turned turn scratch.now body.old.frame))) }
     ensures stays { IfOk result (λ f. Stays f body.old body.new) }
 {
     let operands = scratch.operands.as_slice();

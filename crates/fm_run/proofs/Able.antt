@@ -1,23 +1,20 @@
 -- Whether a process can step, by what it needs.
-use Rattle.std.proofs.Common.{◌≡◌, ℕ, Bool, true, false, cond, Option, Some, None, List, refl, sym, ap, ◌∙◌, arith}
-use Rattle.fm_maps.specs.Sums.{value_or_zero}
+use Rattle.std.proofs.Common.{◌≡◌, ℕ, Bool, true, false, cond, Option, Some, None, refl, sym, ap, ◌∙◌}
 use Rattle.std.specs.Prelude.{is_some, option_map}
 use Rattle.std.specs.FinMap.{get}
 use Rattle.fm_base.specs.declared.path.ChanName.{ChanName}
 use Rattle.fm_base.specs.Channels.{Chan, Limits, ChannelOp, Push, Pop, Look, is_ready}
 use Rattle.fm_chan.specs.Received.{pops_at}
 use Rattle.fm_net.specs.Machine.{Place, State, Need, Nothing, Event, New, Children, Ask, Stop, Go, act, act_of, reply_at, gathered, served, served_at, finished}
-use Rattle.fm_net.specs.Owned.{IsOwned, name_of, present}
+use Rattle.fm_net.specs.Owned.{IsOwned}
 use Rattle.fm_net.proofs.Holders.{event_channel}
 use Rattle.fm_rules.specs.declared.program.Program.{Program}
 use Rattle.fm_mean.specs.Process.{Proc, has_ended, emptied}
 use Rattle.fm_mean.specs.Outcome.{need_in, need_of}
 use Rattle.fm_mean.specs.Steps.{ask, language, step}
 use Rattle.fm_mean.proofs.Lawful.{lawful}
-use Rattle.fm_plain.specs.Looking.{is_free, is_free_event}
-use Rattle.fm_run.specs.Goes.{is_served, joined_in, kids_by}
 
-some_map : {A B : Type 0} (f : A → B) (o : Option A) → is_some (option_map f o) ≡ is_some o
+pub some_map : {A B : Type 0} (f : A → B) (o : Option A) → is_some (option_map f o) ≡ is_some o
 some_map f None = refl
 some_map f (Some x) = refl
 
@@ -27,6 +24,20 @@ pops_served limits (Some ch) = elim (is_ready (Pop limits) ch) as (λ b. is_some
   | true ↦ refl
   | false ↦ refl
 ]
+
+-- an event of a channel that waits for nobody
+abbrev pub is_free_event : ChannelOp → Bool
+is_free_event (Push w m) = true
+is_free_event (Pop limits) = false
+is_free_event Look = true
+
+-- a need that waits for nobody
+abbrev pub is_free : Option Need → Bool
+is_free None = false
+is_free (Some Nothing) = true
+is_free (Some (Event c a)) = is_free_event a
+is_free (Some (New n writers)) = true
+is_free (Some (Children b n)) = false
 
 -- an event that waits for nobody is served where its channel is there
 free_served : (a : ChannelOp) (o : Option Chan) (ch : Chan) → o ≡ Some ch → is_free_event a ≡ true → is_some (served_at {Proc = Proc} a o) ≡ true
@@ -38,12 +49,8 @@ pub some_there : {A : Type 0} (o : Option A) → is_some o ≡ true → (x : A) 
 some_there None e = absurd (cc e)
 some_there (Some x) e = (x, refl)
 
-some_kids : (o : Option (List Proc)) → is_some o ≡ true → (kids : List Proc) × (o ≡ Some kids)
-some_kids None e = absurd (cc e)
-some_kids (Some kids) e = (kids, refl)
-
 module _ (program : Program) (s : State Proc) (p : Place) where
-  abbrev is_served_at : Option Need → Bool
+  abbrev pub is_served_at : Option Need → Bool
   is_served_at None = false
   is_served_at (Some need) = is_some (served has_ended s.procs s.chans p need)
 
@@ -60,7 +67,7 @@ module _ (program : Program) (s : State Proc) (p : Place) where
   steps_there (Some x) e can = (x, refl)
 
   module _ (x : Proc) (is : get s.procs p ≡ Some x) where
-    steps_served : is_some (step program s p) ≡ is_served_at (need_of program x)
+    pub steps_served : is_some (step program s p) ≡ is_served_at (need_of program x)
     steps_served =
         ap (λ o. is_some (option_map finished (act_of (ask program) has_ended emptied s.procs s.chans p o))) is
         ∙ acts_served (ask program x)
@@ -85,33 +92,3 @@ module _ (program : Program) (s : State Proc) (p : Place) where
 
     pub steps_freely : IsOwned (language program) s → is_free (need_of program x) ≡ true → is_some (step program s p) ≡ true
     steps_freely owned is_so = steps_served ∙ free owned (ask program x) refl is_so
-
-    served_from : (o : Option Need) → is_served_at o ≡ true → is_served s.chans o ≡ true
-    served_from None can = can
-    served_from (Some Nothing) can = refl
-    served_from (Some (Event c a)) can = can
-    served_from (Some (New n writers)) can = refl
-    served_from (Some (Children b n)) can = refl
-
-    -- a process that can step has what it needs of the channels
-    pub served_there : is_some (step program s p) ≡ true → is_served s.chans (need_of program x) ≡ true
-    served_there can = served_from (need_of program x) (sym steps_served ∙ can)
-
-    kids_from : (o : Option Need) → is_served_at o ≡ true → is_some (kids_by s.procs p (joined_in o)) ≡ true
-    kids_from None can = absurd (cc can)
-    kids_from (Some Nothing) can = refl
-    kids_from (Some (Event c a)) can = refl
-    kids_from (Some (New n writers)) can = refl
-    kids_from (Some (Children b n)) can = sym (some_map _ _) ∙ can
-
-    -- and of its children
-    pub kids_there : is_some (step program s p) ≡ true → (kids : List Proc) × (kids_by s.procs p (joined_in (need_of program x)) ≡ Some kids)
-    kids_there can = some_kids (kids_by s.procs p (joined_in (need_of program x))) (kids_from (need_of program x) (sym steps_served ∙ can))
-
-    -- no channel has the number of its next one
-    pub fresh_there : IsOwned (language program) s → get s.chans (name_of p x.next_channel) ≡ None
-    fresh_there owned = go (get s.chans (name_of p x.next_channel)) refl
-      where
-        go : (o : Option Chan) → get s.chans (name_of p x.next_channel) ≡ o → o ≡ None
-        go None e = refl
-        go (Some ch) e = absurd (omega (arith, owned.named p x.next_channel (omega (arith, ap present e)), ap (value_or_zero (λ (y : Proc). y.next_channel)) is))

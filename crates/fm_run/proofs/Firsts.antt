@@ -1,30 +1,13 @@
--- Before the first piece no port is held.
-use Rattle.std.proofs.Common.{◌≡◌, ◌≤◌, ◌++◌, ◌∷◌, [], ap, subst, arith}
+-- Before the first piece no port is open.
+use Rattle.std.proofs.Common.{◌≡◌, ap}
 use Rattle.std.specs.FinMap.{get-empty}
 use Rattle.fm_base.specs.PathOrder.{channel_cmp}
 use Rattle.fm_base.specs.Channels.{Chan, channel_of}
 use Rattle.fm_base.specs.declared.port.PortValue.{PortValue}
-use Rattle.fm_maps.specs.Sums.{total}
-use Rattle.fm_net.specs.Lawful.{holds}
-use Rattle.fm_net.specs.Machine.{Place, Procs}
 use Rattle.fm_net.specs.Owned.{open_at, opened}
-use Rattle.fm_net.proofs.Children.{not_own_child}
 use Rattle.fm_rules.specs.declared.program.Program.{Program}
-use Rattle.fm_mean.specs.Process.{Proc}
-use Rattle.fm_mean.specs.Steps.{first, language}
-use Rattle.fm_run.specs.declared.ports.Ports.{Ports}
-use Rattle.fm_run.specs.declared.processes.Processes.{Processes}
-use Rattle.fm_run.specs.Held.{AreLookedAt, AreLookedAtBut, HeldAreKept}
-use Rattle.fm_run.proofs.Playing.{first_owned}
+use Rattle.fm_mean.specs.Steps.{first}
 
 pub none_open : (program : Program) (z : PortValue) → opened (first program).chans z ≡ 0
 unfolding open_at
 none_open program z = ap (open_at z) (get-empty {X = Chan} channel_cmp (channel_of z))
-
-pub none_held : (program : Program) (ports : Ports) (m : Procs Proc) → m ≡ (first program).procs → HeldAreKept program ports m
-none_held program ports m is z h =
-    let h' : 1 ≤ total (holds (language program) z) (first program).procs = subst (λ (n : Procs Proc). 1 ≤ total (holds (language program) z) n) is h in
-    absurd (omega (arith, h', (first_owned program).stands z, none_open program z))
-
-pub all_looked : (program : Program) (x : Processes) → ((own : Place) → AreLookedAtBut program own x) → AreLookedAt program x
-all_looked program x all q s is = all (q ++ (0, 0) ∷ []) q s (not_own_child q (0, 0)) is

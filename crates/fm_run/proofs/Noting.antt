@@ -20,9 +20,8 @@ use Rattle.fm_mean.specs.Outcome.{ended_at, need_in, need_of}
 use Rattle.fm_mean.specs.Process.{Proc, has_ended}
 use Rattle.fm_mean.specs.Steps.{language, step}
 use Rattle.fm_mean.proofs.Lawful.{lawful}
-use Rattle.fm_plain.specs.Looking.{is_free}
 use Rattle.fm_run.specs.Noted.{IsNoted}
-use Rattle.fm_run.proofs.Able.{joins, receives, rests, steps_freely}
+use Rattle.fm_run.proofs.Able.{is_free, joins, receives, rests, steps_freely}
 use Rattle.fm_run.proofs.Others.{StaysOrEnded, Stands, able_along, came_along, others_along}
 
 some_of_and : (o : Option (List Proc)) (x : Proc) → is_some (with_child has_ended (Some x) o) ≡ (has_ended x && is_some o)

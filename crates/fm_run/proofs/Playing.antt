@@ -1,9 +1,9 @@
 -- Runs between two pieces, and their ends.
 use Rattle.std.proofs.Common.{◌≡◌, ℕ, ◌+◌, ◌<◌, ◌≤◌, true, Option, Some, None, List, [], ◌∷◌, ◌++◌, length, filter, replicate, refl, sym, ap, ap₂, ◌∙◌, subst, arith}
-use Rattle.std.specs.Prelude.{is_some, slice_get}
+use Rattle.std.specs.Prelude.{is_some, slice_get, slice_index_or}
 use Rattle.std.specs.FinMap.{get}
 use Rattle.std.proofs.lemmas.List.{length-replicate}
-use Rattle.std.proofs.lemmas.Option.{slice_get_within}
+use Rattle.std.proofs.lemmas.Option.{get_or_from_slice_get, slice_get_within}
 use Rattle.fm_base.specs.declared.schedule.Turn.{Turn}
 use Rattle.fm_sched.specs.Schedule.{Can, cost, play, used, IsLegal, IsFinal, IsReached}
 use Rattle.fm_sched.proofs.Runs.{IsLegal-append, play-append, used-append, length-le-used, cost-Some}
@@ -18,15 +18,13 @@ use Rattle.fm_net.specs.Starts.{child_places, starts_along, starts_of, choices_o
 use Rattle.fm_net.proofs.Histories.{choices_more, choices_stay}
 use Rattle.fm_net.proofs.Orders.{everybody, starts_more}
 use Rattle.fm_mean.proofs.Laws.{each_costs as step_costs}
-use Rattle.fm_run.specs.declared.pieces.Piece.{Piece}
-use Rattle.fm_run.specs.declared.player.Player.{Player}
+use Rattle.fm_run.specs.declared.net.Piece.{Piece}
 use Rattle.fm_run.specs.declared.run.Ending.{Ending}
 use Rattle.fm_run.specs.declared.run.Ending.TheVariants.{Ended, Spent}
 use Rattle.fm_run.specs.declared.run.Run.{Run}
 use Rattle.fm_run.specs.Orders.{Among, EachOnce, places_of, can_in, can_at, chosen}
 use Rattle.fm_run.specs.Pieces.{IsPiece}
-use Rattle.fm_run.specs.Readings.{order_of, state_of}
-use Rattle.fm_run.specs.Runs.{HaveSteps, IsFrontWithin, IsPlayedBy, AreAble, IsPlayed, EndsSo, IsRun}
+use Rattle.fm_run.specs.Runs.{HaveSteps, IsFrontWithin, IsPlayedBy, AreAble, EndsSo, IsRun}
 use Rattle.fm_run.proofs.Able.{steps_there}
 use Rattle.fm_run.proofs.Numbers.{among_filter, filter_among, none_chosen, once_filter}
 use Rattle.fm_run.proofs.Steps.{owned_reached}
@@ -132,6 +130,14 @@ module _ (program : Program) where
         go None is = absurd (cc (sym (ap (can_in program s) is) ∙ can))
         go (Some p) is = refl
 
+    -- and it is this place
+    pub stands_at : (n : ℕ) → can_at program s ps n ≡ true → slice_get ps n ≡ Some (slice_index_or ps n [])
+    stands_at n can = go (slice_get ps n) refl can
+      where
+        go : (o : Option Place) → slice_get ps n ≡ o → can_in program s o ≡ true → slice_get ps n ≡ Some (slice_index_or ps n [])
+        go None is none = absurd (cc none)
+        go (Some p) is some = is ∙ ap Some (sym (get_or_from_slice_get ps n p [] is))
+
     pub who_is : (n : ℕ) → can_at program s ps n ≡ true → (p : Place) → slice_get ps n ≡ Some p → is_some (step program s p) ≡ true
     who_is n can p is = sym (ap (can_in program s) is) ∙ can
 
@@ -153,22 +159,17 @@ module _ (program : Program) where
       let at = everybody (language program) (first_proc program) kept.choices kept.legal p x (ap (λ (u : State Proc). get u.procs p) kept.there ∙ is) in
       (at.0, ap (λ qs. slice_get qs at.0) kept.places_are ∙ at.1)
 
-  pub run_ended : (turns : ℕ) (player : Player) → IsPlayed program player → player.able.numbers.items ≡ [] → player.used ≤ turns → IsFrontWithin program turns player.history.items (order_of player.net.processes) → (o : Outcome) → o ≡ outcome_of program player.used (state_of program player.net)
-      → (r : Run) → r.history ≡ player.history → places_of r.paths.items ≡ order_of player.net.processes → r.ending ≡ Ended o → IsRun program turns r
-  run_ended turns player played none within front o o_is r h p e =
-      let k = played.history in
-      let s = state_of program player.net in
-      let ps = order_of player.net.processes in
-      let final : IsFinal (step program) s = nobody_can s ps (subst (λ (ns : List ℕ). AreAble program s ps ns) none played.able) (started_all player.history.items ps s player.used k) in
+  pub run_ended : (turns : ℕ) (hs : List Turn) (ps : List Place) (s : State Proc) (able : List ℕ) (paid : ℕ) → IsPlayedBy program hs ps s paid → AreAble program s ps able → able ≡ [] → paid ≤ turns → IsFrontWithin program turns hs ps
+      → (o : Outcome) → o ≡ outcome_of program paid s → (r : Run) → r.history.items ≡ hs → places_of r.paths.items ≡ ps → r.ending ≡ Ended o → IsRun program turns r
+  run_ended turns hs ps s able paid k exact none within front o o_is r h p e =
+      let final : IsFinal (step program) s = nobody_can s ps (subst (λ (ns : List ℕ). AreAble program s ps ns) none exact) (started_all hs ps s paid k) in
       record {
         choices = k.choices;
-        kept = ap (λ v. choices_of v.items (places_of r.paths.items)) h ∙ ap (λ (ps : List Place). choices_of player.history.items ps) p ∙ k.kept;
+        kept = ap (λ (ts : List Turn). choices_of ts (places_of r.paths.items)) h ∙ ap (λ (qs : List Place). choices_of hs qs) p ∙ k.kept;
         places = p ∙ k.places_are;
         legal = k.legal;
-        some_steps = subst HaveSteps (ap (λ v. v.items) (sym h)) k.some_steps;
-        front_within =
-            subst (λ (ts : List Turn). IsFrontWithin program turns ts (places_of r.paths.items)) (ap (λ v. v.items) (sym h))
-            (subst (λ (qs : List Place). IsFrontWithin program turns player.history.items qs) (sym p) front);
+        some_steps = subst HaveSteps (sym h) k.some_steps;
+        front_within = subst (λ (ts : List Turn). IsFrontWithin program turns ts (places_of r.paths.items)) (sym h) (subst (λ (qs : List Place). IsFrontWithin program turns hs qs) (sym p) front);
         ends = subst (λ (z : Ending). EndsSo program turns k.choices z) (sym e) (
           subst (IsFinal (step program)) (sym k.there) final,
           omega (arith, k.used_is),
@@ -180,20 +181,17 @@ module _ (program : Program) where
   pub main_first : (hs : List Turn) (ps : List Place) (s : State Proc) (paid : ℕ) → IsPlayedBy program hs ps s paid → slice_get ps 0 ≡ Some []
   main_first hs ps s paid kept = ap (λ (qs : List Place). slice_get qs 0) kept.places_are
 
-  pub run_spent : (turns : ℕ) (player : Player) → IsPlayed program player → turns < player.used → IsFrontWithin program turns player.history.items (order_of player.net.processes) → (r : Run) → r.history ≡ player.history → places_of r.paths.items ≡ order_of player.net.processes → r.ending ≡ Spent → IsRun program turns r
-  run_spent turns player played over front r h p e =
-      let k = played.history in
-      record {
-        choices = k.choices;
-        kept = ap (λ v. choices_of v.items (places_of r.paths.items)) h ∙ ap (λ (ps : List Place). choices_of player.history.items ps) p ∙ k.kept;
-        places = p ∙ k.places_are;
-        legal = k.legal;
-        some_steps = subst HaveSteps (ap (λ v. v.items) (sym h)) k.some_steps;
-        front_within =
-            subst (λ (ts : List Turn). IsFrontWithin program turns ts (places_of r.paths.items)) (ap (λ v. v.items) (sym h))
-            (subst (λ (qs : List Place). IsFrontWithin program turns player.history.items qs) (sym p) front);
-        ends = subst (λ (z : Ending). EndsSo program turns k.choices z) (sym e) (omega (arith, k.used_is));
-      }
+  pub run_spent : (turns : ℕ) (hs : List Turn) (ps : List Place) (s : State Proc) (paid : ℕ) → IsPlayedBy program hs ps s paid → turns < paid → IsFrontWithin program turns hs ps
+      → (r : Run) → r.history.items ≡ hs → places_of r.paths.items ≡ ps → r.ending ≡ Spent → IsRun program turns r
+  run_spent turns hs ps s paid k over front r h p e = record {
+    choices = k.choices;
+    kept = ap (λ (ts : List Turn). choices_of ts (places_of r.paths.items)) h ∙ ap (λ (qs : List Place). choices_of hs qs) p ∙ k.kept;
+    places = p ∙ k.places_are;
+    legal = k.legal;
+    some_steps = subst HaveSteps (sym h) k.some_steps;
+    front_within = subst (λ (ts : List Turn). IsFrontWithin program turns ts (places_of r.paths.items)) (sym h) (subst (λ (qs : List Place). IsFrontWithin program turns hs qs) (sym p) front);
+    ends = subst (λ (z : Ending). EndsSo program turns k.choices z) (sym e) (omega (arith, k.used_is));
+  }
 
 -- where none is chosen, none is left
 pub none_left : (choice : Option ℕ) (able : List ℕ) (o : Option ℕ) → o ≡ chosen choice able → ((n : ℕ) → o ≡ Some n → ⊥) → able ≡ []

@@ -28,3 +28,7 @@ on_ok_if (Err e) a b f = tt
 pub on_ok_seven : {T E : Type 0} {A B C D F G H I : Type 0} (r : Result T E) → OnOk r A → OnOk r B → OnOk r C → OnOk r D → OnOk r F → OnOk r G → OnOk r H → (A → B → C → D → F → G → H → I) → OnOk r I
 on_ok_seven (Ok x) a b c d f g h i = i a b c d f g h
 on_ok_seven (Err e) a b c d f g h i = tt
+
+pub on_ok_six : {T E : Type 0} {A B C D F G H : Type 0} (r : Result T E) → OnOk r A → OnOk r B → OnOk r C → OnOk r D → OnOk r F → OnOk r G → (A → B → C → D → F → G → H) → OnOk r H
+on_ok_six (Ok x) a b c d f g h = h a b c d f g
+on_ok_six (Err e) a b c d f g h = tt

@@ -1,23 +1,15 @@
 -- Pieces: several steps of one process.
 -- Source: this profile.
 use Rattle.std.specs.Prelude.{◌≡◌, ◌⊎◌, ℕ, ◌+◌, ◌<◌, ◌≤◌, Bool, true, false, is_some, Option, Some, None, List, replicate}
-use Rattle.std.specs.FinMap.{get, insert}
+use Rattle.std.specs.FinMap.{get}
 use Rattle.fm_sched.specs.Schedule.{play, IsLegal, Leads}
-use Rattle.fm_net.specs.Machine.{Place, Procs, State}
+use Rattle.fm_net.specs.Machine.{Place, State}
 use Rattle.fm_rules.specs.declared.program.Program.{Program}
 use Rattle.fm_mean.specs.Process.{Proc}
 use Rattle.fm_net.specs.Starts.{child_places, starts_along, starts_at}
 use Rattle.fm_mean.specs.Actions.{local_step}
 use Rattle.fm_mean.specs.Steps.{language, step}
-use Rattle.fm_plain.specs.Advance.{IsAdvanced}
-use Rattle.fm_plain.specs.declared.advancing.Advanced.{Advanced}
-use Rattle.fm_run.specs.declared.pieces.Piece.{Piece}
-
--- the process at a place made local steps, and it alone changed
-pub record AdvancesAt (program : Program) (slice : ℕ) (place : Place) (x : Proc) (a : Advanced) (old new : Procs Proc) : Type 0 where
-  pub after : Proc
-  pub advanced : IsAdvanced program slice x a after
-  pub procs_are : new ≡ insert old place after
+use Rattle.fm_run.specs.declared.net.Piece.{Piece}
 
 -- so many steps of one process: where they lead at what cost, and whom they start
 pub record Makes (program : Program) (s : State Proc) (p : Place) (steps : ℕ) (t : State Proc) (cost : ℕ) (starts : List Place) : Type 0 where

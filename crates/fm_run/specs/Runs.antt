@@ -1,7 +1,8 @@
 -- What a run of a program is.
 -- Source: this profile.
-use Rattle.std.specs.Prelude.{◌≡◌, ℕ, suc, ◌<◌, ◌≤◌, true, Option, Some, List, [], ◌∷◌, ◌++◌, length, replicate, slice_get, slice_index_or}
+use Rattle.std.specs.Prelude.{◌≡◌, ℕ, suc, ◌<◌, ◌≤◌, Bool, true, Option, Some, List, [], ◌∷◌, ◌++◌, length, replicate, slice_get, slice_index_or}
 use Rattle.fm_base.specs.declared.schedule.Turn.{Turn}
+use Rattle.fm_chan.specs.declared.channels.Channels.{Channels}
 use Rattle.fm_sched.specs.Schedule.{play, used, IsLegal, IsFinal}
 use Rattle.fm_net.specs.Machine.{Place, State}
 use Rattle.fm_rules.specs.declared.program.Program.{Program}
@@ -12,12 +13,9 @@ use Rattle.fm_mean.specs.Outcome.{outcome_of}
 use Rattle.fm_run.specs.declared.run.Ending.{Ending}
 use Rattle.fm_run.specs.declared.run.Ending.TheVariants.{Ended, Spent}
 use Rattle.fm_run.specs.declared.run.Run.{Run}
-use Rattle.fm_run.specs.declared.player.Player.{Player}
 use Rattle.fm_run.specs.Noted.{AreNoted, AreParents}
 use Rattle.fm_run.specs.Orders.{Among, AreMarked, EachOnce, places_of, can_at, chosen, ready_first, ready_after}
-use Rattle.fm_run.specs.Held.{IsSound}
 use Rattle.fm_run.specs.Pieces.{IsFull}
-use Rattle.fm_run.specs.Readings.{order_of, state_of}
 
 -- each entry has at least one step
 abbrev pub HaveSteps : List Turn → Type 0
@@ -46,22 +44,6 @@ pub record AreAble (program : Program) (s : State Proc) (places : List Place) (a
   pub whole : (n : ℕ) → can_at program s places n ≡ true → Among n able
   pub once : EachOnce able
 
--- the processes have numbers: who started each is told, and whether each is in the queue
-pub record AreNumbered (player : Player) : Type 0 where
-  pub started : AreParents (order_of player.net.processes) player.parents.items
-  pub counted : length player.parents.items ≡ length (order_of player.net.processes)
-  pub marked : AreMarked (length (order_of player.net.processes)) player.able.marks.items player.able.numbers.items
-
--- a run between two pieces
-pub record IsPlayed (program : Program) (player : Player) : Type 0 where
-  pub history : IsPlayedBy program player.history.items (order_of player.net.processes) (state_of program player.net) player.used
-  pub able : AreAble program (state_of program player.net) (order_of player.net.processes) player.able.numbers.items
-  pub sound : IsSound program player.net
-  pub noted : AreNoted program (state_of program player.net) player.net.channels (order_of player.net.processes)
-  pub numbered : AreNumbered player
-
--- ---- a run that follows its choices
-
 -- a run between two pieces: its state, its processes in the order of starting, and the numbers of those
 -- that can step, in the order in which they are served
 pub record Stand : Type 0 where
@@ -69,8 +51,23 @@ pub record Stand : Type 0 where
   pub places : List Place
   pub able : List ℕ
 
-abbrev pub stand_of : Program → Player → Stand
-stand_of program player = record { state = state_of program player.net; places = order_of player.net.processes; able = player.able.numbers.items }
+abbrev pub stand_at : State Proc → List Place → List ℕ → Stand
+stand_at s places able = record { state = s; places = places; able = able }
+
+-- the processes have numbers: who started each is told, and whether each is in the queue
+pub record AreNumbered (places : List Place) (parents : List ℕ) (marks : List Bool) (able : List ℕ) : Type 0 where
+  pub started : AreParents places parents
+  pub counted : length parents ≡ length places
+  pub marked : AreMarked (length places) marks able
+
+-- a run stands so between two pieces, with these channels, behind these pieces, at this cost
+pub record IsPlayed (program : Program) (a : Stand) (channels : Channels) (pieces : List Turn) (parents : List ℕ) (marks : List Bool) (paid : ℕ) : Type 0 where
+  pub history : IsPlayedBy program pieces a.places a.state paid
+  pub able : AreAble program a.state a.places a.able
+  pub noted : AreNoted program a.state channels a.places
+  pub numbered : AreNumbered a.places parents marks a.able
+
+-- ---- a run that follows its choices
 
 -- main has started, and can step or can't
 abbrev pub first_stand : Program → Stand

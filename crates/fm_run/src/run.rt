@@ -1,12 +1,10 @@
 //! Runs a program.
 
 ghost use Rattle.std.specs.Prelude.{◌≡◌, ◌≤◌, ◌<◌, [], IfOk};
-ghost use Rattle.fm_mean.specs.Outcome.{outcome_of};
 ghost use Rattle.fm_run.specs.Orders.{places_of};
-ghost use Rattle.fm_run.specs.Readings.{order_of, state_of};
-ghost use Rattle.fm_run.specs.Runs.{Follows, IsPlayed, IsRun};
+ghost use Rattle.fm_run.specs.Runs.{Follows, IsRun};
 
-use crate::outcome::outcome;
+use crate::net::Net;
 use crate::player::Player;
 use fm_base::{NoMemory, Path, Turn};
 use fm_mean::Outcome;
@@ -34,27 +32,29 @@ pub struct Run {
     pub ending: Ending,
 }
 
-impl Player {
+impl<N: Net> Player<N> {
     fn spent(self) -> Run
-        ensures history { result.history ≡ self.history }
-        ensures paths { places_of result.paths.items ≡ order_of self.net.processes }
+        ensures history { result.history.items ≡ N.history self.net }
+        ensures paths { places_of result.paths.items ≡ N.order self.net }
         ensures ending { result.ending ≡ Ending.Spent }
     {
+        let (history, paths) = self.net.into_parts();
         Run {
-            history: self.history,
-            paths: self.net.processes.slots.into_paths(),
+            history,
+            paths,
             ending: Ending::Spent,
         }
     }
 
     fn ended(self, outcome: Outcome) -> Run
-        ensures history { result.history ≡ self.history }
-        ensures paths { places_of result.paths.items ≡ order_of self.net.processes }
+        ensures history { result.history.items ≡ N.history self.net }
+        ensures paths { places_of result.paths.items ≡ N.order self.net }
         ensures ending { result.ending ≡ Ending.Ended outcome }
     {
+        let (history, paths) = self.net.into_parts();
         Run {
-            history: self.history,
-            paths: self.net.processes.slots.into_paths(),
+            history,
+            paths,
             ending: Ending::Ended(outcome),
         }
     }
@@ -68,7 +68,7 @@ impl Player {
 /// become able come behind, in the order of starting, and behind them the one itself, where it can step
 /// still. A piece ends where it has `slice` steps, with an event, with the process's end or a fault, or
 /// where the process can't step. Who waits isn't asked again before it's woken.
-pub fn run_program(
+pub fn run_program<N: Net>(
     alloc: Global,
     program: &Program,
     choices: &[u64],
@@ -79,13 +79,13 @@ pub fn run_program(
     ensures run { IfOk result (λ r. IsRun program.now turns r) }
     ensures follows { IfOk result (λ r. Follows program.now slice choices.now r.history.items) }
 {
-    let mut player = Player::new(alloc, program)?;
+    let mut player: Player<N> = Player::new(alloc, program)?;
     'pieces: while let Some(number) = player.next(choices) {
         player.play(alloc, program, number, slice)?;
         if player.used > turns {
             return Ok(player.spent());
         }
     }
-    let outcome = outcome(alloc, &player.net, program, player.used)?;
+    let outcome = player.net.outcome(alloc, program, player.used)?;
     Ok(player.ended(outcome))
 }

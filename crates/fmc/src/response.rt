@@ -16,6 +16,7 @@ ghost use Rattle.fmc.specs.Reply.{bytes_of, places_in, IsReply, IsRunOf, IsSumma
 use crate::answer::{Exit, Ran, Reply, Text};
 use crate::listing::list_text;
 use fm_base::{CheckFail, Line, NoMemory, Path, Refusal, Setup};
+use fm_compiled::Compiled;
 use fm_front::{check_statements, front, statements};
 use fm_make::make;
 use fm_mean::Outcome;
@@ -113,7 +114,7 @@ fn run_source(
     ensures refused { IfErr result (IsRefusal (IsBroken bytes.now)) }
 {
     let program = front(alloc, bytes)?;
-    Ok(run_program(alloc, &program, choices, turns, slice)?)
+    Ok(run_program::<Compiled>(alloc, &program, choices, turns, slice)?)
 }
 
 // The answer of a run.

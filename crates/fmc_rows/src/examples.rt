@@ -5,13 +5,13 @@ use fmc::Exit;
 use std::test::Fail;
 
 /// A source, and the exit and the text of its run.
-struct Row {
-    source: &'static [u8],
-    exit: Exit,
+pub(crate) struct Row {
+    pub(crate) source: &'static [u8],
+    pub(crate) exit: Exit,
     text: &'static [u8],
 }
 
-const ROWS: [Row; 13] = [
+pub(crate) const ROWS: [Row; 13] = [
     Row {
         source: b"C     The primes up to 60, by the sieve of Eratosthenes.
       PROGRAM SIEVE

@@ -6,10 +6,10 @@ use fmc::Exit;
 use std::test::Fail;
 
 /// A source, whether the variables are asked for, and the exit and the text for it.
-struct Row {
-    source: &'static [u8],
+pub(crate) struct Row {
+    pub(crate) source: &'static [u8],
     words: &'static [&'static str],
-    exit: Exit,
+    pub(crate) exit: Exit,
     text: &'static [u8],
 }
 
@@ -17,7 +17,7 @@ const RUN: &[&str] = &["run"];
 
 const VARS: &[&str] = &["run", "--vars"];
 
-const ROWS: [Row; 28] = [
+pub(crate) const ROWS: [Row; 28] = [
     // Powers, quotients and remainders.
     Row {
         source: b"      PROGRAM P

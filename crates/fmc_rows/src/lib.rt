@@ -26,4 +26,6 @@ mod rules;
 #[cfg(test)]
 mod schedules;
 #[cfg(test)]
+mod trees;
+#[cfg(test)]
 mod words;

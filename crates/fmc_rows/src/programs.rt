@@ -8,9 +8,9 @@ use std::test::Fail;
 const USAGE: &[u8] = b"usage: fmc run or trace or replay or check or list or make N or demo N\n";
 
 /// A source, and the exit and the text for it.
-struct Row {
-    source: &'static [u8],
-    exit: Exit,
+pub(crate) struct Row {
+    pub(crate) source: &'static [u8],
+    pub(crate) exit: Exit,
     text: &'static [u8],
 }
 
@@ -163,7 +163,7 @@ const TOO_MANY_ONES: &[u8] = b"      PROGRAM P
       END
 ";
 
-const RUNS: [Row; 26] = [
+pub(crate) const RUNS: [Row; 26] = [
     Row {
         source: LEAST,
         exit: Exit::Done,

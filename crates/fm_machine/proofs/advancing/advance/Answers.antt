@@ -1,11 +1,6 @@
-use Rattle.std.proofs.Common.{rules, option_to_list}
-use Rattle.fm_machine.proofs.Slices.{moves_so, one_step}
+use Rattle.std.proofs.Common.{rules}
+use Rattle.fm_machine.proofs.Slices.{moves_so}
 use Rattle.fm_machine.proofs.advancing.advance.Goals as goal
 
-pub steps-preserved : goal.steps-preserved
-steps-preserved c =
-    one_step c.steps.steps c.args.start.value c.steps.body c.step.new.body c.steps.lines c.add_line.new.lines (option_to_list c.in-Went.line) c.steps.cost c.in_ok-cost-in-Went.cost c.in-Went.more
-    c.steps.invariant (search rules) c.in_ok-add_line-in-Went.ensures c.in_ok-cost-in-Went.ensures
-
-pub new-requires-in-Stuck-2-clause-moves : goal.new-requires-in-Stuck-2-clause-moves
-new-requires-in-Stuck-2-clause-moves c = λ none free. moves_so c.steps.steps c.args.start.value c.steps.body c.steps.lines c.steps.cost c.steps.invariant (search rules) (search rules) free
+pub new-requires-2-clause-moves : goal.new-requires-2-clause-moves
+new-requires-2-clause-moves c = λ none free. moves_so c.in_ok-made.made.steps c.args.slice c.args.start.value c.in_ok-end.end.value c.in_ok-made.made.lines c.in_ok-made.made.cost (search rules) (search rules) c.requires.some none free

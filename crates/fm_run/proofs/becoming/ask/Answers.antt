@@ -6,25 +6,25 @@ use Rattle.fm_run.proofs.becoming.ask.Goals as goal
 
 -- written before any check: the names of the goals and of the steps are guessed
 pub returns-then-number-own-clause-queue : goal.returns-then-number-own-clause-queue
-returns-then-number-own-clause-queue c = own_not_put c.args.able.now.numbers.items c.args.number c.args.own _ _ c.if-number-own.true
+returns-then-number-own-clause-queue g c = own_not_put c.args.able.now.numbers.items c.args.number c.args.own _ _ c.if-number-own.true
 
 pub returns-then-number-own-clause-waking : goal.returns-then-number-own-clause-waking
-returns-then-number-own-clause-waking c = wakes_nobody c.args.net.now.channels
+returns-then-number-own-clause-waking g c = wakes_nobody (g.N.Net.channels c.args.net.now)
 
 pub returns-then-number-own-clause-noted : goal.returns-then-number-own-clause-noted
-returns-then-number-own-clause-noted c = λ differs unmarked q x at is unable. absurd (differs c.if-number-own.true)
+returns-then-number-own-clause-noted g c = λ differs unmarked q x at is unable. absurd (differs c.if-number-own.true)
 
 pub returns-then-contains-clause-queue : goal.returns-then-contains-clause-queue
-returns-then-contains-clause-queue c = marked_not_put c.args.able.now.numbers.items c.args.number c.args.own _ _ (sym c.contains.ensures ∙ c.if-contains.true)
+returns-then-contains-clause-queue g c = marked_not_put c.args.able.now.numbers.items c.args.number c.args.own _ _ (sym c.contains.ensures ∙ c.if-contains.true)
 
 pub returns-then-contains-clause-waking : goal.returns-then-contains-clause-waking
-returns-then-contains-clause-waking c = wakes_nobody c.args.net.now.channels
+returns-then-contains-clause-waking g c = wakes_nobody (g.N.Net.channels c.args.net.now)
 
 pub returns-then-contains-clause-noted : goal.returns-then-contains-clause-noted
-returns-then-contains-clause-noted c = λ differs unmarked q x at is unable. absurd (cc (sym unmarked ∙ sym c.contains.ensures ∙ c.if-contains.true))
+returns-then-contains-clause-noted g c = λ differs unmarked q x at is unable. absurd (cc (sym unmarked ∙ sym c.contains.ensures ∙ c.if-contains.true))
 
 pub returns-clause-queue : goal.returns-clause-queue
-returns-clause-queue c = IfOk-weaker c.settle.result _ _ (λ u is. other_put c.args.able.now.numbers.items c.args.number c.args.own _ _ c.if-number-own.false (sym c.contains.ensures ∙ c.if-contains.false) c.settle.new.able.numbers.items is) c.settle.ensures.queue
+returns-clause-queue g c = IfOk-weaker c.settle.result _ _ (λ u is. other_put c.args.able.now.numbers.items c.args.number c.args.own _ _ c.if-number-own.false (sym c.contains.ensures ∙ c.if-contains.false) c.settle.new.able.numbers.items is) c.settle.ensures.queue
 
 pub returns-clause-noted : goal.returns-clause-noted
-returns-clause-noted c = IfOk-weaker c.settle.result _ _ (λ u noted differs unmarked. noted) c.settle.ensures.noted
+returns-clause-noted g c = IfOk-weaker c.settle.result _ _ (λ u noted differs unmarked. noted) c.settle.ensures.noted

@@ -1,6 +1,5 @@
-use Rattle.std.proofs.Common.{◌≡◌, ◌∷◌, ◌++◌, ℕ, [], List, cond, length, true, false, ◌≤◌, ◌<◌, refl, ap, ap₂, sym, subst, ◌∙◌, arith, rules}
-use Rattle.std.proofs.lemmas.List.{length-map}
-use Rattle.std.proofs.lemmas.Result.{IfOk-weaker}
+use Rattle.std.proofs.Common.{◌≡◌, ◌∷◌, ◌++◌, ℕ, [], List, cond, length, true, false, ◌≤◌, ◌<◌, ap, ap₂, sym, subst, ◌∙◌, arith, rules}
+use Rattle.fm_base.specs.declared.schedule.Turn.{Turn}
 use Rattle.fm_chan.specs.Bodies.{chans_of}
 use Rattle.fm_chan.specs.Woken.{woken_of}
 use Rattle.fm_net.specs.Machine.{Place, State}
@@ -14,8 +13,6 @@ use Rattle.fm_mean.specs.Process.{Proc}
 use Rattle.fm_run.specs.Noted.{AreNoted, AreParents, IsNoted}
 use Rattle.fm_run.specs.Runs.{AreAble, IsEntry, IsFrontWithin, IsPlayedBy}
 use Rattle.fm_run.specs.Orders.{Among, AreMarked, EachOnce, can_at, in_turn, others_in, ready_after}
-use Rattle.fm_run.specs.Readings.{order_of, state_of}
-use Rattle.fm_run.specs.declared.processes.Slot.{Slot}
 use Rattle.fm_run.proofs.Numbers.{all_in_turn, once_in_turn}
 use Rattle.fm_run.proofs.Playing.{are_able, kept_owned, known}
 use Rattle.fm_run.proofs.Results.{on_ok_both, on_ok_seven, on_ok_two}
@@ -23,53 +20,57 @@ use Rattle.fm_run.proofs.Serving.{candidates_whole, noted_all, noted_taken, othe
 use Rattle.fm_run.proofs.player.Player.play.Goals as goal
 
 pub keep_piece-requires-clause-able : goal.keep_piece-requires-clause-able
-keep_piece-requires-clause-able c = c.requires.played.able.within c.args.number c.requires.able
+keep_piece-requires-clause-able g c = c.requires.played.able.within c.args.number c.requires.able
 
 pub keep_piece-requires-clause-within : goal.keep_piece-requires-clause-within
-keep_piece-requires-clause-within c = λ n h.
+keep_piece-requires-clause-within g c = λ n h.
     let old = c.args.self.now in
-    known c.args.program.now (state_of c.args.program.now old.net) (order_of old.net.processes) n (c.requires.played.able.within n h)
+    known c.args.program.now (g.N.Net.state c.args.program.now old.net) (g.N.Net.order old.net) n (c.requires.played.able.within n h)
 
 pub leave-requires : goal.leave-requires
-leave-requires c = subst EachOnce (sym c.in_ok-keep_piece.ensures.able) c.requires.played.able.once
+leave-requires g c = subst EachOnce (sym c.in_ok-keep_piece.ensures.able) c.requires.played.able.once
 
 pub settle_all-requires-clause-owned : goal.settle_all-requires-clause-owned
-settle_all-requires-clause-owned c =
+settle_all-requires-clause-owned g c =
     let P = c.args.program.now in
     let mid = c.keep_piece.new.self in
     subst (IsOwned (language P)) (sym (c.in_ok-asked.ensures.state P))
-    (kept_owned P mid.history.items (order_of mid.net.processes) (state_of P mid.net) mid.used c.in_ok-keep_piece.ensures.kept)
+    (kept_owned P (g.N.Net.history mid.net) (g.N.Net.order mid.net) (g.N.Net.state P mid.net) mid.used c.in_ok-keep_piece.ensures.kept)
 
 pub settle_all-requires-clause-sound : goal.settle_all-requires-clause-sound
-settle_all-requires-clause-sound c = c.in_ok-asked.ensures.sound c.args.program.now c.in_ok-keep_piece.ensures.sound
+settle_all-requires-clause-sound g c = c.in_ok-asked.ensures.sound c.args.program.now c.in_ok-keep_piece.ensures.sound
 
 pub settle_all-requires-clause-sorted : goal.settle_all-requires-clause-sorted
-settle_all-requires-clause-sorted c = subst IsNonDecreasing (sym c.as_slice.ensures.value) c.in_ok-asked.ensures.sorted
+settle_all-requires-clause-sorted g c = subst IsNonDecreasing (sym c.as_slice.ensures.value) c.in_ok-asked.ensures.sorted
 
 pub settle_all-requires-clause-marked : goal.settle_all-requires-clause-marked
-settle_all-requires-clause-marked c =
-    subst (λ (rs : List Place). AreMarked (length rs) c.leave.new.self.marks.items c.leave.new.self.numbers.items) (sym (ap order_of c.in_ok-asked.ensures.processes))
-    (c.leave.ensures.marks (length (order_of c.keep_piece.new.self.net.processes)) c.in_ok-keep_piece.ensures.numbered.marked)
+settle_all-requires-clause-marked g c =
+    subst (λ (rs : List Place). AreMarked (length rs) c.leave.new.self.marks.items c.leave.new.self.numbers.items) (sym c.in_ok-asked.ensures.order)
+    (c.leave.ensures.marks (length (g.N.Net.order c.keep_piece.new.self.net)) c.in_ok-keep_piece.ensures.numbered.marked)
 
 pub settle-requires-clause-owned : goal.settle-requires-clause-owned
-settle-requires-clause-owned c =
+settle-requires-clause-owned g c =
     let P = c.args.program.now in
     let mid = c.keep_piece.new.self in
     subst (IsOwned (language P)) (sym (c.in_ok-settle_all.ensures.state ∙ c.in_ok-asked.ensures.state P))
-    (kept_owned P mid.history.items (order_of mid.net.processes) (state_of P mid.net) mid.used c.in_ok-keep_piece.ensures.kept)
+    (kept_owned P (g.N.Net.history mid.net) (g.N.Net.order mid.net) (g.N.Net.state P mid.net) mid.used c.in_ok-keep_piece.ensures.kept)
 
 -- `candidates`, `settle_all` and `settle` leave the state as it is. `leave` leaves the others in the queue, `settle_all` puts those that became able
 -- behind them, and `settle` the process itself: this is `ready_after`. Who can't step is noted, or left, until `settle`
 pub returns : goal.returns
-returns c =
+returns g c =
     let P = c.args.program.now in
     let number = c.args.number in
     let old = c.args.self.now in
     let mid = c.keep_piece.new.self in
-    let s = state_of P old.net in
-    let t = state_of P c.candidates.new.net in
-    let ps = order_of old.net.processes in
-    let qs = order_of c.candidates.new.net.processes in
+    let s = g.N.Net.state P old.net in
+    let t = g.N.Net.state P c.candidates.new.net in
+    let ps = g.N.Net.order old.net in
+    let qs = g.N.Net.order c.candidates.new.net in
+    let hs = g.N.Net.history old.net in
+    let later_hs = g.N.Net.history mid.net in
+    let old_chans = g.N.Net.channels old.net in
+    let mid_chans = g.N.Net.channels mid.net in
     let parents = c.as_slice-parents.result.now in
     let cs = c.as_slice.result.now in
     let able = old.able.numbers.items in
@@ -77,54 +78,56 @@ returns c =
     let exact = c.requires.played.able in
     let noted = c.requires.played.noted in
     let waking = c.in_ok-keep_piece.ensures.waking in
-    let whole : qs ≡ order_of mid.net.processes = ap order_of c.in_ok-asked.ensures.processes in
-    let same : t ≡ state_of P mid.net = c.in_ok-asked.ensures.state P in
-    let of_new : chans_of mid.net.channels ≡ t.chans = ap (λ (u : State Proc). u.chans) (sym same) in
-    let entry : IsEntry P c.args.slice number s ps old.history.items t qs mid.history.items =
-    subst (λ (u : State Proc). IsEntry P c.args.slice number s ps old.history.items u qs mid.history.items) (sym same)
-    (subst (λ (rs : List Place). IsEntry P c.args.slice number s ps old.history.items (state_of P mid.net) rs mid.history.items) (sym whole) c.in_ok-keep_piece.ensures.entry) in
-    let later : IsPlayedBy P mid.history.items qs t mid.used =
-    subst (λ (u : State Proc). IsPlayedBy P mid.history.items qs u mid.used) (sym same) (subst (λ (rs : List Place). IsPlayedBy P mid.history.items rs (state_of P mid.net) mid.used) (sym whole) c.in_ok-keep_piece.ensures.kept) in
+    let whole : qs ≡ g.N.Net.order mid.net = c.in_ok-asked.ensures.order in
+    let same : t ≡ g.N.Net.state P mid.net = c.in_ok-asked.ensures.state P in
+    let of_old : chans_of old_chans ≡ s.chans = g.met.N.Net.channels_are P old.net c.requires.sound in
+    let of_new : chans_of mid_chans ≡ t.chans = g.met.N.Net.channels_are P mid.net c.in_ok-keep_piece.ensures.sound ∙ ap (λ (u : State Proc). u.chans) (sym same) in
+    let entry : IsEntry P c.args.slice number s ps hs t qs later_hs =
+    subst (λ (u : State Proc). IsEntry P c.args.slice number s ps hs u qs later_hs) (sym same)
+    (subst (λ (rs : List Place). IsEntry P c.args.slice number s ps hs (g.N.Net.state P mid.net) rs later_hs) (sym whole) c.in_ok-keep_piece.ensures.entry) in
+    let later : IsPlayedBy P later_hs qs t mid.used =
+    subst (λ (u : State Proc). IsPlayedBy P later_hs qs u mid.used) (sym same) (subst (λ (rs : List Place). IsPlayedBy P later_hs rs (g.N.Net.state P mid.net) mid.used) (sym whole) c.in_ok-keep_piece.ensures.kept) in
     let started : AreParents qs parents =
     subst (AreParents qs) (sym c.as_slice-parents.ensures.value) (subst (λ (rs : List Place). AreParents rs mid.parents.items) (sym whole) c.in_ok-keep_piece.ensures.numbered.started) in
-    let woken_in : (n : ℕ) → Contains (woken_of mid.net.channels) n → Contains cs n = λ n k. subst (λ (ns : List ℕ). Contains ns n) (sym c.as_slice.ensures.value) (c.in_ok-asked.ensures.woken n k) in
+    let woken_in : (n : ℕ) → Contains (woken_of mid_chans) n → Contains cs n = λ n k. subst (λ (ns : List ℕ). Contains ns n) (sym c.as_slice.ensures.value) (c.in_ok-asked.ensures.woken n k) in
     let parent_in : (q : Place) (n : ℕ) → slice_get ps number ≡ Some q → ended_at (get t.procs q) ≡ true → slice_get parents number ≡ Some n → can_at P t qs n ≡ true → Contains cs n = λ q n at ended is can.
     subst (λ (ns : List ℕ). Contains ns n) (sym c.as_slice.ensures.value)
-    (c.in_ok-asked.ensures.parent P q n c.in_ok-keep_piece.ensures.sound (subst (λ (rs : List Place). slice_get rs number ≡ Some q) whole (stands_later P c.args.slice number s t ps qs old.history.items mid.history.items old.used kept entry able exact c.requires.able old.net.channels mid.net.channels refl of_new waking noted q at)) (subst (λ (u : State Proc). ended_at (get u.procs q) ≡ true) same ended) is
-    (subst (λ (rs : List Place). can_at P (state_of P mid.net) rs n ≡ true) whole (subst (λ (u : State Proc). can_at P u qs n ≡ true) same can))) in
-    let before : c.len-before.result ≡ length ps = c.len-before.ensures ∙ sym (length-map old.net.processes.slots (λ (row : Place × Slot). row.0)) in
+    (c.in_ok-asked.ensures.parent P q n c.in_ok-keep_piece.ensures.sound (subst (λ (rs : List Place). slice_get rs number ≡ Some q) whole (stands_later P c.args.slice number s t ps qs hs later_hs old.used kept entry able exact c.requires.able old_chans mid_chans of_old of_new waking noted q at)) (subst (λ (u : State Proc). ended_at (get u.procs q) ≡ true) same ended) is
+    (subst (λ (rs : List Place). can_at P (g.N.Net.state P mid.net) rs n ≡ true) whole (subst (λ (u : State Proc). can_at P u qs n ≡ true) same can))) in
     let new_in : (n : ℕ) → length ps ≤ n → n < length qs → Contains cs n = λ n high within.
-    subst (λ (ns : List ℕ). Contains ns n) (sym c.as_slice.ensures.value) (c.in_ok-asked.ensures.new n (omega (arith, high, before)) (subst (λ (rs : List Place). n < length rs) whole within)) in
+    subst (λ (ns : List ℕ). Contains ns n) (sym c.as_slice.ensures.value) (c.in_ok-asked.ensures.new n (omega (arith, high, c.count-before.ensures)) (subst (λ (rs : List Place). n < length rs) whole within)) in
     let others : c.leave.new.self.numbers.items ≡ others_in number able = c.leave.ensures.numbers ∙ ap (others_in number) c.in_ok-keep_piece.ensures.able in
-    let served = c.in_ok-settle_all.ensures.queue able others (candidates_whole P c.args.slice number s t ps qs old.history.items mid.history.items old.used kept entry able exact c.requires.able old.net.channels mid.net.channels refl of_new waking noted mid.used later parents started cs woken_in parent_in new_in) in
-    let ready : (n : ℕ) → Among n c.leave.new.self.numbers.items → can_at P t qs n ≡ true = subst (λ (ns : List ℕ). (n : ℕ) → Among n ns → can_at P t qs n ≡ true) (sym others) (others_ready P c.args.slice number s t ps qs old.history.items mid.history.items old.used kept entry able exact c.requires.able old.net.channels mid.net.channels refl of_new waking noted) in
-    let left = c.in_ok-settle_all.ensures.noted ready (noted_taken P c.args.slice number s t ps qs old.history.items mid.history.items old.used kept entry able exact c.requires.able old.net.channels mid.net.channels refl of_new waking noted mid.used later parents started cs woken_in parent_in new_in c.candidates.new.net.channels c.in_ok-asked.ensures.readers) in
+    let served = c.in_ok-settle_all.ensures.queue able others (candidates_whole P c.args.slice number s t ps qs hs later_hs old.used kept entry able exact c.requires.able old_chans mid_chans of_old of_new waking noted mid.used later parents started cs woken_in parent_in new_in) in
+    let ready : (n : ℕ) → Among n c.leave.new.self.numbers.items → can_at P t qs n ≡ true = subst (λ (ns : List ℕ). (n : ℕ) → Among n ns → can_at P t qs n ≡ true) (sym others) (others_ready P c.args.slice number s t ps qs hs later_hs old.used kept entry able exact c.requires.able old_chans mid_chans of_old of_new waking noted) in
+    let left = c.in_ok-settle_all.ensures.noted ready (noted_taken P c.args.slice number s t ps qs hs later_hs old.used kept entry able exact c.requires.able old_chans mid_chans of_old of_new waking noted mid.used later parents started cs woken_in parent_in new_in (g.N.Net.channels c.candidates.new.net) c.in_ok-asked.ensures.readers) in
     let stays = c.in_ok-settle_all.ensures.state in
-    let rs = order_of c.settle_all.new.net.processes in
-    let listed : rs ≡ qs = ap order_of c.in_ok-settle_all.ensures.processes in
-    let queued : c.settle.new.able.numbers.items ≡ c.settle_all.new.able.numbers.items ++ cond (can_at P (state_of P c.settle_all.new.net) rs number) (number ∷ []) [] → c.settle.new.able.numbers.items ≡ ready_after P t qs able number = λ last.
-    queue_is P c.args.slice number s t ps qs old.history.items mid.history.items old.used kept entry able exact c.requires.able old.net.channels mid.net.channels refl of_new waking noted c.settle_all.new.able.numbers.items c.settle.new.able.numbers.items served
+    let rs = g.N.Net.order c.settle_all.new.net in
+    let listed : rs ≡ qs = c.in_ok-settle_all.ensures.order in
+    let pieces : g.N.Net.history c.settle_all.new.net ≡ later_hs = c.in_ok-settle_all.ensures.history ∙ c.in_ok-asked.ensures.history in
+    let queued : c.settle.new.able.numbers.items ≡ c.settle_all.new.able.numbers.items ++ cond (can_at P (g.N.Net.state P c.settle_all.new.net) rs number) (number ∷ []) [] → c.settle.new.able.numbers.items ≡ ready_after P t qs able number = λ last.
+    queue_is P c.args.slice number s t ps qs hs later_hs old.used kept entry able exact c.requires.able old_chans mid_chans of_old of_new waking noted c.settle_all.new.able.numbers.items c.settle.new.able.numbers.items served
     (last ∙ ap₂ (λ (u : State Proc) (os : List Place). c.settle_all.new.able.numbers.items ++ cond (can_at P u os number) (number ∷ []) []) stays listed) in
+    let final_chans = g.N.Net.channels c.settle.new.net in
     record {
-      played = on_ok_seven c.settle.result c.settle.ensures.processes c.settle.ensures.state c.settle.ensures.queue c.settle.ensures.sound c.settle.ensures.noted c.settle.ensures.waking c.settle.ensures.marks (λ alike ends last sound own wakes marks.
+      sound = c.settle.ensures.sound;
+      played = on_ok_seven c.settle.result c.settle.ensures.order c.settle.ensures.history c.settle.ensures.state c.settle.ensures.queue c.settle.ensures.noted c.settle.ensures.waking c.settle.ensures.marks (λ alike told ends last own wakes marks.
           let final = ends ∙ stays in
-          let os = order_of c.settle.new.net.processes in
-          let same_order : os ≡ qs = ap order_of alike ∙ listed in
+          let same_order : g.N.Net.order c.settle.new.net ≡ qs = alike ∙ listed in
           record {
             history =
-                subst (λ (us : List Place). IsPlayedBy P mid.history.items us (state_of P c.settle.new.net) mid.used) (sym (same_order ∙ whole))
-                (subst (λ (u : State Proc). IsPlayedBy P mid.history.items (order_of mid.net.processes) u mid.used) (sym (final ∙ same)) c.in_ok-keep_piece.ensures.kept);
-            sound = sound;
+                subst (λ (ts : List Turn). IsPlayedBy P ts (g.N.Net.order c.settle.new.net) (g.N.Net.state P c.settle.new.net) mid.used) (sym (told ∙ pieces))
+                (subst (λ (us : List Place). IsPlayedBy P later_hs us (g.N.Net.state P c.settle.new.net) mid.used) (sym (same_order ∙ whole))
+                (subst (λ (u : State Proc). IsPlayedBy P later_hs (g.N.Net.order mid.net) u mid.used) (sym (final ∙ same)) c.in_ok-keep_piece.ensures.kept));
             able =
-                subst (λ (us : List Place). AreAble P (state_of P c.settle.new.net) us c.settle.new.able.numbers.items) (sym same_order)
+                subst (λ (us : List Place). AreAble P (g.N.Net.state P c.settle.new.net) us c.settle.new.able.numbers.items) (sym same_order)
                 (subst (λ (u : State Proc). AreAble P u qs c.settle.new.able.numbers.items) (sym final)
                 (are_able P t qs (in_turn number able (length qs)) c.settle.new.able.numbers.items (queued last) (all_in_turn number able (length qs)) (once_in_turn number able (length qs) exact.once)));
             noted =
-                subst (λ (us : List Place). AreNoted P (state_of P c.settle.new.net) c.settle.new.net.channels us) (sym same_order)
-                (subst (λ (u : State Proc). AreNoted P u c.settle.new.net.channels qs) (sym final)
-                (noted_all P t qs number cs c.settle_all.new.net.channels c.settle.new.net.channels wakes left
-                (subst (λ (u : State Proc). (q : Place) (x : Proc) → slice_get qs number ≡ Some q → get u.procs q ≡ Some x → is_some (step P u q) ≡ false → IsNoted P c.settle.new.net.channels number x) stays
-                (subst (λ (us : List Place). (q : Place) (x : Proc) → slice_get us number ≡ Some q → get (state_of P c.settle_all.new.net).procs q ≡ Some x → is_some (step P (state_of P c.settle_all.new.net) q) ≡ false → IsNoted P c.settle.new.net.channels number x) listed own))));
+                subst (λ (us : List Place). AreNoted P (g.N.Net.state P c.settle.new.net) final_chans us) (sym same_order)
+                (subst (λ (u : State Proc). AreNoted P u final_chans qs) (sym final)
+                (noted_all P t qs number cs (g.N.Net.channels c.settle_all.new.net) final_chans wakes left
+                (subst (λ (u : State Proc). (q : Place) (x : Proc) → slice_get qs number ≡ Some q → get u.procs q ≡ Some x → is_some (step P u q) ≡ false → IsNoted P final_chans number x) stays
+                (subst (λ (us : List Place). (q : Place) (x : Proc) → slice_get us number ≡ Some q → get (g.N.Net.state P c.settle_all.new.net).procs q ≡ Some x → is_some (step P (g.N.Net.state P c.settle_all.new.net) q) ≡ false → IsNoted P final_chans number x) listed own))));
             numbered = record {
               started = subst (λ (us : List Place). AreParents us mid.parents.items) (sym (same_order ∙ whole)) c.in_ok-keep_piece.ensures.numbered.started;
               counted = c.in_ok-keep_piece.ensures.numbered.counted ∙ ap length (sym (same_order ∙ whole));
@@ -132,11 +135,13 @@ returns c =
             };
           });
       used = search rules;
-      front = IfOk-weaker c.settle.result _ _ (λ u alike turns low.
-          subst (λ (us : List Place). IsFrontWithin P turns mid.history.items us) (sym (ap order_of alike ∙ listed ∙ whole)) (c.in_ok-keep_piece.ensures.front turns low)) c.settle.ensures.processes;
-      entry = on_ok_two c.settle.result c.settle.ensures.processes c.settle.ensures.state (λ alike ends.
-          subst (λ (us : List Place). IsEntry P c.args.slice number s ps old.history.items (state_of P c.settle.new.net) us mid.history.items) (sym (ap order_of alike ∙ listed))
-          (subst (λ (u : State Proc). IsEntry P c.args.slice number s ps old.history.items u qs mid.history.items) (sym (ends ∙ stays)) entry));
-      able = on_ok_both c.settle.result c.settle.ensures.processes c.settle.ensures.queue c.settle.ensures.state (λ alike last ends.
-          queued last ∙ ap₂ (λ (u : State Proc) (us : List Place). ready_after P u us able number) (sym (ends ∙ stays)) (sym (ap order_of alike ∙ listed)));
+      front = on_ok_two c.settle.result c.settle.ensures.order c.settle.ensures.history (λ alike told turns low.
+          subst (λ (ts : List Turn). IsFrontWithin P turns ts (g.N.Net.order c.settle.new.net)) (sym (told ∙ pieces))
+          (subst (λ (us : List Place). IsFrontWithin P turns later_hs us) (sym (alike ∙ listed ∙ whole)) (c.in_ok-keep_piece.ensures.front turns low)));
+      entry = on_ok_both c.settle.result c.settle.ensures.order c.settle.ensures.history c.settle.ensures.state (λ alike told ends.
+          subst (λ (ts : List Turn). IsEntry P c.args.slice number s ps hs (g.N.Net.state P c.settle.new.net) (g.N.Net.order c.settle.new.net) ts) (sym (told ∙ pieces))
+          (subst (λ (us : List Place). IsEntry P c.args.slice number s ps hs (g.N.Net.state P c.settle.new.net) us later_hs) (sym (alike ∙ listed))
+          (subst (λ (u : State Proc). IsEntry P c.args.slice number s ps hs u qs later_hs) (sym (ends ∙ stays)) entry)));
+      able = on_ok_both c.settle.result c.settle.ensures.order c.settle.ensures.queue c.settle.ensures.state (λ alike last ends.
+          queued last ∙ ap₂ (λ (u : State Proc) (us : List Place). ready_after P u us able number) (sym (ends ∙ stays)) (sym (alike ∙ listed)));
     }

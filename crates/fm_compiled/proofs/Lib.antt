@@ -1,0 +1,8 @@
+pub mod Standing
+pub mod Pieces
+pub mod Waiting
+pub mod Histories
+pub mod Beginning
+pub mod Entries
+pub mod Sound
+pub mod Awaiting

@@ -1,0 +1,38 @@
+-- Processes in memory as those of the language of stack code.
+-- Source: this profile.
+use Rattle.std.specs.Prelude.{Option, map}
+use Rattle.fm_code.specs.declared.body.Body.{Body}
+use Rattle.fm_bodies.specs.Slots.{Slots}
+use Rattle.fm_bodies.specs.Processes as code
+use Rattle.fm_bodies.specs.Processes.{CodeProc}
+use Rattle.fm_proc.specs.declared.process.Kid.{Kid}
+use Rattle.fm_proc.specs.declared.process.Phase.{Phase}
+use Rattle.fm_proc.specs.declared.process.Phase.TheVariants as phase
+use Rattle.fm_proc.specs.declared.process.Process.{Process}
+use Rattle.fm_proc.specs.declared.joining.Left.{Left}
+
+abbrev pub kid_of : Kid → code.Kid
+kid_of k = record { unit = k.unit; backs = k.backs }
+
+abbrev pub phase_of : Phase → code.Phase
+phase_of phase.Running = code.Running
+phase_of (phase.Joining block kids) = code.Joining block (map kid_of kids)
+phase_of phase.Ended = code.Ended
+phase_of (phase.Faulted line fault) = code.Faulted line.0 fault
+
+abbrev pub proc_of : Process → CodeProc
+proc_of y = record {
+  phase = phase_of y.phase;
+  body = y.body;
+  slots = y.slots;
+  lines = y.lines;
+  next_block = y.next_block;
+  next_channel = y.next_channel;
+}
+
+-- what a process leaves to its parent: its body, and its slots
+abbrev pub left_by : CodeProc → Option Body × Slots
+left_by y = (y.body, y.slots)
+
+abbrev pub left_of : Left → Option Body × Slots
+left_of l = (l.body, l.slots)

@@ -1,0 +1,65 @@
+//! Statements of a process that touch nothing but the process.
+
+ghost use Rattle.std.specs.Prelude.{◌≡◌, ◌≢◌, ◌≤◌, ◌++◌, true, false, IfOk, OnOk};
+ghost use Rattle.fm_bodies.specs.Needs.{is_local};
+ghost use Rattle.fm_proc.specs.Phases.{proc_of};
+ghost use Rattle.fm_proc.specs.Runs.{Runs};
+ghost use Rattle.fm_proc.specs.Told.{is_running, look_of};
+
+use crate::process::Process;
+use fm_base::{NoMemory, Seq};
+use fm_calling::Look;
+use fm_instructions::Work;
+use fm_machine::{Made, proceed};
+use std::alloc::Global;
+use std::mem::replace;
+
+/// What some statements came to.
+#[derive(Drop)]
+pub struct Advanced {
+    /// How many there were.
+    pub steps: u32,
+    /// What they cost.
+    pub cost: u64,
+    /// What the process does then.
+    pub next: Look,
+}
+
+fn add_lines(alloc: Global, lines: &mut Seq<Seq<u8>>, more: Seq<Seq<u8>>) -> Result<(), NoMemory>
+    ensures { OnOk result (lines.new ≡ lines.old ++ more) }
+{
+    let mut all = replace(lines, Seq::new(alloc)).into_vec();
+    let mut more = more.into_vec();
+    all.append(&mut more)?;
+    *lines = Seq::from_vec(all);
+    Ok(())
+}
+
+/// Does statements of a process, as many as `slice` at most, and stops where the next one touches channels or other processes,
+/// or where there is none. After want of memory the process may have lost its body.
+pub fn advance(
+    alloc: Global,
+    work: &mut Work,
+    process: &mut Process,
+    slice: u32,
+) -> Result<Advanced, NoMemory>
+    requires { is_running (proc_of process.old) ≡ true }
+    ensures runs { IfOk result (λ a. Runs (proc_of process.old) a.steps a.cost (proc_of process.new)) }
+    ensures within { IfOk result (λ a. a.steps ≤ slice) }
+    ensures next { IfOk result (λ a. a.next ≡ look_of (proc_of process.new)) }
+    ensures stops { IfOk result (λ a. a.steps ≢ slice → is_local (proc_of process.new) ≡ false) }
+{
+    let Some(mut body) = replace(&mut process.body, None) else {
+        unreachable!()
+    };
+    let made = proceed(alloc, work, &mut body, slice)?;
+    process.body = Some(body);
+    let Made {
+        steps,
+        cost,
+        lines,
+        next,
+    } = made;
+    add_lines(alloc, &mut process.lines, lines)?;
+    Ok(Advanced { steps, cost, next })
+}

@@ -1,0 +1,154 @@
+//! A net: processes and their channels in memory, whose steps are those of a program.
+
+ghost use Rattle.std.specs.Prelude.{◌≡◌, ◌≤◌, ◌++◌, ◌∷◌, ℕ, true, false, [], List, Some, length, slice_get, slice_index_or, option_to_list, IfNone, IfOk, OnOk};
+ghost use Rattle.std.specs.FinMap.{get};
+ghost use Rattle.fm_base.specs.declared.path.ChanName as declared_channel;
+ghost use Rattle.fm_base.specs.declared.schedule.Turn as declared_turn;
+ghost use Rattle.fm_chan.specs.declared.channels.Channels.{Channels};
+ghost use Rattle.fm_chan.specs.Bodies.{chans_of};
+ghost use Rattle.fm_chan.specs.Woken.{WakesAll, waiting_reader, woken_of};
+ghost use Rattle.fm_sched.specs.Schedule.{IsReached};
+ghost use Rattle.fm_net.specs.Machine.{Place, State};
+ghost use Rattle.fm_net.specs.Owned.{IsOwned};
+ghost use Rattle.fm_net.specs.Starts.{child_places};
+ghost use Rattle.fm_rules.specs.declared.program.Program as declared;
+ghost use Rattle.fm_mean.specs.Outcome.{ended_at, outcome_of};
+ghost use Rattle.fm_mean.specs.Process.{Proc};
+ghost use Rattle.fm_mean.specs.Steps.{first, language, step};
+ghost use Rattle.fm_run.specs.Noted.{IsNoted};
+ghost use Rattle.fm_run.specs.Orders.{can_at, places_of};
+ghost use Rattle.fm_run.specs.Pieces.{IsPiece};
+
+use fm_base::{NoMemory, Path, Turn};
+use fm_mean::Outcome;
+use fm_rules::Program;
+use std::alloc::Global;
+use std::sync::Arc;
+
+/// What a process did in its piece: local steps, and then one event, if it came to one that it could do.
+#[derive(Clone, Copy, Debug, PartialEq, Eq)]
+pub struct Piece {
+    /// The number of its steps.
+    pub steps: u32,
+    /// Their cost in turns.
+    pub cost: u64,
+    /// The number of the block that started, if one did.
+    pub block: u32,
+    /// How many children started.
+    pub started: usize,
+}
+
+/// What is known of the children that a process waits for.
+#[derive(Clone, Copy, Debug, PartialEq, Eq)]
+pub struct Awaited {
+    /// How many of them are known to have ended, from the first on.
+    pub ended: usize,
+    /// Whether it waits for one of them still.
+    pub waits: bool,
+}
+
+/// The processes of a run by their numbers, in the order of starting, also those that have ended, with
+/// their channels and the pieces that they made. Contracts see a state of the meaning.
+///
+/// After want of memory a net isn't to be used any more.
+pub trait Net: Drop {
+    /// The state of the meaning.
+    ghost state: { declared.Program → Self → State Proc };
+
+    /// The places of the processes, in the order of starting.
+    ghost order: { Self → List Place };
+
+    /// The channels, who waits at them, and who was woken.
+    ghost channels: { Self → Channels };
+
+    /// The pieces, from the first on.
+    ghost history: { Self → List declared_turn.Turn };
+
+    /// What holds between two pieces.
+    ghost IsSound: { declared.Program → Self → Type 0 };
+
+    /// Main alone, before the first piece.
+    fn first(alloc: Global, program: &Program) -> Result<Self, NoMemory>
+        ensures state { IfOk result (λ net. state program.now net ≡ first program.now) }
+        ensures order { IfOk result (λ net. order net ≡ [] ∷ []) }
+        ensures history { IfOk result (λ net. history net ≡ []) }
+        ensures sound { IfOk result (λ net. IsSound program.now net) };
+
+    /// The number of processes.
+    fn count(&self) -> usize
+        ensures { result ≡ length (order self.now) };
+
+    /// The number of pieces.
+    fn pieces(&self) -> usize
+        ensures { result ≡ length (history self.now) };
+
+    /// Makes a piece of a process, which can step: local steps, as many as `slice` at most, and then, where
+    /// an event stopped it before, that event, if it can do it; or a step that lets ports go.
+    fn make_piece(
+        &mut self,
+        alloc: Global,
+        program: &Program,
+        number: u32,
+        slice: u32,
+    ) -> Result<Piece, NoMemory>
+        requires some { 1 ≤ slice }
+        requires reached { IsReached (step program.now) (first program.now) (state program.now self.old) }
+        requires sound { IsSound program.now self.old }
+        requires able { can_at program.now (state program.now self.old) (order self.old) number ≡ true }
+        ensures sound { OnOk result (IsSound program.now self.new) }
+        ensures order { IfOk result (λ r. order self.new ≡ order self.old ++ child_places (slice_index_or (order self.old) number []) r.block 1 r.started) }
+        ensures piece { IfOk result (λ r. IsPiece program.now slice (state program.now self.old) (slice_index_or (order self.old) number []) r (state program.now self.new)) }
+        ensures history { IfOk result (λ r. history self.new ≡ history self.old ++ record { number = number; steps = r.steps } ∷ []) }
+        ensures waking { OnOk result (WakesAll (channels self.old) (channels self.new)) };
+
+    /// Whether the process of a number can step.
+    fn can_step(&self, program: &Program, number: u32) -> Result<bool, NoMemory>
+        requires owned { IsOwned (language program.now) (state program.now self.now) }
+        requires sound { IsSound program.now self.now }
+        ensures { IfOk result (λ r. r ≡ can_at program.now (state program.now self.now) (order self.now) number) };
+
+    /// Notes the process of a number, which can't step, at the channel at which it waits, if it waits at one.
+    fn note(&mut self, program: &Program, number: u32) -> Result<(), NoMemory>
+        requires owned { IsOwned (language program.now) (state program.now self.old) }
+        requires sound { IsSound program.now self.old }
+        requires waits { can_at program.now (state program.now self.old) (order self.old) number ≡ false }
+        ensures order { OnOk result (order self.new ≡ order self.old) }
+        ensures history { OnOk result (history self.new ≡ history self.old) }
+        ensures state { OnOk result (state program.now self.new ≡ state program.now self.old) }
+        ensures sound { OnOk result (IsSound program.now self.new) }
+        ensures noted { OnOk result ((q : Place) (x : Proc) → slice_get (order self.old) number ≡ Some q → get (state program.now self.old).procs q ≡ Some x → IsNoted program.now (channels self.new) number x) }
+        ensures waking { OnOk result (WakesAll (channels self.old) (channels self.new)) };
+
+    /// The number of one who was woken, which is taken out.
+    fn next_woken(&mut self) -> Option<u32>
+        ensures woken { woken_of (channels self.old) ≡ woken_of (channels self.new) ++ option_to_list result }
+        ensures none { IfNone result (woken_of (channels self.old) ≡ []) }
+        ensures readers { (c : declared_channel.ChanName) → waiting_reader (channels self.new) c ≡ waiting_reader (channels self.old) c }
+        ensures order { order self.new ≡ order self.old }
+        ensures history { history self.new ≡ history self.old }
+        ensures state { (p : declared.Program) → state p self.new ≡ state p self.old }
+        ensures sound { (p : declared.Program) → IsSound p self.old → IsSound p self.new };
+
+    /// Whether the process of a number has ended.
+    fn has_ended(&self, number: u32) -> bool
+        ensures { (p : declared.Program) (q : Place) → IsSound p self.now → slice_get (order self.now) number ≡ Some q → result ≡ ended_at (get (state p self.now).procs q) };
+
+    /// What is known of the children that the process of a number waits for, where so many of them, from the
+    /// first on, are known to have ended. One that can step waits for nobody.
+    fn awaits(&self, number: u32, before: usize) -> Result<Awaited, NoMemory>
+        ensures { IfOk result (λ r. (p : declared.Program) → IsSound p self.now → can_at p (state p self.now) (order self.now) number ≡ true → r.waits ≡ false) };
+
+    /// What the run shows when it has ended at this cost in turns.
+    fn outcome(&self, alloc: Global, program: &Program, used: u64) -> Result<Outcome, NoMemory>
+        requires sound { IsSound program.now self.now }
+        requires main { slice_get (order self.now) 0 ≡ Some [] }
+        ensures { IfOk result (λ o. o ≡ outcome_of program.now used (state program.now self.now)) };
+
+    /// The pieces, and the paths of the processes.
+    fn into_parts(self) -> (Vec<Turn>, Vec<Arc<Path>>)
+        ensures history { result.0.items ≡ history self }
+        ensures paths { places_of result.1.items ≡ order self };
+
+    /// The state has these channels.
+    ghost channels_are: { (p : declared.Program) (x : Self) → IsSound p x → chans_of (channels x) ≡ (state p x).chans };
+}

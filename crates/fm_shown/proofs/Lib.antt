@@ -1,0 +1,5 @@
+mod Needed
+mod Awaited
+mod Listed
+mod Holding
+mod Own

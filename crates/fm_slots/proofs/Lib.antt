@@ -1,0 +1,4 @@
+pub mod Backs
+pub mod Kept
+pub mod Numbers
+pub mod Stored

@@ -1,0 +1,4 @@
+pub mod Helds
+pub mod Stores
+pub mod Joins
+pub mod Keeps

@@ -1,0 +1,13 @@
+pub mod Maps
+pub mod Families
+pub mod Family
+pub mod Letting
+pub mod Served
+pub mod Doing
+pub mod Joining
+pub mod Born
+pub mod Placing
+pub mod Able
+pub mod Statements
+pub mod Looked
+pub mod Slices

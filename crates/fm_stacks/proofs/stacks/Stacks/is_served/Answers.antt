@@ -1,0 +1,13 @@
+use Rattle.std.proofs.Common.{sym, ◌∙◌}
+use Rattle.fm_chan.specs.Bodies.{chans_of}
+use Rattle.fm_proc.specs.Phases.{proc_of}
+use Rattle.fm_stacks.specs.Readings.{procs_of}
+use Rattle.fm_stacks.proofs.Served.{running_served}
+use Rattle.fm_stacks.proofs.stacks.Stacks.is_served.Goals as goal
+
+pub is_free-requires-clause-running : goal.is_free-requires-clause-running
+is_free-requires-clause-running c = sym c.is_running.ensures ∙ c.if-is_running.true
+
+pub returns-then-is_running : goal.returns-then-is_running
+returns-then-is_running c = λ q family.
+    c.is_free.ensures ∙ sym (running_served (procs_of c.args.self.now.entries) (chans_of c.args.self.now.channels) q (proc_of c.args.entry.now.process) (sym c.is_running.ensures ∙ c.if-is_running.true))

@@ -1,0 +1,16 @@
+//! Processes of stack code over channels.
+//!
+//! Contracts see the processes and channels (`Stacks`) as a state of the machine of stack code (`state_of`): a step of a process is the
+//! step of that machine (`code_step`), and a piece is so many of them (`IsPiece`). Of each process it is kept what it does next, and
+//! the number of the first of the children that it waits for (`AreKept`), so that nobody's statements are looked at twice.
+#![tactic(auto)]
+
+mod entries;
+mod pieces;
+mod ready;
+mod stacks;
+mod stepping;
+
+pub use entries::{Actor, Entries, Entry, number_behind};
+pub use pieces::CodePiece;
+pub use stacks::Stacks;

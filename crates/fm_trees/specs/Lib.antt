@@ -1,0 +1,7 @@
+pub mod Readings
+pub mod Held
+pub mod Goes
+pub mod Advances
+pub mod Shown
+pub mod Holding
+pub mod Waited
