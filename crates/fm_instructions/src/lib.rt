@@ -5,13 +5,18 @@
 
 mod asking;
 mod building;
+mod changing;
 mod deciding;
 mod evaluating;
 mod looping;
+mod onward;
 mod statements;
 mod turn;
+mod values;
 mod work;
 
+pub use changing::{change, go_to, write};
+pub use onward::go_on;
 pub use statements::statement;
 pub use turn::{Change, Ending, Turn};
 pub use work::Work;

@@ -49,7 +49,7 @@ pub(crate) fn enter(counts: Loop, ways: Ways, from: i64, to: i64, by: i64, frame
 }
 
 /// The trips that are left behind the next one, after a trip.
-fn fewer(behind: Option<u64>) -> Option<u64>
+pub(crate) fn fewer(behind: Option<u64>) -> Option<u64>
     ensures { result ≡ fewer behind }
 {
     match behind {

@@ -1,3 +1,4 @@
 pub mod Returning
 pub mod Telling
 pub mod Slices
+pub mod Going

@@ -23,7 +23,7 @@ moves_so zero slice start body lines cost e f g h i =
     absurd (cc)
 moves_so (suc n) slice start body lines cost e f g h i = omega arith
 
-abbrev some_ran : Ran → Option Ran
+abbrev pub some_ran : Ran → Option Ran
 some_ran r = Some r
 
 -- one statement more

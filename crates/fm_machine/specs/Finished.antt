@@ -5,8 +5,10 @@ use Rattle.fm_map.specs.Placement.{Seat}
 use Rattle.fm_code.specs.declared.ask.Ask.{Ask}
 use Rattle.fm_code.specs.declared.ask.Operand.{Operand}
 use Rattle.fm_code.specs.declared.body.Body.{Body}
+use Rattle.fm_code.specs.declared.body.Frame.{Frame}
+use Rattle.fm_code.specs.declared.instr.Instr.{Instr}
 use Rattle.fm_code.specs.Statements as statements
-use Rattle.fm_code.specs.Statements.{Action, Own, Meets, Ran, CodeUnit, unit_at, calls, refers, starts_at}
+use Rattle.fm_code.specs.Statements.{Action, Own, Meets, Ran, CodeUnit, unit_at, code_in, with_frame, run, calls, refers, starts_at}
 use Rattle.fm_calling.specs.declared.looking.Look.{Look}
 use Rattle.fm_calling.specs.declared.looking.Look.TheVariants as look
 use Rattle.fm_machine.specs.declared.performing.Finish.{Finish}
@@ -40,6 +42,10 @@ abbrev pub Stays : Finish → Body → Body → Type 0
 Stays (finish.Went line cost) old new = Unit {0}
 Stays (finish.Asks a) old new = new ≡ old
 Stays finish.Stuck old new = new ≡ old
+
+-- so many statements of a frame with this code change nothing else
+abbrev pub RunsFrame : List Instr → ℕ → (old new : Frame) → Type 0
+RunsFrame code n old new = (b : Body) → code ≡ code_in (unit_at b old.unit) → run n (with_frame b old) ≡ Some (record { body = with_frame b new; lines = []; cost = n })
 
 -- a frame was opened at this cost, or it doesn't fit
 abbrev pub opened_by : Option ℕ → Body → Action

@@ -6,14 +6,14 @@ ghost use Rattle.fm_code.specs.Statements as statements;
 ghost use Rattle.fm_code.specs.Statements.{Own, run, ran, action_of, ask_of, turn_of, code_in};
 ghost use Rattle.fm_instructions.specs.Told.{turned};
 ghost use Rattle.fm_calling.specs.Looks.{look_in};
-ghost use Rattle.fm_machine.specs.Finished.{went, told, Stays};
+ghost use Rattle.fm_machine.specs.Finished.{went, told, Stays, RunsFrame};
 
 use crate::done::{Done, Made};
 use crate::performing::{Finish, let_go_at_ending, look, perform};
 use fm_base::{NoMemory, Seq};
 use fm_calling::{Look, unit_at};
-use fm_code::{Body, Instr, copy_body};
-use fm_instructions::{Turn, Work, statement};
+use fm_code::{Body, Frame, Instr, copy_body};
+use fm_instructions::{Turn, Work, go_on, statement};
 use std::alloc::Global;
 use std::sync::Arc;
 
@@ -89,6 +89,33 @@ fn both(first: u64, second: u64) -> Result<u64, NoMemory>
     first.checked_add(second).ok_or(NoMemory)
 }
 
+/// Does statements that change nothing but their frame, as many as `slice` at most. How many: each costs 1.
+#[inline(never)]
+#[tactic(auto, using(crate::proofs::Going::frame_step))]
+fn go_on_many(code: &[Instr], work: &mut Work, frame: &mut Frame, slice: u32) -> u32
+    ensures ran { RunsFrame code.now result frame.old frame.new }
+    ensures within { result ≤ slice }
+{
+    'steps: for steps in 0..slice {
+        if !go_on(code, work, frame) {
+            return steps;
+        }
+    }
+    slice
+}
+
+/// Does statements of a body that change nothing but its innermost frame, as many as `slice` at most. How
+/// many: each costs 1.
+fn go_on_alone(work: &mut Work, body: &mut Body, slice: u32) -> u32
+    ensures ran { run result body.old ≡ Some (record { body = body.new; lines = []; cost = result }) }
+    ensures within { result ≤ slice }
+{
+    match unit_at(&body.code, body.frame.unit) {
+        Some(unit) => go_on_many(unit.code.as_slice(), work, &mut body.frame, slice),
+        None => 0,
+    }
+}
+
 /// Does statements of a body in its place, as many as `slice` at most, and stops where the next one asks for
 /// something or finds the body stuck. After want of memory the body may have gone on.
 pub fn proceed(
@@ -104,11 +131,19 @@ pub fn proceed(
 {
     let mut lines = Seq::new(alloc);
     let mut cost: u64 = 0;
-    'steps: for steps in 0..slice {
+    let mut steps: u32 = 0;
+    'steps: while steps < slice {
+        let alone = go_on_alone(work, body, slice - steps);
+        cost = both(cost, u64::from(alone))?;
+        steps += alone;
+        if steps == slice {
+            break;
+        }
         match step(alloc, work, body)? {
             Finish::Went(line, more) => {
                 add_line(&mut lines, line)?;
                 cost = both(cost, more)?;
+                steps += 1;
             }
             Finish::Asks(ask) => {
                 let next = Look::Asks(ask);

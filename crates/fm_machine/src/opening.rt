@@ -1,7 +1,7 @@
 //! Calls, references and starts.
 
 ghost use Rattle.std.specs.Prelude.{◌≡◌, IfOk, Some, None, replicate};
-ghost use Rattle.fm_code.specs.Statements.{unit_at, at_statement, new_frame, ran, starts};
+ghost use Rattle.fm_code.specs.Statements.{unit_at, new_frame, ran, starts};
 ghost use Rattle.fm_code.specs.Passing.{all_fit};
 ghost use Rattle.fm_calling.specs.Looks.{look_in};
 ghost use Rattle.fm_machine.specs.Finished.{opened_by, opening, starting, went, told, Stays};
@@ -10,16 +10,9 @@ use crate::performing::Finish;
 use fm_base::{Machine, NoMemory, Seq};
 use fm_calling::{Entered, Look, all_fit, enter, fail, seat_for, unit_at};
 use fm_code::{Body, Frame, Operand, Place, Row, Start, Turns, Unit};
+use fm_instructions::go_to;
 use std::alloc::Global;
 use std::mem::replace;
-
-/// Goes on at a statement: no reference of that one is done yet.
-pub(crate) fn go_to(frame: &mut Frame, to: u32)
-    ensures { frame.new ≡ at_statement frame.old to }
-{
-    frame.address = to;
-    frame.results.clear();
-}
 
 /// The loops of a unit, none of them begun.
 fn no_loops(alloc: Global, count: u32) -> Result<Row<Option<Turns>>, NoMemory>

@@ -1,18 +1,18 @@
 //! What statements do to their body.
 
-ghost use Rattle.std.specs.Prelude.{◌≡◌, [], ◌∷◌, false, slice_set, IfOk, OnOk};
+ghost use Rattle.std.specs.Prelude.{◌≡◌, [], ◌∷◌, false, IfOk, OnOk};
 ghost use Rattle.fm_code.specs.Acts.{Prints};
 ghost use Rattle.fm_code.specs.Passing.{back_words};
-ghost use Rattle.fm_code.specs.Statements.{Own, action_by, gives_back, results_in, closes, moves, ran, is_stuck_in, at_statement};
-ghost use Rattle.fm_instructions.specs.Told.{changed, ended, turned};
+ghost use Rattle.fm_code.specs.Statements.{Own, action_by, gives_back, results_in, closes, moves, ran, is_stuck_in};
+ghost use Rattle.fm_instructions.specs.Told.{ended, turned};
 ghost use Rattle.fm_calling.specs.Looks.{look_in};
 ghost use Rattle.fm_machine.specs.Finished.{went, told, drops_in, Stays, opening};
 
-use crate::opening::{go_to, look_open, look_start, open, start};
+use crate::opening::{look_open, look_start, open, start};
 use fm_base::{NoMemory, Printed, Seq, output_line};
 use fm_calling::{Look, fail, give_all, look_back, look_close, look_move, look_value, word_at};
-use fm_code::{Ask, Back, Body, Frame, Operand, Row, Scratch, Turns};
-use fm_instructions::{Change, Ending, Turn};
+use fm_code::{Ask, Back, Body, Operand, Row, Scratch};
+use fm_instructions::{Ending, Turn, change, go_to, write};
 use std::alloc::Global;
 use std::mem::replace;
 
@@ -25,35 +25,6 @@ pub(crate) enum Finish {
     Asks(Ask),
     /// An instruction doesn't find what it needs.
     Stuck,
-}
-
-fn write(words: &mut Row<i64>, number: usize, word: i64)
-    ensures { words.new ≡ slice_set words.old number word }
-{
-    if number < words.len() {
-        words.set(number, word);
-    }
-}
-
-fn write_turns(loops: &mut Row<Option<Turns>>, number: usize, turns: Option<Turns>)
-    ensures { loops.new ≡ slice_set loops.old number turns }
-{
-    if number < loops.len() {
-        loops.set(number, turns);
-    }
-}
-
-/// What a statement changes in its frame.
-fn change(frame: &mut Frame, change: Change)
-    ensures { frame.new ≡ at_statement (changed change frame.old) change.to }
-{
-    if let Some((number, word)) = change.word {
-        write(&mut frame.words, number, word);
-    }
-    if let Some((number, turns)) = change.turns {
-        write_turns(&mut frame.loops, number, Some(turns));
-    }
-    go_to(frame, change.to);
 }
 
 /// A line is put out, and the statement at an address is next. The line, and the cost.
