@@ -1,19 +1,33 @@
 -- What children left, one after the other, and the join as the machine sees it.
-use Rattle.std.proofs.Common.{◌≡◌, ℕ, ◌+◌, ◌==◌, Option, Some, None, List, [], ◌∷◌, length, map, refl, sym, ap, append-nil, ◌∙◌}
+use Rattle.std.proofs.Common.{◌≡◌, ℕ, ℤ, ◌+◌, ◌*◌, ◌≤◌, ◌==◌, Option, Some, None, List, [], ◌∷◌, ◌++◌, length, map, refl, sym, ap, ap₂, arith, append-nil, vec_len, vec_capacity, ◌∙◌}
+use Rattle.std.specs.Global.{Vec}
+use Rattle.std.specs.List.{flat_map}
 use Rattle.fm_base.specs.Channels.{Chans, all_shed}
 use Rattle.fm_base.specs.declared.port.PortValue.{PortValue}
 use Rattle.fm_code.specs.declared.ask.Ask.TheVariants as ask
+use Rattle.fm_code.specs.declared.body.Back.{Back}
 use Rattle.fm_code.specs.declared.body.Body.{Body}
-use Rattle.fm_code.specs.Statements.{at_statement}
+use Rattle.fm_code.specs.Passing.{back_words}
+use Rattle.fm_code.specs.Statements.{at_statement, left_ports}
 use Rattle.fm_calling.specs.declared.looking.Look.TheVariants.{Asks}
 use Rattle.fm_net.specs.Machine.{Place}
-use Rattle.fm_bodies.specs.Slots.{Slots}
+use Rattle.fm_bodies.specs.Slots.{Slots, vacated}
 use Rattle.fm_bodies.specs.Frames.{Held, Joined}
-use Rattle.fm_bodies.specs.Processes.{CodeProc, Kid, Phase, Running, Joining, given_back, rest_dropped, kid_back, kids_back, joining_words, joined, holding}
+use Rattle.fm_bodies.specs.Processes.{CodeProc, Kid, Phase, Running, Joining, given_back, rest_dropped, kid_back, kids_back, joining_words, joined, holding, frame_words}
+use Rattle.fm_slots.specs.declared.joining.Gains.{Gains}
+use Rattle.fm_slots.specs.declared.joining.Child.{Child}
+use Rattle.fm_slots.specs.Helds.{held}
+use Rattle.fm_slots.specs.Joins as by
+use Rattle.fm_slots.specs.Joins.{GivesAlike, GivesSo, HasRoomFor, LeavesRoomFor}
+use Rattle.fm_slots.specs.Rooms.{slots_in}
+use Rattle.fm_slots.proofs.RoomLaws.{fewer}
+use Rattle.fm_slots.proofs.Roomy.{room_within}
+use Rattle.fm_slots.proofs.Vacated.{same_vacated}
 use Rattle.fm_proc.specs.Phases.{left_by}
 use Rattle.fm_proc.specs.Told.{look_of}
 use Rattle.fm_proc.specs.Performs.{Joins}
-use Rattle.fm_proc.specs.Gains.{alone, mine_of, first_kid, other_kids, lefts_back, joined_by}
+use Rattle.fm_proc.specs.Gains.{alone, gained, mine_of, first_kid, other_kids, lefts_back, joined_by}
+use Rattle.fm_proc.specs.Rooms.{left_room, lefts_room}
 use Rattle.fm_proc.proofs.Asked.{asks_joining}
 
 -- What the parent has doesn't depend on the child before.
@@ -32,6 +46,62 @@ one_left j j' kids kids' k xs xs' x all on is first others gains =
     ap (λ l. mine_of (lefts_back j' l xs')) others
     ∙ (same_lefts j' (kid_back j (first_kid kids) x.1 x.0) (other_kids kids) xs' (sym gains ∙ ap (λ l. mine_of (kid_back j l x.1 x.0)) first)
     ∙ (ap (λ l. mine_of (lefts_back j kids l)) (sym is) ∙ on))
+
+-- A child that was there.
+
+pub rest_back : (b : Body) (j k : Joined) (drops : List PortValue) → GivesAlike j k → drops ≡ k.drops ++ vacated k.theirs.slots (left_ports b k.theirs.words ++ flat_map (frame_words b) b.below) → mine_of (rest_dropped b j) ≡ (k.mine, drops)
+rest_back b j k drops e is =
+    let rest : List ℤ → List ℤ = λ ws. left_ports b ws ++ flat_map (frame_words b) b.below in
+    ap₂ (λ (m : Held) (l : List PortValue). (m, l)) e.mine
+    (ap (λ (l : List PortValue). l ++ vacated j.theirs.slots (rest j.theirs.words)) e.drops
+    ∙ (ap (λ (l : List PortValue). k.drops ++ l) (same_vacated (rest j.theirs.words) j.theirs.slots k.theirs.slots e.slots ∙ ap (λ (ws : List ℤ). vacated k.theirs.slots (rest ws)) e.words)
+    ∙ sym is))
+
+pub child_back : (g h : Gains) (c : Child) (b : Body) (slots : Slots) (words : List ℤ) (unit : ℕ) (backs : List Back) (drops : List PortValue) → words ≡ b.frame.words →
+    GivesSo (given_back (b.frame.unit == unit) (record { mine = held g.words.items (slots_in g.slots); theirs = record { words = words; slots = slots }; drops = g.drops.items }) backs) h c →
+    drops ≡ h.drops.items ++ vacated c.slots (left_ports b c.words ++ flat_map (frame_words b) b.below) →
+    mine_of (kid_back (gained g) (record { unit = unit; backs = backs }) slots (Some b)) ≡ (held h.words.items (slots_in h.slots), drops)
+child_back g h c b slots words unit backs drops e gives is =
+    let mid : List ℤ → Joined = λ ws. given_back (b.frame.unit == unit) (record { mine = held g.words.items (slots_in g.slots); theirs = record { words = ws; slots = slots }; drops = g.drops.items }) backs in
+    sym (ap (λ (ws : List ℤ). mine_of (rest_dropped b (mid ws))) e) ∙ rest_back b (mid words) (by.joined h c) drops gives is
+
+-- Room.
+
+pub room_stays : (g : Gains) (used : ℕ) → LeavesRoomFor used g g
+room_stays g used = λ n h. fewer g (used + n) n (omega arith) h
+
+pub room_dropped : (g h : Gains) (drops : Vec PortValue) (backs rest : ℕ) → LeavesRoomFor backs g h → vec_len drops ≤ vec_len h.drops + rest → vec_capacity h.drops ≤ vec_capacity drops → LeavesRoomFor (backs + rest) g (record h { drops = drops })
+room_dropped g h drops backs rest gives more most = λ n r.
+    let left : HasRoomFor h (rest + n) = gives (rest + n) (fewer g ((backs + rest) + n) (backs + (rest + n)) (omega arith) r) in
+    record {
+      words = omega (arith, left.words);
+      slots = room_within h.slots (2 * (rest + n)) (2 * n) (omega arith) left.slots;
+      drops = omega (arith, left.drops);
+    }
+
+pub room_for_rest : (g h : Gains) (backs rest : ℕ) → LeavesRoomFor backs g h → HasRoomFor g (backs + rest) → vec_len h.drops + rest ≤ vec_capacity h.drops
+room_for_rest g h backs rest gives r = (gives rest r).drops
+
+pub words_next : (kids kids' : List Kid) (unit : ℕ) (backs : List Back) → record { unit = unit; backs = backs } ≡ first_kid kids → kids' ≡ other_kids kids → joining_words kids ≡ back_words backs + joining_words kids'
+words_next [] kids' unit backs e f =
+    let none : back_words backs ≡ 0 = ap (λ (k : Kid). back_words k.backs) e in
+    let rest : joining_words kids' ≡ 0 = ap joining_words f in
+    omega arith
+words_next (k ∷ ks) kids' unit backs e f =
+    let one : back_words backs ≡ back_words k.backs = ap (λ (k : Kid). back_words k.backs) e in
+    let rest : joining_words kids' ≡ joining_words ks = ap joining_words f in
+    omega arith
+
+lefts_next : (xs xs' : List (Option Body × Slots)) (x : Option Body × Slots) → xs ≡ x ∷ xs' → lefts_room xs ≡ left_room x.0 + lefts_room xs'
+lefts_next xs xs' x e = ap lefts_room e
+
+-- room for the child that is next, and for those behind it
+pub room_first : (g : Gains) (kids kids' : List Kid) (unit : ℕ) (backs : List Back) (xs xs' : List (Option Body × Slots)) (x : Option Body × Slots) → HasRoomFor g (joining_words kids + lefts_room xs) →
+    record { unit = unit; backs = backs } ≡ first_kid kids → kids' ≡ other_kids kids → xs ≡ x ∷ xs' → HasRoomFor g ((back_words backs + left_room x.0) + (joining_words kids' + lefts_room xs'))
+room_first g kids kids' unit backs xs xs' x r e f is =
+    let words : joining_words kids ≡ back_words backs + joining_words kids' = words_next kids kids' unit backs e f in
+    let lefts : lefts_room xs ≡ left_room x.0 + lefts_room xs' = lefts_next xs xs' x is in
+    fewer g (joining_words kids + lefts_room xs) ((back_words backs + left_room x.0) + (joining_words kids' + lefts_room xs')) (omega arith) r
 
 -- The join.
 

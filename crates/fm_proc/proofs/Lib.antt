@@ -6,3 +6,6 @@ pub mod Faults
 pub mod Beginnings
 pub mod Endings
 pub mod Joinings
+pub mod FrameRooms
+pub mod Droppings
+pub mod Rooms

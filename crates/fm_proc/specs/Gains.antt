@@ -6,14 +6,16 @@ use Rattle.fm_code.specs.declared.body.Body.{Body}
 use Rattle.fm_bodies.specs.Slots.{Slots, no_slots}
 use Rattle.fm_bodies.specs.Frames.{Held, Joined}
 use Rattle.fm_bodies.specs.Processes.{Kid, kid_back}
-use Rattle.fm_proc.specs.declared.joining.Gains.{Gains}
+use Rattle.fm_slots.specs.declared.joining.Gains.{Gains}
+use Rattle.fm_slots.specs.Helds.{held}
+use Rattle.fm_slots.specs.Rooms.{slots_in}
 
 -- with nothing of a child
 abbrev pub alone : Held → List PortValue → Joined
 alone mine drops = record { mine = mine; theirs = record { words = []; slots = no_slots }; drops = drops }
 
 abbrev pub gained : Gains → Joined
-gained g = alone (record { words = g.words; slots = g.slots }) g.drops.items
+gained g = alone (held g.words.items (slots_in g.slots)) g.drops.items
 
 -- what the parent has
 abbrev pub mine_of : Joined → Held × List PortValue

@@ -5,3 +5,5 @@ pub mod Performs
 pub mod Events
 pub mod Makes
 pub mod Gains
+pub mod Rooms
+pub mod Drafts

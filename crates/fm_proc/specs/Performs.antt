@@ -1,9 +1,11 @@
 -- What a process does with its event: to itself, to the channels, and with the children that it starts or joins.
 -- Source: the Fortran M report (processes, channels, process blocks), with this profile's atomic step.
-use Rattle.std.specs.Prelude.{◌≡◌, ℕ, true, is_some, Option, Some, None, List, [], ◌++◌}
+use Rattle.std.specs.Prelude.{◌≡◌, ℕ, Bool, true, false, is_some, Option, Some, None, List, [], ◌++◌}
 use Rattle.std.specs.FinMap.{get}
 use Rattle.fm_base.specs.declared.path.ChanName.{ChanName}
 use Rattle.fm_base.specs.Channels.{Chans, all_shed}
+use Rattle.fm_code.specs.declared.ask.Ask.{Ask}
+use Rattle.fm_code.specs.declared.ask.Ask.TheVariants as ask
 use Rattle.fm_net.specs.Machine.{Place, Need, Nothing, Event, New, Children, Reply, Onward, Go, made, chans_after, spilt, served_at, reply_with}
 use Rattle.fm_bodies.specs.Processes.{CodeProc, asks}
 use Rattle.fm_bodies.specs.Needs.{need_of}
@@ -51,3 +53,29 @@ pub record Joins (p : Place) (y : CodeProc) (children : List CodeProc) (cs : Cha
   pub goes : ChanName → Reply CodeProc → Onward CodeProc
   pub asks_so : asks y ≡ Go (Children block count) goes
   pub on : GoesOn p y cs (Children block count) (goes (made p (Children block count)) (reply_with children)) z [] after cost
+
+-- what is asked by a port that the process has
+abbrev pub is_at_port : Ask → Bool
+is_at_port (ask.Fail line fault) = false
+is_at_port (ask.LetGo slots) = false
+is_at_port (ask.Channel inport outport next) = false
+is_at_port (ask.Merger inport outports next) = false
+is_at_port (ask.Send slot items next) = true
+is_at_port (ask.Receive slot items status at_end next) = true
+is_at_port (ask.Probe slot empty next) = true
+is_at_port (ask.Begin next) = false
+is_at_port (ask.Join next) = false
+is_at_port ask.End = false
+
+-- what leaves the process as it was where there is no memory for it
+abbrev pub StaysOnWant : Ask → Type 0
+StaysOnWant (ask.Fail line fault) = Unit {0}
+StaysOnWant (ask.LetGo slots) = ⊥
+StaysOnWant (ask.Channel inport outport next) = ⊥
+StaysOnWant (ask.Merger inport outports next) = ⊥
+StaysOnWant (ask.Send slot items next) = ⊥
+StaysOnWant (ask.Receive slot items status at_end next) = ⊥
+StaysOnWant (ask.Probe slot empty next) = Unit {0}
+StaysOnWant (ask.Begin next) = Unit {0}
+StaysOnWant (ask.Join next) = ⊥
+StaysOnWant ask.End = Unit {0}

@@ -1,6 +1,6 @@
 //! The end of a process: its own frame stays with what is kept, and all other ports are let go.
 
-ghost use Rattle.std.specs.Prelude.{◌≡◌, ◌++◌, [], true, OnOk, IfOk};
+ghost use Rattle.std.specs.Prelude.{◌≡◌, ◌++◌, [], true, IfOk, OnErr, OnOk};
 ghost use Rattle.fm_code.specs.declared.ask.Ask.TheVariants as ask;
 ghost use Rattle.fm_calling.specs.declared.looking.Look.TheVariants.{Asks};
 ghost use Rattle.fm_chan.specs.Bodies.{chans_of};
@@ -11,27 +11,36 @@ ghost use Rattle.fm_proc.specs.Told.{is_running, look_of};
 ghost use Rattle.fm_proc.specs.Performs.{Performs};
 
 use crate::process::{Phase, Process};
-use crate::shedding::shed;
+use crate::shedding::{shed, vacate};
 use crate::units::{formals_at, ports_at};
 use fm_base::{NoMemory, Path};
 use fm_calling::{push_frame_ports, push_start_ports};
 use fm_chan::Channels;
-use fm_code::{Body, Row};
-use fm_slots::keep;
+use fm_code::{Body, Frame, Row};
+use fm_slots::{Slots, keep};
 use std::alloc::Global;
-use std::mem::replace;
 
-/// Leaves all frames but the process's own; their ports are added, innermost first.
-fn leave_frames(body: &mut Body, ports: &mut Row<i64>) -> Result<(), NoMemory>
-    ensures frame { OnOk result ((ended_frame body.old body.new.frame []).0 ≡ (ended_frame body.old body.old.frame body.old.below).0) }
-    ensures ports { OnOk result (ports.new ++ (ended_frame body.old body.new.frame []).1 ≡ ports.old ++ (ended_frame body.old body.old.frame body.old.below).1) }
-    ensures body { OnOk result (body.new ≡ record body.old { frame = body.new.frame; below = [] }) }
+/// What a process leaves when it ends.
+#[derive(Drop)]
+struct Rest {
+    /// The words of its own frame, with what is kept.
+    words: Row<i64>,
+    /// The slots of the ports that are let go, innermost frame first.
+    ports: Row<i64>,
+}
+
+/// Adds the ports of all frames but the process's own, innermost first: that one.
+fn push_frames<'a>(body: &'a Body, ports: &mut Row<i64>) -> Result<&'a Frame, NoMemory>
+    ensures frame { IfOk result (λ f. (ended_frame body.now f.now []).0 ≡ (ended_frame body.now body.now.frame body.now.below).0) }
+    ensures ports { IfOk result (λ f. ports.new ++ (ended_frame body.now f.now []).1 ≡ ports.old ++ (ended_frame body.now body.now.frame body.now.below).1) }
 {
-    'frames: while let Some(frame) = body.below.pop() {
-        push_frame_ports(&body.code, &body.frame, ports)?;
-        body.frame = frame;
+    let frames = body.below.outermost_first();
+    let mut frame = &body.frame;
+    'frames: for k in (0..frames.len()).rev() {
+        push_frame_ports(&body.code, frame, ports)?;
+        frame = &frames[k];
     }
-    Ok(())
+    Ok(frame)
 }
 
 fn push_words(ports: &mut Row<i64>, words: &[i64]) -> Result<(), NoMemory>
@@ -43,34 +52,57 @@ fn push_words(ports: &mut Row<i64>, words: &[i64]) -> Result<(), NoMemory>
     Ok(())
 }
 
-/// The process's own frame, with what is kept; the ports that aren't are added.
-fn keep_formals(alloc: Global, body: &mut Body, ports: &mut Row<i64>) -> Result<(), NoMemory>
-    ensures body { OnOk result (body.new ≡ record body.old { frame = (ended_frame body.old body.old.frame []).0 }) }
-    ensures ports { OnOk result (ports.new ≡ ports.old ++ (ended_frame body.old body.old.frame []).1) }
+/// The words of a process's own frame, with what is kept; the ports that aren't are added.
+fn keep_formals(
+    alloc: Global,
+    body: &Body,
+    frame: &Frame,
+    ports: &mut Row<i64>,
+) -> Result<Row<i64>, NoMemory>
+    ensures words { IfOk result (λ words. words ≡ (ended_frame body.now frame.now []).0.words) }
+    ensures ports { OnOk result (ports.new ≡ ports.old ++ (ended_frame body.now frame.now []).1) }
 {
-    let unit = body.frame.unit;
+    let mut words = Row::from_slice(alloc, frame.words.as_slice())?;
     let left = keep(
         alloc,
-        formals_at(&body.code, unit),
-        ports_at(&body.code, unit),
-        &mut body.frame.words,
+        formals_at(&body.code, frame.unit),
+        ports_at(&body.code, frame.unit),
+        &mut words,
     )?;
     push_words(ports, left.as_slice())?;
-    push_start_ports(&body.code, body.frame.starts.as_slice(), ports)?;
-    body.frame.results.clear();
-    body.frame.starts.clear();
-    Ok(())
+    push_start_ports(&body.code, frame.starts.as_slice(), ports)?;
+    Ok(words)
 }
 
-/// Leaves what isn't kept: its ports.
-fn end_body(alloc: Global, body: &mut Body) -> Result<Row<i64>, NoMemory>
-    ensures body { OnOk result (body.new ≡ record body.old { frame = (ended_frame body.old body.old.frame body.old.below).0; below = [] }) }
-    ensures ports { IfOk result (λ ports. ports ≡ (ended_frame body.old body.old.frame body.old.below).1) }
+/// What is left of a body.
+fn rest_of(alloc: Global, body: &Body) -> Result<Rest, NoMemory>
+    ensures words { IfOk result (λ r. r.words ≡ (ended_frame body.now body.now.frame body.now.below).0.words) }
+    ensures ports { IfOk result (λ r. r.ports ≡ (ended_frame body.now body.now.frame body.now.below).1) }
 {
     let mut ports = Row::new(alloc);
-    leave_frames(body, &mut ports)?;
-    keep_formals(alloc, body, &mut ports)?;
-    Ok(ports)
+    let frame = push_frames(body, &mut ports)?;
+    let words = keep_formals(alloc, body, frame, &mut ports)?;
+    Ok(Rest { words, ports })
+}
+
+/// Leaves all frames but the process's own. Takes no memory.
+fn leave_frames(body: &mut Body)
+    ensures frame { (ended_frame body.old body.new.frame []).0 ≡ (ended_frame body.old body.old.frame body.old.below).0 }
+    ensures body { body.new ≡ record body.old { frame = body.new.frame; below = [] } }
+{
+    'frames: while let Some(frame) = body.below.pop() {
+        body.frame = frame;
+    }
+}
+
+/// Leaves the process's own frame with these words, and nothing else. Takes no memory.
+fn end_body(body: &mut Body, words: Row<i64>)
+    ensures { body.new ≡ record body.old { frame = record (ended_frame body.old body.old.frame body.old.below).0 { words = words }; below = [] } }
+{
+    leave_frames(body);
+    body.frame.words = words;
+    body.frame.results.clear();
+    body.frame.starts.clear();
 }
 
 /// The process ends.
@@ -84,14 +116,18 @@ pub(crate) fn end(
     requires running { is_running (proc_of process.old) ≡ true }
     ensures performs { OnOk result (Performs path.now (proc_of process.old) (chans_of channels.old) (proc_of process.new) [] (chans_of channels.new) 1) }
     ensures waking { OnOk result (WakesAll channels.old channels.new) }
+    ensures stays { OnErr result ((proc_of process.new ≡ proc_of process.old) × (chans_of channels.new ≡ chans_of channels.old)) }
 {
-    let Some(mut body) = replace(&mut process.body, None) else {
+    let Some(body) = &mut process.body else {
         unreachable!()
     };
-    let ports = end_body(alloc, &mut body)?;
-    let drops = process.slots.vacate(alloc, ports.as_slice())?;
-    shed(channels, drops);
+    let Rest { words, ports } = rest_of(alloc, body)?;
+    let mut drops = Vec::with_capacity(alloc, ports.len())?;
+    let mut slots = process.slots.open(alloc, ports.len())?;
+    vacate(&mut slots, ports.as_slice(), &mut drops);
+    process.slots = Slots::from_open(slots);
+    end_body(body, words);
     process.phase = Phase::Ended;
-    process.body = Some(body);
+    shed(channels, drops);
     Ok(())
 }

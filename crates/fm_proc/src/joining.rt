@@ -1,6 +1,6 @@
 //! Joining: what children leave, and how a process goes on with it.
 
-ghost use Rattle.std.specs.Prelude.{◌≡◌, ◌++◌, ◌+◌, [], true, List, map, IfOk, OnOk};
+ghost use Rattle.std.specs.Prelude.{◌≡◌, ◌+◌, ◌≤◌, [], true, Some, List, map, vec_len, vec_capacity, IfOk, OnOk, IfErr, OnErr};
 ghost use Rattle.fm_code.specs.declared.ask.Ask.TheVariants as ask;
 ghost use Rattle.fm_code.specs.Passing.{back_words};
 ghost use Rattle.fm_code.specs.Statements.{at_statement};
@@ -8,22 +8,24 @@ ghost use Rattle.fm_calling.specs.declared.looking.Look.TheVariants.{Asks};
 ghost use Rattle.fm_chan.specs.Bodies.{chans_of};
 ghost use Rattle.fm_chan.specs.Woken.{WakesAll};
 ghost use Rattle.fm_net.specs.Machine.{Place};
-ghost use Rattle.fm_bodies.specs.Slots.{vacated};
-ghost use Rattle.fm_bodies.specs.Processes.{CodeProc, body_words, emptied, given_back, joining_words, kid_back};
-ghost use Rattle.fm_slots.specs.Joins.{joined};
+ghost use Rattle.fm_bodies.specs.Processes.{CodeProc, emptied, given_back, joining_words, kid_back};
+ghost use Rattle.fm_slots.specs.Helds.{held};
+ghost use Rattle.fm_slots.specs.Joins.{GivesSo, HasRoomFor, LeavesRoomFor, joined};
 ghost use Rattle.fm_proc.specs.Phases.{kid_of, left_by, left_of, proc_of};
 ghost use Rattle.fm_proc.specs.Told.{is_joining, look_of};
 ghost use Rattle.fm_proc.specs.Performs.{Joins};
-ghost use Rattle.fm_proc.specs.Gains.{first_kid, gained, joined_by, lefts_back, mine_of, other_kids};
+ghost use Rattle.fm_proc.specs.Gains.{alone, first_kid, gained, joined_by, lefts_back, mine_of, other_kids};
+ghost use Rattle.fm_proc.specs.Rooms.{body_room, left_room, lefts_room};
 
+use crate::dropping::drop_body;
 use crate::going::go_on;
+use crate::measuring::{joining_words, room_of};
 use crate::process::{Kid, Phase, Process};
 use crate::shedding::shed;
 use fm_base::NoMemory;
-use fm_calling::push_frame_ports;
 use fm_chan::{Channels, Port};
 use fm_code::{Back, Body, Row};
-use fm_slots::{Child, Slots, give_back};
+use fm_slots::{Child, Gains, Slots, give_back};
 use std::alloc::Global;
 use std::collections::VecDeque;
 use std::mem::replace;
@@ -47,95 +49,43 @@ pub fn release(alloc: Global, process: &mut Process) -> Left
     Left { body, slots }
 }
 
-/// What a parent has while it joins: the words of its frame, its ports, and what is let go.
-#[derive(Drop)]
-struct Gains {
-    words: Row<i64>,
-    slots: Slots,
-    drops: Vec<Port>,
-}
-
 /// A child of this unit gives back.
-fn give_back_if(
-    alloc: Global,
-    gains: &mut Gains,
-    child: &mut Child,
-    same: bool,
-    backs: &[Back],
-) -> Result<(), NoMemory>
-    ensures { OnOk result (joined gains.new.words gains.new.slots child.new gains.new.drops.items ≡ given_back same (joined gains.old.words gains.old.slots child.old gains.old.drops.items) backs.now) }
+#[tactic(auto, using(crate::proofs::Joinings::room_stays))]
+fn give_back_if(gains: &mut Gains, child: &mut Child, same: bool, backs: &[Back])
+    requires room { HasRoomFor gains.old (back_words backs.now) }
+    ensures given { GivesSo (given_back same (joined gains.old child.old) backs.now) gains.new child.new }
+    ensures room { LeavesRoomFor (back_words backs.now) gains.old gains.new }
 {
-    if !same {
-        return Ok(());
+    if same {
+        give_back(gains, child, backs);
     }
-    give_back(
-        alloc,
-        &mut gains.words,
-        &mut gains.slots,
-        child,
-        backs,
-        &mut gains.drops,
-    )
-}
-
-/// The ports of a body, innermost first.
-fn body_ports(alloc: Global, body: Body) -> Result<Row<i64>, NoMemory>
-    ensures { IfOk result (λ ports. ports ≡ body_words body) }
-{
-    let mut rest = body;
-    let mut ports = Row::new(alloc);
-    push_frame_ports(&rest.code, &rest.frame, &mut ports)?;
-    'frames: while let Some(frame) = rest.below.pop() {
-        push_frame_ports(&rest.code, &frame, &mut ports)?;
-    }
-    Ok(ports)
-}
-
-/// All ports of a body are let go.
-fn drop_rest(alloc: Global, body: Body, slots: Slots, drops: &mut Vec<Port>) -> Result<(), NoMemory>
-    ensures { OnOk result (drops.new.items ≡ drops.old.items ++ vacated slots (body_words body)) }
-{
-    let ports = body_ports(alloc, body)?;
-    let mut slots = slots;
-    let mut rest = slots.vacate(alloc, ports.as_slice())?;
-    drops.append(&mut rest)?;
-    Ok(())
 }
 
 /// A child that was there gives back, and then all that it still has is let go.
-fn take_body(
-    alloc: Global,
-    gains: &mut Gains,
-    body: Body,
-    slots: Slots,
-    unit: u32,
-    backs: &[Back],
-) -> Result<(), NoMemory>
-    ensures { OnOk result (mine_of (kid_back (gained gains.old) (record { unit = unit; backs = backs.now }) slots (Some body)) ≡ mine_of (gained gains.new)) }
+fn take_body(alloc: Global, gains: &mut Gains, body: Body, slots: Slots, unit: u32, backs: &[Back])
+    requires room { HasRoomFor gains.old (back_words backs.now + body_room body) }
+    ensures back { mine_of (kid_back (gained gains.old) (record { unit = unit; backs = backs.now }) slots (Some body)) ≡ mine_of (gained gains.new) }
+    ensures room { LeavesRoomFor (back_words backs.now + body_room body) gains.old gains.new }
 {
     let mut body = body;
     let words = replace(&mut body.frame.words, Row::new(alloc));
     let mut child = Child { words, slots };
-    give_back_if(alloc, gains, &mut child, body.frame.unit == unit, backs)?;
+    give_back_if(gains, &mut child, body.frame.unit == unit, backs);
     let Child { words, slots } = child;
     body.frame.words = words;
-    drop_rest(alloc, body, slots, &mut gains.drops)
+    drop_body(body, slots, &mut gains.drops);
 }
 
 /// What a child left comes to its parent.
-fn take_left(
-    alloc: Global,
-    gains: &mut Gains,
-    left: Left,
-    unit: u32,
-    backs: &[Back],
-) -> Result<(), NoMemory>
-    ensures { OnOk result (mine_of (kid_back (gained gains.old) (record { unit = unit; backs = backs.now }) left.slots left.body) ≡ mine_of (gained gains.new)) }
+fn take_left(alloc: Global, gains: &mut Gains, left: Left, unit: u32, backs: &[Back])
+    requires room { HasRoomFor gains.old (back_words backs.now + left_room left.body) }
+    ensures back { mine_of (kid_back (gained gains.old) (record { unit = unit; backs = backs.now }) left.slots left.body) ≡ mine_of (gained gains.new) }
+    ensures room { LeavesRoomFor (back_words backs.now + left_room left.body) gains.old gains.new }
 {
     let Left { body, slots } = left;
     match body {
         Some(body) => take_body(alloc, gains, body, slots, unit, backs),
-        None => Ok(()),
+        None => {}
     }
 }
 
@@ -150,21 +100,98 @@ fn next_kid(kids: &[Kid]) -> (u32, &[Back], &[Kid])
     }
 }
 
-/// What children left comes to their parent, one after the other.
-fn take_all(alloc: Global, gains: &mut Gains, kids: &[Kid], left: Vec<Left>) -> Result<(), NoMemory>
-    ensures { OnOk result (mine_of (lefts_back (gained gains.old) (map kid_of kids.now) (map left_of left.items)) ≡ mine_of (gained gains.new)) }
+/// What children left comes to their parent, one after the other. Takes no memory.
+fn take_all(alloc: Global, gains: &mut Gains, kids: &[Kid], left: Vec<Left>)
+    requires room { HasRoomFor gains.old (joining_words (map kid_of kids.now) + lefts_room (map left_of left.items)) }
+    ensures { mine_of (lefts_back (gained gains.old) (map kid_of kids.now) (map left_of left.items)) ≡ mine_of (gained gains.new) }
 {
     let mut awaited = kids;
     let mut rest = VecDeque::from_vec(left);
     'children: while let Some(child) = rest.pop_front() {
         let (unit, backs, behind) = next_kid(awaited);
-        take_left(alloc, gains, child, unit, backs)?;
+        take_left(alloc, gains, child, unit, backs);
         awaited = behind;
     }
-    Ok(())
 }
 
-/// The body goes on with what its children left: what is let go.
+/// Words that come from a row, with room for so many more. After want of memory they are where they were.
+fn open_words(alloc: Global, words: &mut Row<i64>, room: usize) -> Result<Vec<i64>, NoMemory>
+    ensures words { IfOk result (λ own. own.items ≡ words.old) }
+    ensures room { IfOk result (λ own. vec_len own + room ≤ vec_capacity own) }
+    ensures stays { OnErr result (words.new ≡ words.old) }
+{
+    let mut own = words.take(alloc).into_vec();
+    match own.reserve(room) {
+        Ok(()) => Ok(own),
+        Err(_) => {
+            *words = Row::from_vec(own);
+            Err(NoMemory)
+        }
+    }
+}
+
+/// What a parent has, with room for so much. After want of memory it is where it was.
+fn open_gains(
+    alloc: Global,
+    words: &mut Row<i64>,
+    slots: &mut Slots,
+    room: usize,
+) -> Result<Gains, NoMemory>
+    ensures gains { IfOk result (λ g. gained g ≡ alone (held words.old slots.old) []) }
+    ensures room { IfOk result (λ g. HasRoomFor g room) }
+    ensures stays { OnErr result ((words.new ≡ words.old) × (slots.new ≡ slots.old)) }
+{
+    let ports = room.checked_mul(2).ok_or(NoMemory)?;
+    let drops = Vec::with_capacity(alloc, room)?;
+    let own = open_words(alloc, words, room)?;
+    match slots.open(alloc, ports) {
+        Ok(slots) => Ok(Gains {
+            words: own,
+            slots,
+            drops,
+        }),
+        Err(NoMemory) => {
+            *words = Row::from_vec(own);
+            Err(NoMemory)
+        }
+    }
+}
+
+/// A join for which all memory is there: what the parent has, and the cost.
+#[derive(Drop)]
+struct Opened {
+    gains: Gains,
+    cost: u64,
+}
+
+/// Takes all memory that a join needs. After want of memory the parent is as it was.
+fn open_join(
+    alloc: Global,
+    words: &mut Row<i64>,
+    slots: &mut Slots,
+    kids: &[Kid],
+    left: &[Left],
+) -> Result<Opened, NoMemory>
+    ensures gains { IfOk result (λ o. gained o.gains ≡ alone (held words.old slots.old) []) }
+    ensures room { IfOk result (λ o. HasRoomFor o.gains (joining_words (map kid_of kids.now) + lefts_room (map left_of left.now))) }
+    ensures cost { IfOk result (λ o. o.cost ≡ 1 + joining_words (map kid_of kids.now)) }
+    ensures stays { OnErr result ((words.new ≡ words.old) × (slots.new ≡ slots.old)) }
+{
+    let backs = joining_words(kids)?;
+    let cost = backs.checked_add(1).ok_or(NoMemory)?;
+    let room = room_of(backs, left)?;
+    let gains = open_gains(alloc, words, slots, room)?;
+    Ok(Opened { gains, cost })
+}
+
+/// What a join lets go, and its cost.
+#[derive(Drop)]
+struct Joined {
+    drops: Vec<Port>,
+    cost: u64,
+}
+
+/// The body goes on with what its children left. After want of memory all is as it was, and what they left comes back.
 fn join_body(
     alloc: Global,
     body: &mut Body,
@@ -172,80 +199,56 @@ fn join_body(
     kids: &[Kid],
     left: Vec<Left>,
     next: u32,
-) -> Result<Vec<Port>, NoMemory>
+) -> Result<Joined, (Vec<Left>, NoMemory)>
     ensures body { OnOk result (body.new ≡ record body.old { frame = at_statement (record body.old.frame { words = (joined_by body.old slots.old (map kid_of kids.now) (map left_of left.items)).mine.words }) next }) }
     ensures slots { OnOk result (slots.new ≡ (joined_by body.old slots.old (map kid_of kids.now) (map left_of left.items)).mine.slots) }
-    ensures drops { IfOk result (λ drops. drops.items ≡ (joined_by body.old slots.old (map kid_of kids.now) (map left_of left.items)).drops) }
+    ensures drops { IfOk result (λ j. j.drops.items ≡ (joined_by body.old slots.old (map kid_of kids.now) (map left_of left.items)).drops) }
+    ensures cost { IfOk result (λ j. j.cost ≡ 1 + joining_words (map kid_of kids.now)) }
+    ensures stays { OnErr result ((body.new ≡ body.old) × (slots.new ≡ slots.old)) }
+    ensures back { IfErr result (λ e. map left_of e.0.items ≡ map left_of left.items) }
 {
-    let mut gains = Gains {
-        words: replace(&mut body.frame.words, Row::new(alloc)),
-        slots: replace(slots, Slots::new(alloc)),
-        drops: Vec::new(alloc),
-    };
-    take_all(alloc, &mut gains, kids, left)?;
-    let Gains {
-        words,
-        slots: own,
-        drops,
-    } = gains;
-    body.frame.words = words;
-    go_on(body, next);
-    *slots = own;
-    Ok(drops)
-}
-
-fn back_words(backs: &[Back]) -> Result<u64, NoMemory>
-    ensures { IfOk result (λ n. n ≡ back_words backs.now) }
-{
-    let mut words: u64 = 0;
-    'backs: for back in backs {
-        words = words.checked_add(u64::from(back.words)).ok_or(NoMemory)?;
+    match open_join(alloc, &mut body.frame.words, slots, kids, left.as_slice()) {
+        Ok(Opened { gains, cost }) => {
+            let mut gains = gains;
+            take_all(alloc, &mut gains, kids, left);
+            let Gains {
+                words,
+                slots: own,
+                drops,
+            } = gains;
+            body.frame.words = Row::from_vec(words);
+            go_on(body, next);
+            *slots = Slots::from_open(own);
+            Ok(Joined { drops, cost })
+        }
+        Err(NoMemory) => Err((left, NoMemory)),
     }
-    Ok(words)
 }
 
-/// The cost of joining these.
-fn cost_of(kids: &[Kid]) -> Result<u64, NoMemory>
-    ensures { IfOk result (λ n. n ≡ 1 + joining_words (map kid_of kids.now)) }
-{
-    let mut words: u64 = 1;
-    'kids: for kid in kids {
-        words = words
-            .checked_add(back_words(kid.backs.as_slice())?)
-            .ok_or(NoMemory)?;
-    }
-    Ok(words)
-}
-
-/// All children of the process's block have ended and left this, in the order of their starts: the cost.
+/// All children of the process's block have ended and left this, in the order of their starts: the cost. After want of memory
+/// nothing has changed, and what the children left comes back.
 pub fn join(
     alloc: Global,
     process: &mut Process,
     channels: &mut Channels,
     left: Vec<Left>,
     next: u32,
-) -> Result<u64, NoMemory>
+) -> Result<u64, (Vec<Left>, NoMemory)>
     requires look { look_of (proc_of process.old) ≡ Asks (ask.Join next) }
     requires joins { is_joining (proc_of process.old) ≡ true }
     ensures joins { IfOk result (λ cost. (p : Place) (children : List CodeProc) → map left_by children ≡ map left_of left.items → Joins p (proc_of process.old) children (chans_of channels.old) (proc_of process.new) (chans_of channels.new) cost) }
     ensures waking { OnOk result (WakesAll channels.old channels.new) }
+    ensures stays { OnErr result ((proc_of process.new ≡ proc_of process.old) × (chans_of channels.new ≡ chans_of channels.old)) }
+    ensures back { IfErr result (λ e. map left_of e.0.items ≡ map left_of left.items) }
 {
-    let Some(mut body) = replace(&mut process.body, None) else {
+    let Some(body) = &mut process.body else {
         unreachable!()
     };
-    let Phase::Joining { block: _, kids } = replace(&mut process.phase, Phase::Running) else {
+    let Phase::Joining { block: _, kids } = &process.phase else {
         unreachable!()
     };
-    let cost = cost_of(kids.as_slice())?;
-    let drops = join_body(
-        alloc,
-        &mut body,
-        &mut process.slots,
-        kids.as_slice(),
-        left,
-        next,
-    )?;
-    shed(channels, drops);
-    process.body = Some(body);
-    Ok(cost)
+    let joined = join_body(alloc, body, &mut process.slots, kids.as_slice(), left, next)?;
+    process.phase = Phase::Running;
+    shed(channels, joined.drops);
+    Ok(joined.cost)
 }

@@ -10,13 +10,13 @@ ghost use Rattle.fm_proc.specs.Phases.{proc_of};
 ghost use Rattle.fm_proc.specs.Told.{look_of};
 
 use crate::process::Process;
-use crate::shedding::shed;
+use crate::shedding::{shed, vacate};
 use fm_base::{NoMemory, Path, Seq};
 use fm_chan::Channels;
 use fm_instructions::Work;
 use fm_machine::let_go as let_go_of;
+use fm_slots::Slots;
 use std::alloc::Global;
-use std::mem::replace;
 
 /// Does the next statement, after which these ports are let go. The cost.
 pub(crate) fn let_go(
@@ -32,12 +32,21 @@ pub(crate) fn let_go(
     ensures performs { IfOk result (λ cost. Performs path.now (proc_of process.old) (chans_of channels.old) (proc_of process.new) [] (chans_of channels.new) cost) }
     ensures waking { OnOk result (WakesAll channels.old channels.new) }
 {
-    let Some(mut body) = replace(&mut process.body, None) else {
+    let Some(body) = &mut process.body else {
         unreachable!()
     };
-    let cost = let_go_of(alloc, work, &mut body, slots.as_slice())?;
-    process.body = Some(body);
-    let ports = process.slots.vacate(alloc, slots.as_slice())?;
-    shed(channels, ports);
-    Ok(cost)
+    let mut ports = Vec::with_capacity(alloc, slots.len())?;
+    let mut held = process.slots.open(alloc, slots.len())?;
+    match let_go_of(alloc, work, body, slots.as_slice()) {
+        Ok(cost) => {
+            vacate(&mut held, slots.as_slice(), &mut ports);
+            process.slots = Slots::from_open(held);
+            shed(channels, ports);
+            Ok(cost)
+        }
+        Err(error) => {
+            process.slots = Slots::from_open(held);
+            Err(error)
+        }
+    }
 }

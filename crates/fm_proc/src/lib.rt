@@ -5,12 +5,14 @@
 
 mod advancing;
 mod beginning;
+mod dropping;
 mod ending;
 mod failing;
 mod going;
 mod joining;
 mod letting;
 mod making;
+mod measuring;
 mod performing;
 mod probing;
 mod process;

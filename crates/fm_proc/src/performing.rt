@@ -1,10 +1,10 @@
 //! A process does its event.
 
-ghost use Rattle.std.specs.Prelude.{◌≡◌, [], map, IfOk, OnOk};
+ghost use Rattle.std.specs.Prelude.{◌≡◌, [], map, true, IfOk, IsOk, OnErr, OnOk};
 ghost use Rattle.fm_calling.specs.declared.looking.Look.TheVariants.{Asks};
 ghost use Rattle.fm_chan.specs.Bodies.{chans_of};
 ghost use Rattle.fm_chan.specs.Woken.{WakesAll};
-ghost use Rattle.fm_proc.specs.Performs.{CanPerform, MakesNew, Performs};
+ghost use Rattle.fm_proc.specs.Performs.{CanPerform, MakesNew, Performs, StaysOnWant, is_at_port};
 ghost use Rattle.fm_proc.specs.Phases.{proc_of};
 ghost use Rattle.fm_proc.specs.Told.{look_of};
 
@@ -42,7 +42,50 @@ fn alone(alloc: Global, cost: u64) -> Done
     }
 }
 
-/// Does the event of a process that its next statement asks for. After want of memory the process may have lost its body.
+/// Does the event of a process at one of its ports: the cost.
+fn at_port(
+    alloc: Global,
+    path: &Path,
+    process: &mut Process,
+    channels: &mut Channels,
+    ask: Ask,
+) -> Result<u64, NoMemory>
+    requires at { is_at_port ask ≡ true }
+    requires look { look_of (proc_of process.old) ≡ Asks ask }
+    requires can { CanPerform (proc_of process.old) (chans_of channels.old) }
+    ensures performs { IfOk result (λ cost. Performs path.now (proc_of process.old) (chans_of channels.old) (proc_of process.new) [] (chans_of channels.new) cost) }
+    ensures stays { StaysOnWant ask → IsOk result }
+    ensures waking { OnOk result (WakesAll channels.old channels.new) }
+{
+    match ask {
+        Ask::Send { slot, items, next } => {
+            send(alloc, path, process, channels, slot, items, next)
+        }
+        Ask::Receive {
+            slot,
+            items,
+            status,
+            at_end,
+            next,
+        } => receive(
+            alloc, path, process, channels, slot, items, status, at_end, next,
+        ),
+        Ask::Probe { slot, empty, next } => {
+            probe(path, process, channels, slot, empty, next);
+            Ok(1)
+        }
+        Ask::Fail { .. } => unreachable!(),
+        Ask::LetGo { .. } => unreachable!(),
+        Ask::Channel { .. } => unreachable!(),
+        Ask::Merger { .. } => unreachable!(),
+        Ask::Begin { .. } => unreachable!(),
+        Ask::Join { .. } => unreachable!(),
+        Ask::End => unreachable!(),
+    }
+}
+
+/// Does the event of a process that its next statement asks for. After want of memory the process and the channels are as they were
+/// for some events, the start of a block and the end among them (`StaysOnWant`); for the others the process may have lost its body.
 pub fn perform(
     alloc: Global,
     work: &mut Work,
@@ -55,6 +98,8 @@ pub fn perform(
     requires can { CanPerform (proc_of process.old) (chans_of channels.old) }
     requires new { MakesNew path.now (proc_of process.old) (chans_of channels.old) }
     ensures performs { IfOk result (λ d. Performs path.now (proc_of process.old) (chans_of channels.old) (proc_of process.new) (map proc_of d.children.items) (chans_of channels.new) d.cost) }
+    ensures stays { StaysOnWant ask → OnErr result (proc_of process.new ≡ proc_of process.old) }
+    ensures channels { StaysOnWant ask → OnErr result (chans_of channels.new ≡ chans_of channels.old) }
     ensures waking { OnOk result (WakesAll channels.old channels.new) }
 {
     match ask {
@@ -82,26 +127,9 @@ pub fn perform(
             let cost = make_merger(alloc, path, process, channels, inport, outports, next)?;
             Ok(alone(alloc, cost))
         }
-        Ask::Send { slot, items, next } => {
-            let cost = send(alloc, path, process, channels, slot, items, next)?;
-            Ok(alone(alloc, cost))
-        }
-        Ask::Receive {
-            slot,
-            items,
-            status,
-            at_end,
-            next,
-        } => {
-            let cost = receive(
-                alloc, path, process, channels, slot, items, status, at_end, next,
-            )?;
-            Ok(alone(alloc, cost))
-        }
-        Ask::Probe { slot, empty, next } => {
-            probe(path, process, channels, slot, empty, next);
-            Ok(alone(alloc, 1))
-        }
+        Ask::Send { .. } => Ok(alone(alloc, at_port(alloc, path, process, channels, ask)?)),
+        Ask::Receive { .. } => Ok(alone(alloc, at_port(alloc, path, process, channels, ask)?)),
+        Ask::Probe { .. } => Ok(alone(alloc, at_port(alloc, path, process, channels, ask)?)),
         Ask::Begin { next } => begin(alloc, path, process, next),
         Ask::Join { next: _ } => unreachable!(),
         Ask::End => {

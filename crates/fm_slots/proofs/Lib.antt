@@ -1,4 +1,9 @@
+pub mod Alike
 pub mod Backs
 pub mod Kept
+pub mod Moved
 pub mod Numbers
+pub mod RoomLaws
+pub mod Roomy
 pub mod Stored
+pub mod Vacated

@@ -1,37 +1,41 @@
 //! Ports in numbered slots.
 
-ghost use Rattle.std.specs.Prelude.{◌≡◌, pos, suc, ◌++◌, None, IfOk, OnOk, option_to_list, slice_get, slice_set, unwrap_or};
+ghost use Rattle.std.specs.Prelude.{◌≡◌, ◌≤◌, ◌<◌, ◌+◌, pos, suc, ◌++◌, None, IfOk, OnOk, option_to_list, slice_get, slice_set, unwrap_or, vec_len, vec_capacity};
 ghost use Rattle.std.specs.Option.{option_copied};
 ghost use Rattle.fm_code.specs.Passing.{is_port};
-ghost use Rattle.fm_bodies.specs.Slots.{all_left, all_put, all_taken, before, in_slot, left, no_slots, put, put_any, taken, vacated};
+ghost use Rattle.fm_bodies.specs.Slots.{all_left, all_taken, before, in_slot, left, no_slots, put, put_any, taken, vacated};
+ghost use Rattle.fm_slots.specs.Places.{HasNumber};
 
 use fm_base::NoMemory;
 use fm_chan::Port;
 use std::alloc::Global;
-use std::collections::VecDeque;
 use std::marker::Model;
 use std::mem::replace;
 
 /// The ports of a process. The number of a slot is a word of a frame. Contracts see what stands in the slots, and which are free.
 #[derive(Drop)]
 pub struct Slots {
-    ports: Vec<Option<Port>>,
+    pub(crate) ports: Vec<Option<Port>>,
     // by how many stand before them; the one that is used next stands last
-    free: Vec<usize>,
+    pub(crate) free: Vec<usize>,
 }
 
 impl Model for Slots {
     ghost use Rattle.std.specs.Prelude.{reverse};
     ghost use Rattle.fm_bodies.specs.Slots.{Slots};
+    ghost use Rattle.fm_slots.specs.Places.{HaveNumbers};
 
     ghost Value = { Slots };
 
     ghost view = { λ s. record { ports = s.ports.items; free = reverse s.free.items } };
+
+    ghost invariant = { λ s. HaveNumbers s.free.items };
 }
 
 /// How many slots stand before the one with this number.
-fn before(word: i64) -> usize
-    ensures { result ≡ before word }
+pub(crate) fn before(word: i64) -> usize
+    ensures place { result ≡ before word }
+    ensures number { HasNumber result }
 {
     match usize::try_from(word) {
         Ok(number) => number.saturating_sub(1),
@@ -48,9 +52,15 @@ fn number(place: usize) -> Result<i64, NoMemory>
 }
 
 /// What stands at a place, if there is such a place, is exchanged for another.
-fn replaced(ports: &mut Vec<Option<Port>>, place: usize, port: Option<Port>) -> Option<Port>
+pub(crate) fn replaced(
+    ports: &mut Vec<Option<Port>>,
+    place: usize,
+    port: Option<Port>,
+) -> Option<Port>
     ensures out { result ≡ unwrap_or (slice_get ports.old.items place) None }
     ensures new { ports.new.items ≡ slice_set ports.old.items place port }
+    ensures len { vec_len ports.new ≡ vec_len ports.old }
+    ensures capacity { vec_capacity ports.new ≡ vec_capacity ports.old }
 {
     if place < ports.len() {
         replace(&mut ports[place], port)
@@ -76,6 +86,19 @@ pub(crate) fn push_some(ports: &mut Vec<Port>, port: Option<Port>) -> Result<(),
             Ok(())
         }
         None => Ok(()),
+    }
+}
+
+/// Adds a port, if there is one, where there is room for it.
+pub(crate) fn keep_some(ports: &mut Vec<Port>, port: Option<Port>)
+    requires { vec_len ports.old < vec_capacity ports.old }
+    ensures items { ports.new.items ≡ ports.old.items ++ option_to_list port }
+    ensures len { vec_len ports.new ≤ vec_len ports.old + 1 }
+    ensures capacity { vec_capacity ports.old ≤ vec_capacity ports.new }
+{
+    match port {
+        Some(port) => ports.push_reserved(port),
+        None => {}
     }
 }
 
@@ -149,6 +172,14 @@ impl Slots {
         }
     }
 
+    /// A port leaves its slot, and the slot isn't noted as free: what stood there. Takes no memory.
+    pub fn drain(&mut self, word: i64) -> Option<Port>
+        ensures port { result ≡ in_slot self.old word }
+        ensures slots { self.new ≡ record self.old { ports = slice_set self.old.ports (before word) None } }
+    {
+        replaced(&mut self.ports, before(word), None)
+    }
+
     /// What stands at port words, one after the other.
     pub fn take_all(&mut self, alloc: Global, words: &[i64]) -> Result<Vec<Option<Port>>, NoMemory>
         ensures { IfOk result (λ v. (v.items, self.new) ≡ all_taken self.old words.now) }
@@ -170,17 +201,5 @@ impl Slots {
             push_some(&mut ports, self.leave(*word)?)?;
         }
         Ok(ports)
-    }
-
-    /// The words of these, one after the other.
-    pub fn put_all(&mut self, alloc: Global, ports: Vec<Option<Port>>) -> Result<Vec<i64>, NoMemory>
-        ensures { IfOk result (λ v. (v.items, self.new) ≡ all_put self.old ports.items) }
-    {
-        let mut words = Vec::new(alloc);
-        let mut rest = VecDeque::from_vec(ports);
-        'ports: while let Some(port) = rest.pop_front() {
-            words.push(self.put_any(port)?)?;
-        }
-        Ok(words)
     }
 }

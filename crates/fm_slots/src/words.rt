@@ -1,9 +1,10 @@
 //! Words of a frame.
 
-ghost use Rattle.std.specs.Prelude.{◌≡◌, ◌+◌, IfOk, OnOk, nat_le, slice_set};
+ghost use Rattle.std.specs.Prelude.{◌≡◌, ◌≤◌, ◌+◌, ◌++◌, IfOk, OnOk, length, nat_le, slice_set, vec_len, vec_capacity};
 ghost use Rattle.fm_code.specs.Acts.{span_of};
 ghost use Rattle.fm_code.specs.Passing.{nulls, spliced};
 ghost use Rattle.fm_code.specs.Statements.{word_at};
+ghost use Rattle.fm_slots.specs.Rooms.{span_words};
 
 use fm_base::NoMemory;
 use fm_code::{Row, Span};
@@ -71,10 +72,49 @@ pub fn splice(alloc: Global, words: &mut Row<i64>, at: usize, items: &[i64]) -> 
     Ok(())
 }
 
+/// Adds items where there is room for them.
+fn extend_within(words: &mut Vec<i64>, items: &[i64])
+    requires { vec_len words.old + length items.now ≤ vec_capacity words.old }
+    ensures items { words.new.items ≡ words.old.items ++ items.now }
+    ensures len { vec_len words.new ≡ vec_len words.old + length items.now }
+    ensures capacity { vec_capacity words.old ≤ vec_capacity words.new }
+{
+    match words.extend_from_slice(items) {
+        Ok(()) => {}
+        Err(_) => unreachable!(),
+    }
+}
+
+/// Puts items over the words from a place on, where there is room to add them all.
+pub(crate) fn splice_within(words: &mut Vec<i64>, at: usize, items: &[i64])
+    requires { vec_len words.old + length items.now ≤ vec_capacity words.old }
+    ensures items { words.new.items ≡ spliced words.old.items at items.now }
+    ensures len { vec_len words.new ≤ vec_len words.old + length items.now }
+    ensures capacity { vec_capacity words.old ≤ vec_capacity words.new }
+{
+    if has_room(words.len(), at, items.len()) {
+        words[at..at + items.len()].copy_from_slice(items);
+    } else {
+        words.truncate(at);
+        extend_within(words, items);
+    }
+}
+
 /// The words of a span become NULL.
 pub fn clear_span(alloc: Global, words: &mut Row<i64>, span: Span) -> Result<(), NoMemory>
     ensures { OnOk result (words.new ≡ spliced words.old span.first (nulls span.count)) }
 {
     let nulls = vec![in alloc; 0i64; span.count as usize]?;
     splice(alloc, words, span.first as usize, nulls.as_slice())
+}
+
+/// As many words as these spans have at most.
+pub fn span_words(spans: &[Span]) -> Result<usize, NoMemory>
+    ensures { IfOk result (λ n. n ≡ span_words spans.now) }
+{
+    let mut count = 0usize;
+    'spans: for span in spans {
+        count = count.checked_add(span.count as usize).ok_or(NoMemory)?;
+    }
+    Ok(count)
 }

@@ -262,7 +262,10 @@ impl Entries {
         ensures waking { OnOk result (WakesAll channels.old channels.new) }
     {
         match self.rows.get_mut(actor.number) {
-            Some(entry) => join(alloc, &mut entry.process, channels, left, next),
+            Some(entry) => join(alloc, &mut entry.process, channels, left, next).map_err(|(
+                _,
+                error,
+            )| error),
             None => unreachable!(),
         }
     }

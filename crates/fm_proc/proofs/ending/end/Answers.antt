@@ -1,11 +1,20 @@
-use Rattle.std.proofs.Common.{sym, ap, ◌∙◌}
-use Rattle.fm_bodies.specs.Slots.{all_left, vacated}
+use Rattle.std.proofs.Common.{ℤ, List, [], ◌++◌, ap, ◌∙◌}
+use Rattle.fm_base.specs.declared.port.PortValue.{PortValue}
+use Rattle.fm_bodies.specs.Slots.{Slots, all_left, vacated}
+use Rattle.fm_bodies.specs.Processes.{ended_frame}
+use Rattle.fm_slots.specs.Rooms.{slots_in}
 use Rattle.fm_proc.specs.Phases.{proc_of}
 use Rattle.fm_proc.proofs.Endings.{ended_so}
 use Rattle.fm_proc.proofs.ending.end.Goals as goal
 
 pub returns-clause-performs : goal.returns-clause-performs
 returns-clause-performs c =
+    let b = c.in-Some.body in
     let slots = c.args.process.now.slots in
-    ended_so _ (proc_of c.args.process.now) _ _ c.in-Some.body c.end_body.new.body c.vacate.new.self c.in_ok-ports.ports c.in_ok-drops.drops.items c.requires.look c.requires.running (sym c.in-Some.ensures.value) c.in_ok-ports.ensures.body c.in_ok-ports.ensures.ports
-    (c.in_ok-drops.ensures.slots ∙ ap (all_left slots) c.as_slice.ensures) (c.in_ok-drops.ensures.ports ∙ ap (vacated slots) c.as_slice.ensures) c.shed.ensures.channels
+    let words = c.as_slice.result.now in
+    let opened = c.in_ok-slots.ensures.opened.0 in
+    ended_so _ (proc_of c.args.process.now) _ _ b c.end_body.new.body c.from_open.result c.in_ok-words.field-0.ports c.vacate.new.ports.items c.requires.look c.requires.running c.in-Some.is
+    (c.end_body.ensures ∙ ap (λ (l : List ℤ). record b { frame = record (ended_frame b b.frame b.below).0 { words = l }; below = [] }) c.in_ok-words.ensures.words) c.in_ok-words.ensures.ports
+    (c.from_open.ensures ∙ c.vacate.ensures.slots ∙ ap (λ (s : Slots). all_left s words) opened ∙ ap (all_left slots) c.as_slice.ensures)
+    (c.vacate.ensures.ports ∙ ap (λ (l : List PortValue). l ++ vacated (slots_in c.in_ok-slots.slots) words) c.in_ok-drops.ensures.items ∙ ap (λ (s : Slots). vacated s words) opened ∙ ap (vacated slots) c.as_slice.ensures)
+    c.shed.ensures.channels

@@ -1,13 +1,10 @@
 use Rattle.std.proofs.Common.{sym, ap, ◌∙◌}
 use Rattle.fm_code.specs.declared.body.Body.{Body}
 use Rattle.fm_bodies.specs.Processes.{ended_frame}
-use Rattle.fm_proc.proofs.Endings.{one_frame}
 use Rattle.fm_proc.proofs.ending.leave_frames.Goals as goal
 
 pub frames-preserved : goal.frames-preserved
 frames-preserved c = record {
   frame = ap (λ l. (ended_frame c.args.body.now c.frames.body.frame l).0) (sym c.in-Some.ensures) ∙ c.frames.invariant.frame;
-  ports = one_frame c.args.body.now c.frames.body.code c.frames.body.frame c.in-Some.frame c.frames.body.below c.pop.new.self c.frames.ports c.push_frame_ports.new.ports _
-      c.frames.invariant.ports c.in-Some.ensures (ap (λ (b : Body). b.code) c.frames.invariant.body) c.in_ok-push_frame_ports.ensures;
   body = ap (λ (b : Body). record b { frame = c.in-Some.frame; below = c.pop.new.self }) c.frames.invariant.body;
 }

@@ -1,11 +1,10 @@
-use Rattle.std.proofs.Common.{◌≡◌, ◌++◌, length}
+use Rattle.std.proofs.Common.{◌≡◌, length}
 use Rattle.fm_bodies.specs.Processes.{ended_frame}
 use Rattle.fm_proc.proofs.ending.leave_frames.Given as goal
 
 abbrev pub invariant-frames : goal.invariant-frames
 invariant-frames l = record {
   frame : (ended_frame l.fn.body l.body.frame l.body.below).0 ≡ (ended_frame l.fn.body l.fn.body.frame l.fn.body.below).0;
-  ports : l.ports ++ (ended_frame l.fn.body l.body.frame l.body.below).1 ≡ l.fn.ports ++ (ended_frame l.fn.body l.fn.body.frame l.fn.body.below).1;
   body : l.body ≡ record l.fn.body { frame = l.body.frame; below = l.body.below };
 }
 

@@ -6,7 +6,7 @@ use Rattle.fm_numbered.proofs.Rows.{there as stands_there}
 use Rattle.fm_stacks.specs.Readings.{proc_in, actor_place}
 use Rattle.fm_stacks.proofs.Families.{families_put_but}
 use Rattle.fm_stacks.proofs.Maps.{found, there, told_put}
-use Rattle.fm_stacks.proofs.Placing.{joins_at}
+use Rattle.fm_stacks.proofs.Placing.{joins_at, passed_on}
 use Rattle.fm_stacks.proofs.entries.Entries.join.Goals as goal
 
 pub join-requires-clause-look : goal.join-requires-clause-look
@@ -23,23 +23,23 @@ returns-clause-joins c =
     let k = actor_place c.args.actor.now in
     let y = record c.in-Some.entry.now { process = c.join.new.process } in
     let is = there c.args.self.now k (Some c.in-Some.entry.now) (found c.args.self.now c.args.actor.now.number k (Some c.in-Some.entry.now) c.requires.actor c.in-Some.ensures.value) in
-    IfOk-weaker c.join.result _ _ (λ cost told x children at left.
+    passed_on c.join.result c.map_err.result _ _ c.map_err.ensures.cases (IfOk-weaker c.join.result _ _ (λ cost told x children at left.
     joins_at k x (proc_in c.in-Some.entry.now) (sym is ∙ at) c.args.self.now (record { rows = c.get_mut.follows.lender y }) y
-    (c.get_mut.follows.holds y k c.requires.actor).map_is children (chans_of c.args.channels.now) (chans_of c.join.new.channels) cost (told k children left)) c.join.ensures.joins
+    (c.get_mut.follows.holds y k c.requires.actor).map_is children (chans_of c.args.channels.now) (chans_of c.join.new.channels) cost (told k children left)) c.join.ensures.joins)
 
 pub returns-clause-told : goal.returns-clause-told
 returns-clause-told c =
     let k = actor_place c.args.actor.now in
     let y = record c.in-Some.entry.now { process = c.join.new.process } in
-    IfOk-weaker c.join.result _ _ (λ a told but.
-    told_put k c.args.self.now (record { rows = c.get_mut.follows.lender y }) k y (c.get_mut.follows.holds y k c.requires.actor).map_is (inl refl) but) c.join.ensures.joins
+    passed_on c.join.result c.map_err.result _ _ c.map_err.ensures.cases (IfOk-weaker c.join.result _ _ (λ a told but.
+    told_put k c.args.self.now (record { rows = c.get_mut.follows.lender y }) k y (c.get_mut.follows.holds y k c.requires.actor).map_is (inl refl) but) c.join.ensures.joins)
 
 pub returns-clause-order : goal.returns-clause-order
-returns-clause-order c = IfOk-weaker c.join.result _ _ (λ a told. (c.get_mut.follows.holds (record c.in-Some.entry.now { process = c.join.new.process }) (actor_place c.args.actor.now) c.requires.actor).places_are) c.join.ensures.joins
+returns-clause-order c = passed_on c.join.result c.map_err.result _ _ c.map_err.ensures.cases (IfOk-weaker c.join.result _ _ (λ a told. (c.get_mut.follows.holds (record c.in-Some.entry.now { process = c.join.new.process }) (actor_place c.args.actor.now) c.requires.actor).places_are) c.join.ensures.joins)
 
 pub returns-clause-families : goal.returns-clause-families
 returns-clause-families c =
     let k = actor_place c.args.actor.now in
     let y = record c.in-Some.entry.now { process = c.join.new.process } in
     let put = c.get_mut.follows.holds y k c.requires.actor in
-    IfOk-weaker c.join.result _ _ (λ a told but. families_put_but k c.args.self.now (record { rows = c.get_mut.follows.lender y }) y put.map_is put.places_are but) c.join.ensures.joins
+    passed_on c.join.result c.map_err.result _ _ c.map_err.ensures.cases (IfOk-weaker c.join.result _ _ (λ a told but. families_put_but k c.args.self.now (record { rows = c.get_mut.follows.lender y }) y put.map_is put.places_are but) c.join.ensures.joins)
