@@ -1,1 +1,2 @@
+pub mod FusedLaws
 pub mod StackLaws

@@ -1,4 +1,6 @@
 pub mod Acts
 pub mod Passing
 pub mod Statements
+pub mod Fused
 pub mod Parts
+pub mod Top

@@ -76,7 +76,7 @@ fn first_body(alloc: Global, code: Code, number: u32) -> Result<Option<Body>, No
     ensures { IfOk result (λ b. (u : declared_unit.Unit) → slice_get code.units number ≡ Some u →
         b ≡ Some (record { code = code; machine = record { first = 0; count = nodes_of u.extents }; node = 0; frame = new_frame number u (nulls u.words) []; below = [] })) }
 {
-    let code = SharedCode::new(Arc::new(alloc, code)?);
+    let code = SharedCode::new(alloc, Arc::new(alloc, code)?)?;
     let Some(unit) = unit_at(&code, number) else {
         return Ok(None);
     };

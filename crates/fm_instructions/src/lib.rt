@@ -11,6 +11,7 @@ mod evaluating;
 mod looping;
 mod onward;
 mod statements;
+mod step;
 mod turn;
 mod values;
 mod work;

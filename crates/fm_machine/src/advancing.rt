@@ -1,7 +1,9 @@
 //! Statements, one after another.
 
-ghost use Rattle.std.specs.Prelude.{◌≡◌, ◌≢◌, ◌≤◌, ◌+◌, ◌++◌, [], Some, None, IfOk, OnOk, option_to_list};
+ghost use Rattle.std.specs.Prelude.{◌≡◌, ◌≢◌, ◌≤◌, ◌+◌, ◌++◌, [], Some, None, IfOk, OnOk, List, option_to_list};
 ghost use Rattle.fm_code.specs.declared.ask.Ask.TheVariants as ask;
+ghost use Rattle.fm_code.specs.declared.instr.Instr.{Instr};
+ghost use Rattle.fm_code.specs.Fused.{AreFused};
 ghost use Rattle.fm_code.specs.Statements as statements;
 ghost use Rattle.fm_code.specs.Statements.{Own, run, ran, action_of, ask_of, turn_of, code_in};
 ghost use Rattle.fm_instructions.specs.Told.{turned};
@@ -12,7 +14,7 @@ use crate::done::{Done, Made};
 use crate::performing::{Finish, let_go_at_ending, look, perform};
 use fm_base::{NoMemory, Seq};
 use fm_calling::{Look, unit_at};
-use fm_code::{Body, Frame, Instr, copy_body};
+use fm_code::{Body, Frame, Fused, Instr, copy_body};
 use fm_instructions::{Turn, Work, go_on, statement};
 use std::alloc::Global;
 use std::sync::Arc;
@@ -91,13 +93,12 @@ fn both(first: u64, second: u64) -> Result<u64, NoMemory>
 
 /// Does statements that change nothing but their frame, as many as `slice` at most. How many: each costs 1.
 #[inline(never)]
-#[tactic(auto, using(crate::proofs::Going::frame_step))]
-fn go_on_many(code: &[Instr], work: &mut Work, frame: &mut Frame, slice: u32) -> u32
-    ensures ran { RunsFrame code.now result frame.old frame.new }
+fn go_on_many(fused: &[Fused], work: &mut Work, frame: &mut Frame, slice: u32) -> u32
+    ensures ran { (code : List Instr) → AreFused fused.now code → RunsFrame code result frame.old frame.new }
     ensures within { result ≤ slice }
 {
     'steps: for steps in 0..slice {
-        if !go_on(code, work, frame) {
+        if !go_on(fused, work, frame) {
             return steps;
         }
     }
@@ -110,8 +111,9 @@ fn go_on_alone(work: &mut Work, body: &mut Body, slice: u32) -> u32
     ensures ran { run result body.old ≡ Some (record { body = body.new; lines = []; cost = result }) }
     ensures within { result ≤ slice }
 {
-    match unit_at(&body.code, body.frame.unit) {
-        Some(unit) => go_on_many(unit.code.as_slice(), work, &mut body.frame, slice),
+    let number = body.frame.unit;
+    match unit_at(&body.code, number) {
+        Some(_) => go_on_many(body.code.fused(number), work, &mut body.frame, slice),
         None => 0,
     }
 }

@@ -13,7 +13,7 @@ use fm_chan::Port;
 use fm_code::{Body, Frame, SharedCode, Span};
 use fm_slots::{Slots, vacate_words, words_of};
 
-/// The ports at the words of a span.
+/// Lets go the ports at the words of a span.
 fn drop_span(words: &[i64], span: Span, slots: &mut Slots, drops: &mut Vec<Port>)
     requires room { vec_len drops.old + span.count ≤ vec_capacity drops.old }
     ensures sheds { Sheds (live (span_of words.now span)) slots.old drops.old.items slots.new drops.new.items }
@@ -23,7 +23,7 @@ fn drop_span(words: &[i64], span: Span, slots: &mut Slots, drops: &mut Vec<Port>
     vacate_words(slots, words_of(words, span), drops);
 }
 
-/// The ports at words of a unit.
+/// Lets go the ports at the words of a unit.
 fn drop_unit(code: &SharedCode, unit: u32, words: &[i64], slots: &mut Slots, drops: &mut Vec<Port>)
     requires room { vec_len drops.old + unit_room code.now unit ≤ vec_capacity drops.old }
     ensures sheds { Sheds (ports_in (ports_of (slice_get code.now.units unit)) words.now) slots.old drops.old.items slots.new drops.new.items }
@@ -36,7 +36,7 @@ fn drop_unit(code: &SharedCode, unit: u32, words: &[i64], slots: &mut Slots, dro
     }
 }
 
-/// The ports of a frame, then those of its starts.
+/// Lets go the ports of a frame, then those of its starts.
 fn drop_frame(code: &SharedCode, frame: &Frame, slots: &mut Slots, drops: &mut Vec<Port>)
     requires room { vec_len drops.old + frame_room code.now frame.now ≤ vec_capacity drops.old }
     ensures sheds { Sheds (words_by code.now frame.now) slots.old drops.old.items slots.new drops.new.items }
@@ -50,7 +50,7 @@ fn drop_frame(code: &SharedCode, frame: &Frame, slots: &mut Slots, drops: &mut V
     }
 }
 
-/// All ports of a body, innermost first. Takes no memory.
+/// Lets go all ports of a body, innermost first. Takes no memory.
 pub(crate) fn drop_body(body: Body, slots: Slots, drops: &mut Vec<Port>)
     requires room { vec_len drops.old + body_room body ≤ vec_capacity drops.old }
     ensures drops { drops.new.items ≡ drops.old.items ++ vacated slots (body_words body) }
