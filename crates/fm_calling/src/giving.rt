@@ -1,8 +1,10 @@
 //! What a frame gives back, and the ports that are let go.
 
-ghost use Rattle.std.specs.Prelude.{◌≡◌, ◌++◌, true, length, MatchOption, cond, ◌&&◌, [], ◌∷◌, IfOk, OnOk};
+ghost use Rattle.std.specs.Prelude.{◌≡◌, ◌++◌, true, false, length, MatchOption, cond, ◌&&◌, [], ◌∷◌, IfOk, IfSome, OnOk};
+ghost use Rattle.std.specs.List.{list_any};
 ghost use Rattle.fm_code.specs.Acts.{span_of};
-ghost use Rattle.fm_code.specs.Passing.{spliced, back_fits, backs_fit, merged, displaced, got_span, given_span, give, give_all, give_ports, live, is_port, ports_in};
+ghost use Rattle.fm_code.specs.declared.body.Back.{Back};
+ghost use Rattle.fm_code.specs.Passing.{spliced, back_fits, back_words, backs_fit, merged, displaced, got_span, given_span, give, give_all, give_ports, live, is_port, ports_in};
 ghost use Rattle.fm_calling.specs.Frames.{given};
 
 use crate::passing::{nulls, words_of};
@@ -27,6 +29,22 @@ pub(crate) fn backs_fit(mine: usize, theirs: usize, backs: &[Back]) -> bool
         }
     }
     true
+}
+
+/// How many words are given back, where all are there and none is a port word.
+pub(crate) fn plain_words(mine: usize, theirs: usize, backs: &[Back]) -> Option<u64>
+    ensures fit { IfSome result (λ words. backs_fit mine theirs backs.now ≡ true) }
+    ensures plain { IfSome result (λ words. list_any (λ (b : Back). b.port) backs.now ≡ false) }
+    ensures count { IfSome result (λ words. words ≡ back_words backs.now) }
+{
+    let mut words: u64 = 0;
+    'backs: for back in backs {
+        if back.port || !back_fits(mine, theirs, *back) {
+            return None;
+        }
+        words = words.checked_add(u64::from(back.words))?;
+    }
+    Some(words)
 }
 
 fn is_port(word: i64) -> bool
@@ -166,6 +184,17 @@ pub fn give_all(
         give_one(alloc, *back, mine, theirs, drops)?;
     }
     Ok(())
+}
+
+/// Words are given back in order, where none of them is a port word. Takes no memory.
+pub fn give_plain(backs: &[Back], mine: &mut Row<i64>, theirs: &Row<i64>)
+    requires fit { backs_fit (length mine.old) (length theirs.now) backs.now ≡ true }
+    requires plain { list_any (λ (b : Back). b.port) backs.now ≡ false }
+    ensures { mine.new ≡ (give_all backs.now (given mine.old theirs.now [])).mine }
+{
+    'backs: for back in backs {
+        give_words(*back, mine, theirs);
+    }
 }
 
 fn push_live(words: &[i64], ports: &mut Row<i64>) -> Result<(), NoMemory>

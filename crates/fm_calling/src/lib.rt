@@ -7,10 +7,10 @@ mod looking;
 mod passing;
 mod seats;
 
-pub use giving::give_all;
+pub use giving::{give_all, give_plain};
 pub use looking::{
-    Look, fail, line_of, look_back, look_close, look_move, look_value, push_frame_ports,
-    push_start_ports, unit_at, word_at,
+    Look, fail, leaves_no_port, line_of, look_back, look_close, look_move, look_plainly,
+    look_value, push_frame_ports, push_start_ports, unit_at, word_at,
 };
-pub use passing::{Entered, all_fit, enter};
+pub use passing::{all_fit, enter, nulls};
 pub use seats::{Seat, seat_for};

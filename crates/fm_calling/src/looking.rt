@@ -1,16 +1,17 @@
 //! What a body does, told without doing it.
 
-ghost use Rattle.std.specs.Prelude.{◌≡◌, ◌++◌, pos, true, length, slice_get, slice_set, IfOk, OnOk, Some, None};
+ghost use Rattle.std.specs.Prelude.{◌≡◌, ◌++◌, ◌+◌, ℤ, List, pos, true, false, length, slice_get, slice_set, IfOk, IfSome, OnOk, Some, None};
 ghost use Rattle.std.specs.Option.{option_map};
 ghost use Rattle.std.specs.Prelude.{[], ◌∷◌, MatchOption, reverse};
 ghost use Rattle.std.specs.List.{flat_map, list_any};
 ghost use Rattle.fm_code.specs.declared.body.Back.{Back};
 ghost use Rattle.fm_code.specs.declared.body.Start.{Start};
-ghost use Rattle.fm_code.specs.Passing.{backs_fit, live, ports_in};
+ghost use Rattle.fm_code.specs.Passing.{back_words, backs_fit, live, ports_in};
 ghost use Rattle.fm_code.specs.Statements.{Meets, word_at, unit_at, ports_of, line_at, line_of, fails, start_ports, left_ports, given, gives_back, results_in, closes, moves};
+ghost use Rattle.fm_calling.specs.declared.looking.Look.TheVariants as look;
 ghost use Rattle.fm_calling.specs.Looks.{look_in, look_by};
 
-use crate::giving::{backs_fit, give_all, push_ports};
+use crate::giving::{backs_fit, give_all, plain_words, push_ports};
 use fm_base::{Fault, Line, NoMemory};
 use fm_code::{Ask, Back, Body, Entry, Frame, Row, SharedCode, Start, Unit};
 use std::alloc::Global;
@@ -195,6 +196,36 @@ pub fn look_back(alloc: Global, body: &Body) -> Result<Look, NoMemory>
     }
     let ports = dropped(alloc, body, caller)?;
     Ok(look_by(alloc, ports))
+}
+
+/// Whether the innermost frame has no port words and no starts, so that it leaves no port.
+#[tactic(auto, using(crate::proofs::Plain::leaves_none))]
+pub fn leaves_no_port(body: &Body) -> bool
+    ensures { result ≡ true → (words : List ℤ) → left_ports body.now words ≡ [] }
+{
+    match unit_at(&body.code, body.frame.unit) {
+        Some(unit) => unit.ports.as_slice().is_empty() && body.frame.starts.len() == 0,
+        None => false,
+    }
+}
+
+/// What the return from a subroutine costs, where no port is left or given back; nothing is told where there may be one.
+pub fn look_plainly(body: &Body) -> Option<u64>
+    ensures goes { IfSome result (λ cost. look_in (gives_back body.now body.now.below) ≡ look.Goes) }
+    ensures plain { IfSome result (λ cost. list_any (λ (b : Back). b.port) body.now.frame.backs ≡ false) }
+    ensures cost { IfSome result (λ cost. cost ≡ 1 + back_words body.now.frame.backs) }
+{
+    let caller = body.below.first()?;
+    if !leaves_no_port(body) {
+        return None;
+    }
+    let words = plain_words(
+        caller.words.len(),
+        body.frame.words.len(),
+        body.frame.backs.as_slice(),
+    )?;
+    let cost = words.checked_add(1)?;
+    Some(cost)
 }
 
 /// The return from a function.

@@ -10,15 +10,6 @@ use fm_base::{NoMemory, Seq};
 use fm_code::{Back, Formal, Operand, Row, Span};
 use std::alloc::Global;
 
-/// What the callee gets, and what it gives back.
-#[derive(Drop)]
-pub struct Entered {
-    /// The words of its frame.
-    pub words: Row<i64>,
-    /// What it gives back.
-    pub backs: Seq<Back>,
-}
-
 /// The first of a list, and the rest.
 pub(crate) fn front<T: Copy>(items: &[T]) -> Option<(T, &[T])>
     ensures { MatchOption result (items.now ≡ []) (λ f. items.now ≡ f.0 ∷ f.1.now) }
@@ -28,7 +19,7 @@ pub(crate) fn front<T: Copy>(items: &[T]) -> Option<(T, &[T])>
 }
 
 /// So many words of 0.
-pub(crate) fn nulls(alloc: Global, count: u32) -> Result<Row<i64>, NoMemory>
+pub fn nulls(alloc: Global, count: u32) -> Result<Row<i64>, NoMemory>
     ensures { IfOk result (λ r. r ≡ replicate count (pos 0)) }
 {
     let words = vec![in alloc; 0i64; count as usize]?;
@@ -110,15 +101,16 @@ fn pass_words(
     formal: Formal,
     span: Span,
     mine: &Row<i64>,
-    entered: &mut Entered,
+    theirs: &mut Row<i64>,
+    backs: &mut Seq<Back>,
 ) -> Result<(), NoMemory>
-    requires { fits (length mine.now) (length entered.old.words) formal (operand.Words span) ≡ true }
-    ensures gives { OnOk result (pass formal (operand.Words span) (passed mine.now entered.old) ≡ passed mine.now entered.new) }
-    ensures size { OnOk result (length entered.new.words ≡ length entered.old.words) }
+    requires { fits (length mine.now) (length theirs.old) formal (operand.Words span) ≡ true }
+    ensures gives { OnOk result (pass formal (operand.Words span) (passed mine.now theirs.old backs.old) ≡ passed mine.now theirs.new backs.new) }
+    ensures size { OnOk result (length theirs.new ≡ length theirs.old) }
 {
     let words = words_of(mine.as_slice(), span);
-    entered.words.put(formal.span.first as usize, words);
-    push_back(&mut entered.backs, formal, span, false)
+    theirs.put(formal.span.first as usize, words);
+    push_back(backs, formal, span, false)
 }
 
 fn pass_ports(
@@ -126,18 +118,19 @@ fn pass_ports(
     formal: Formal,
     span: Span,
     mine: &mut Row<i64>,
-    entered: &mut Entered,
+    theirs: &mut Row<i64>,
+    backs: &mut Seq<Back>,
 ) -> Result<(), NoMemory>
-    requires { fits (length mine.old) (length entered.old.words) formal (operand.Ports span) ≡ true }
-    ensures gives { OnOk result (pass formal (operand.Ports span) (passed mine.old entered.old) ≡ passed mine.new entered.new) }
-    ensures size { OnOk result (length entered.new.words ≡ length entered.old.words) }
+    requires { fits (length mine.old) (length theirs.old) formal (operand.Ports span) ≡ true }
+    ensures gives { OnOk result (pass formal (operand.Ports span) (passed mine.old theirs.old backs.old) ≡ passed mine.new theirs.new backs.new) }
+    ensures size { OnOk result (length theirs.new ≡ length theirs.old) }
     ensures mine { OnOk result (length mine.new ≡ length mine.old) }
 {
     let nulls = nulls(alloc, span.count)?;
     let words = words_of(mine.as_slice(), span);
-    entered.words.put(formal.span.first as usize, words);
+    theirs.put(formal.span.first as usize, words);
     mine.put(span.first as usize, nulls.as_slice());
-    push_back(&mut entered.backs, formal, span, true)
+    push_back(backs, formal, span, true)
 }
 
 fn pass_one(
@@ -145,47 +138,46 @@ fn pass_one(
     formal: Formal,
     operand: Operand,
     mine: &mut Row<i64>,
-    entered: &mut Entered,
+    theirs: &mut Row<i64>,
+    backs: &mut Seq<Back>,
 ) -> Result<(), NoMemory>
-    requires { fits (length mine.old) (length entered.old.words) formal operand ≡ true }
-    ensures gives { OnOk result (pass formal operand (passed mine.old entered.old) ≡ passed mine.new entered.new) }
-    ensures size { OnOk result (length entered.new.words ≡ length entered.old.words) }
+    requires { fits (length mine.old) (length theirs.old) formal operand ≡ true }
+    ensures gives { OnOk result (pass formal operand (passed mine.old theirs.old backs.old) ≡ passed mine.new theirs.new backs.new) }
+    ensures size { OnOk result (length theirs.new ≡ length theirs.old) }
     ensures mine { OnOk result (length mine.new ≡ length mine.old) }
 {
     match operand {
         Operand::Value(word) => {
-            entered.words.put(formal.span.first as usize, &[word]);
+            theirs.put(formal.span.first as usize, &[word]);
             Ok(())
         }
-        Operand::Words(span) => pass_words(formal, span, mine, entered),
-        Operand::Ports(span) => pass_ports(alloc, formal, span, mine, entered),
+        Operand::Words(span) => pass_words(formal, span, mine, theirs, backs),
+        Operand::Ports(span) => pass_ports(alloc, formal, span, mine, theirs, backs),
     }
 }
 
-/// The operands go to the formals of a frame of so many words; ports leave NULL behind.
+/// The operands go to the formals of a frame with these words, and to what it gives back; ports leave NULL
+/// behind.
 pub fn enter(
     alloc: Global,
     formals: &[Formal],
     operands: &[Operand],
-    words: u32,
     mine: &mut Row<i64>,
-) -> Result<Entered, NoMemory>
-    requires { all_fit (length mine.old) words formals.now operands.now ≡ true }
-    ensures { IfOk result (λ e. pass_all formals.now operands.now (record { mine = mine.old; theirs = replicate words (pos 0); backs = [] }) ≡ passed mine.new e) }
+    theirs: &mut Row<i64>,
+    backs: &mut Seq<Back>,
+) -> Result<(), NoMemory>
+    requires { all_fit (length mine.old) (length theirs.old) formals.now operands.now ≡ true }
+    ensures { OnOk result (pass_all formals.now operands.now (passed mine.old theirs.old backs.old) ≡ passed mine.new theirs.new backs.new) }
 {
-    let mut entered = Entered {
-        words: nulls(alloc, words)?,
-        backs: Seq::new(alloc),
-    };
     let mut formals = formals;
     let mut operands = operands;
     'formals: while let Some((formal, formals_behind)) = front(formals) {
         let Some((operand, operands_behind)) = front(operands) else {
             break;
         };
-        pass_one(alloc, formal, operand, mine, &mut entered)?;
+        pass_one(alloc, formal, operand, mine, theirs, backs)?;
         formals = formals_behind;
         operands = operands_behind;
     }
-    Ok(entered)
+    Ok(())
 }

@@ -116,7 +116,7 @@ fn first_entry(alloc: Global, program: &Program) -> Result<Entry, NoMemory>
     let mut work = Work::new(alloc);
     let next = next_look(alloc, &mut work, &process)?;
     Ok(Entry {
-        process,
+        process: Box::new(alloc, process)?,
         next,
         first_child: 0,
     })

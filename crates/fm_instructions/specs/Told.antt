@@ -1,13 +1,18 @@
 -- What is told of an instruction and of a statement.
 -- Source: this profile.
-use Rattle.std.specs.Prelude.{ℕ, ℤ, Option, Some, None, List, slice_set}
+use Rattle.std.specs.Prelude.{◌≡◌, ℕ, ℤ, Bool, true, false, Option, Some, None, List, [], slice_set}
 use Rattle.fm_code.specs.Acts as acts
-use Rattle.fm_code.specs.Acts.{Act, On, Over}
+use Rattle.fm_code.specs.Acts.{Act, On, Over, builds, nothing}
+use Rattle.fm_code.specs.declared.ask.Operand.{Operand}
 use Rattle.fm_code.specs.declared.body.Frame.{Frame}
 use Rattle.fm_code.specs.declared.body.Turns.{Turns}
+use Rattle.fm_code.specs.declared.code.Span.{Span}
+use Rattle.fm_code.specs.declared.instr.Build.TheVariants as build
 use Rattle.fm_code.specs.declared.scratch.Scratch.{Scratch}
 use Rattle.fm_instructions.specs.declared.work.Progress.{Progress}
 use Rattle.fm_instructions.specs.declared.work.Progress.TheVariants as progress
+use Rattle.fm_instructions.specs.declared.passing.Passing.{Passing}
+use Rattle.fm_instructions.specs.declared.passing.Passing.TheVariants as passing
 use Rattle.fm_instructions.specs.declared.turn.Change.{Change}
 use Rattle.fm_instructions.specs.declared.turn.Ending.{Ending}
 use Rattle.fm_instructions.specs.declared.turn.Ending.TheVariants as ending
@@ -54,3 +59,20 @@ turned (turn.Over e) b m = ended e m
 abbrev pub next_act : Option Turn → List ℤ → Scratch → Frame → Act
 next_act None s b m = On s b
 next_act (Some t) s b m = Over (turned t b m)
+
+-- what is built by a statement that passed these operands
+abbrev pub with_operands : List Operand → Scratch
+with_operands os = record nothing { operands = os }
+
+-- words of the frame were passed, or nothing is told
+abbrev pub PassesWords : Bool → Span → (os os' : List Operand) → Frame → Type 0
+PassesWords true span os os' m = builds (build.PassWords span) [] (with_operands os) m ≡ On [] (with_operands os')
+PassesWords false span os os' m = Unit {0}
+
+-- what is told at once of how a statement ended that passed these operands
+abbrev pub IsTold : Passing → acts.Turn → List Operand → Type 0
+IsTold (passing.Calls unit to) t os = t ≡ acts.Calls unit to os
+IsTold (passing.Refers unit to) t os = t ≡ acts.Refers unit to os
+IsTold passing.Returns t os = t ≡ acts.Returns
+IsTold (passing.ReturnsValue v) t os = t ≡ acts.ReturnsValue v
+IsTold passing.Untold t os = Unit {0}

@@ -10,6 +10,7 @@ mod deciding;
 mod evaluating;
 mod looping;
 mod onward;
+mod passing;
 mod statements;
 mod step;
 mod turn;
@@ -18,6 +19,7 @@ mod work;
 
 pub use changing::{change, go_to, write};
 pub use onward::go_on;
+pub use passing::{Passing, tell_passing};
 pub use statements::statement;
 pub use turn::{Change, Ending, Turn};
 pub use work::Work;

@@ -5,16 +5,18 @@ ghost use Rattle.fm_code.specs.Acts.{On, found, gives, nothing};
 ghost use Rattle.fm_instructions.specs.Told.{progressed};
 
 use fm_base::{Fault, NoMemory};
-use fm_code::{Scratch, Stack};
+use fm_code::{Frame, Pile, Scratch, Stack};
 use std::alloc::Global;
 
-/// What a statement has at hand: its operands, and what it builds.
+/// What a statement has at hand: its operands, what it builds, and frames to be used again.
 #[derive(Drop)]
 pub struct Work {
     /// The stack of operands.
     pub(crate) stack: Stack,
     /// What is built.
     pub scratch: Scratch,
+    /// Frames that returned, to be used again: what is in them means nothing.
+    pub spare: Pile<Frame>,
 }
 
 /// How an instruction leaves its statement that may go on.
@@ -37,10 +39,11 @@ impl Work {
         Work {
             stack: Stack::new(alloc),
             scratch: Scratch::new(alloc),
+            spare: Pile::new(alloc),
         }
     }
 
-    /// Takes all that is at hand.
+    /// Takes the operands and what was built.
     pub(crate) fn clear(&mut self)
         ensures stack { self.new.stack ≡ [] }
         ensures scratch { self.new.scratch ≡ nothing }

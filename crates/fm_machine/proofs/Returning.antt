@@ -1,11 +1,14 @@
 -- A return, with the ports that it lets go.
-use Rattle.std.proofs.Common.{◌≡◌, ℕ, ℤ, ◌+◌, Bool, true, false, cond, List, [], ◌∷◌, ◌++◌, length, refl, sym, ap, ◌∙◌}
+use Rattle.std.proofs.Common.{◌≡◌, ◌==◌, ℕ, ℤ, ◌+◌, Bool, true, false, cond, Some, List, [], ◌∷◌, ◌++◌, length, refl, sym, ap, ◌∙◌}
 use Rattle.fm_code.specs.declared.body.Body.{Body}
 use Rattle.fm_code.specs.declared.body.Frame.{Frame}
 use Rattle.fm_code.specs.Passing.{backs_fit, back_words}
-use Rattle.fm_code.specs.Statements.{Action, Own, is_stuck_in, given, gives_back, results_in}
+use Rattle.fm_code.specs.Statements.{Action, Own, Meets, is_stuck_in, given, gives_back, left_ports, ran, results_in}
 use Rattle.fm_code.specs.Statements as statements
+use Rattle.fm_calling.specs.declared.looking.Look.TheVariants as look
+use Rattle.fm_calling.specs.Looks.{look_by, look_in}
 use Rattle.fm_machine.specs.Finished.{drops_in}
+use Rattle.fm_machine.proofs.Telling.{goes_run}
 
 fits_by : (fit : Bool) (a : Action) → is_stuck_in (cond fit a statements.Stuck) ≡ false → fit ≡ true
 fits_by true a e = refl
@@ -28,3 +31,21 @@ returns_so b c below below' is e =
 
 pub results_so : (b : Body) (v : ℤ) (c : Frame) (below below' : List Frame) → below ≡ c ∷ below' → results_in b v below ≡ Own (record b { frame = record c { results = c.results ++ v ∷ [] }; below = below' }) [] (drops_in (results_in b v below)) 1
 results_so b v c below below' is = owns_drops (results_in b v below) _ [] _ 1 (ap (results_in b v) is)
+
+goes_unstuck : (a : Action) → look_in a ≡ look.Goes → is_stuck_in a ≡ false
+goes_unstuck statements.Stuck e = absurd (cc)
+goes_unstuck (Own b lines drops cost) e = refl
+goes_unstuck (Meets a) e = refl
+
+-- a return that lets no port go
+pub plainly_ran : (b : Body) (c : Frame) (below below' : List Frame) (ws : List ℤ) (cost : ℕ) → below ≡ c ∷ below' → look_in (gives_back b below) ≡ look.Goes → ws ≡ (given b c).mine → cost ≡ 1 + back_words b.frame.backs → ran (gives_back b below) ≡ Some (record { body = record b { frame = record c { words = ws }; below = below' }; lines = []; cost = cost })
+plainly_ran b c below below' ws cost is goes words costs =
+    goes_run (gives_back b below) _ cost goes
+    (returns_so b c below below' is (goes_unstuck (gives_back b below) goes)
+    ∙ (ap (λ ws. Own (record b { frame = record c { words = ws }; below = below' }) [] (drops_in (gives_back b below)) (1 + back_words b.frame.backs)) (sym words)
+    ∙ ap (Own (record b { frame = record c { words = ws }; below = below' }) [] (drops_in (gives_back b below))) (sym costs)))
+
+-- a result that is left with no port
+pub value_goes : (b : Body) (v : ℤ) (below : List Frame) → (length below == 0) ≡ false → ((ws : List ℤ) → left_ports b ws ≡ []) → look_in (results_in b v below) ≡ look.Goes
+value_goes b v [] e none = absurd (cc)
+value_goes b v (c ∷ below) e none = ap look_by (none b.frame.words)

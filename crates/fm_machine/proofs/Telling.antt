@@ -1,5 +1,5 @@
 -- What is told of a body, and what it asks for.
-use Rattle.std.proofs.Common.{◌≡◌, ℕ, Some, None, [], ◌∷◌, refl, ap}
+use Rattle.std.proofs.Common.{◌≡◌, ℕ, Some, None, List, [], ◌∷◌, refl, ap}
 use Rattle.fm_code.specs.declared.ask.Ask.{Ask}
 use Rattle.fm_code.specs.declared.body.Body.{Body}
 use Rattle.fm_code.specs.Statements as statements
@@ -33,3 +33,10 @@ stuck_run statements.Stuck e = refl
 stuck_run (Own b lines [] cost) e = absurd (cc)
 stuck_run (Own b lines (z ∷ zs) cost) e = absurd (cc)
 stuck_run (Meets a) e = absurd (cc)
+
+-- what makes a step tells nothing
+pub ran_goes : (a : Action) (b : Body) (lines : List (List ℕ)) (cost : ℕ) → ran a ≡ Some (record { body = b; lines = lines; cost = cost }) → look_in a ≡ look.Goes
+ran_goes statements.Stuck b lines cost e = absurd (cc)
+ran_goes (Own b' lines' [] cost') b lines cost e = refl
+ran_goes (Own b' lines' (z ∷ zs) cost') b lines cost e = absurd (cc)
+ran_goes (Meets a) b lines cost e = absurd (cc)

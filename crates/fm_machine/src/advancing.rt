@@ -1,6 +1,6 @@
 //! Statements, one after another.
 
-ghost use Rattle.std.specs.Prelude.{◌≡◌, ◌≢◌, ◌≤◌, ◌+◌, ◌++◌, [], Some, None, IfOk, OnOk, List, option_to_list};
+ghost use Rattle.std.specs.Prelude.{◌≡◌, ◌≢◌, ◌≤◌, ◌+◌, ◌++◌, [], Some, None, IfOk, IfSome, OnOk, List, option_to_list};
 ghost use Rattle.fm_code.specs.declared.ask.Ask.TheVariants as ask;
 ghost use Rattle.fm_code.specs.declared.instr.Instr.{Instr};
 ghost use Rattle.fm_code.specs.Fused.{AreFused};
@@ -11,11 +11,14 @@ ghost use Rattle.fm_calling.specs.Looks.{look_in};
 ghost use Rattle.fm_machine.specs.Finished.{went, told, Stays, RunsFrame};
 
 use crate::done::{Done, Made};
-use crate::performing::{Finish, let_go_at_ending, look, perform};
+use crate::opening::open;
+use crate::performing::{
+    Finish, let_go_at_ending, look, perform, return_plainly, return_value_plainly,
+};
 use fm_base::{NoMemory, Seq};
 use fm_calling::{Look, unit_at};
 use fm_code::{Body, Frame, Fused, Instr, copy_body};
-use fm_instructions::{Turn, Work, go_on, statement};
+use fm_instructions::{Passing, Turn, Work, go_on, statement, tell_passing};
 use std::alloc::Global;
 use std::sync::Arc;
 
@@ -37,14 +40,38 @@ fn next_turn(alloc: Global, work: &mut Work, body: &Body) -> Result<Turn, NoMemo
     statement(alloc, code_of(body), address, work, &body.frame)
 }
 
+/// Does the next statement where it calls with words of the frame alone, or returns and leaves no port. The cost; none, and no
+/// change, where it does something else.
+fn pass(alloc: Global, work: &mut Work, body: &mut Body) -> Result<Option<u64>, NoMemory>
+    ensures ran { IfOk result (λ c. IfSome c (λ cost. ran (action_of body.old) ≡ Some (record { body = body.new; lines = []; cost = cost }))) }
+    ensures stays { IfOk result (λ c. c ≡ None → body.new ≡ body.old) }
+{
+    let spare = &mut work.spare;
+    let operands = &mut work.scratch.operands;
+    match tell_passing(code_of(body), &body.frame, operands) {
+        Passing::Calls(unit, to) => {
+            open(alloc, unit, to, false, operands.as_slice(), spare, body)
+        }
+        Passing::Refers(unit, to) => {
+            open(alloc, unit, to, true, operands.as_slice(), spare, body)
+        }
+        Passing::Returns => Ok(return_plainly(spare, body)),
+        Passing::ReturnsValue(value) => return_value_plainly(value, spare, body),
+        Passing::Untold => Ok(None),
+    }
+}
+
 /// Does the next statement. After something other than a step the body is as it was.
 fn step(alloc: Global, work: &mut Work, body: &mut Body) -> Result<Finish, NoMemory>
     ensures ran { IfOk result (λ f. went f body.new ≡ ran (action_of body.old)) }
     ensures tells { IfOk result (λ f. told f ≡ look_in (action_of body.old)) }
     ensures stays { IfOk result (λ f. Stays f body.old body.new) }
 {
+    if let Some(cost) = pass(alloc, work, body)? {
+        return Ok(Finish::Went(None, cost));
+    }
     let turn = next_turn(alloc, work, body)?;
-    perform(alloc, turn, &work.scratch, body)
+    perform(alloc, turn, &work.scratch, &mut work.spare, body)
 }
 
 /// What the next statement of a body does, without doing it.
@@ -67,7 +94,7 @@ pub fn let_go(
     ensures { IfOk result (λ cost. action_of body.old ≡ Own body.new [] slots.now cost) }
 {
     match next_turn(alloc, work, body)? {
-        Turn::Over(ending) => let_go_at_ending(alloc, ending, body),
+        Turn::Over(ending) => let_go_at_ending(alloc, ending, &mut work.spare, body),
         // These let no port go.
         Turn::Prints(_) | Turn::Calls(_, _) | Turn::Refers(_, _) | Turn::Starts(_, _) => {
             Err(NoMemory)

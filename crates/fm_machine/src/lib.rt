@@ -8,6 +8,7 @@ mod advancing;
 mod done;
 mod opening;
 mod performing;
+mod spares;
 
 pub use advancing::{advance, let_go, next_look, proceed};
 pub use done::{Done, Made};

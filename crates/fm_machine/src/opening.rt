@@ -1,42 +1,32 @@
 //! Calls, references and starts.
 
-ghost use Rattle.std.specs.Prelude.{◌≡◌, IfOk, Some, None, replicate};
+ghost use Rattle.std.specs.Prelude.{◌≡◌, pos, [], IfOk, OnOk, Some, None, replicate};
 ghost use Rattle.fm_code.specs.Statements.{unit_at, new_frame, ran, starts};
 ghost use Rattle.fm_code.specs.Passing.{all_fit};
 ghost use Rattle.fm_calling.specs.Looks.{look_in};
 ghost use Rattle.fm_machine.specs.Finished.{opened_by, opening, starting, went, told, Stays};
 
 use crate::performing::Finish;
+use crate::spares::{clear_backs, spare_frame};
 use fm_base::{Machine, NoMemory, Seq};
-use fm_calling::{Entered, Look, all_fit, enter, fail, seat_for, unit_at};
-use fm_code::{Body, Frame, Operand, Place, Row, Start, Turns, Unit};
+use fm_calling::{Look, all_fit, enter, fail, nulls, seat_for, unit_at};
+use fm_code::{Body, Frame, Operand, Pile, Place, Start, Unit};
 use fm_instructions::go_to;
 use std::alloc::Global;
 use std::mem::replace;
 
-/// The loops of a unit, none of them begun.
-fn no_loops(alloc: Global, count: u32) -> Result<Row<Option<Turns>>, NoMemory>
-    ensures { IfOk result (λ l. l ≡ replicate count None) }
+/// Makes a frame one of a unit at its first statement. It is made in its place: a frame costs to move.
+fn begin(alloc: Global, number: u32, unit: &Unit, frame: &mut Frame) -> Result<(), NoMemory>
+    ensures { OnOk result (frame.new ≡ new_frame number unit.now (replicate unit.now.words (pos 0)) []) }
 {
-    let none: Option<Turns> = None;
-    let loops = vec![in alloc; none; count as usize]?;
-    Ok(Row::from_vec(loops))
-}
-
-/// A frame at its first statement.
-fn new_frame(alloc: Global, number: u32, unit: &Unit, entered: Entered) -> Result<Frame, NoMemory>
-    ensures { IfOk result (λ f. f ≡ new_frame number unit.now entered.words entered.backs) }
-{
-    let Entered { words, backs } = entered;
-    Ok(Frame {
-        unit: number,
-        address: 0,
-        words,
-        loops: no_loops(alloc, unit.loops)?,
-        results: Row::new(alloc),
-        starts: Row::new(alloc),
-        backs,
-    })
+    frame.unit = number;
+    frame.address = 0;
+    frame.words.refill(unit.words as usize, 0)?;
+    frame.loops.refill(unit.loops as usize, None)?;
+    frame.results.clear();
+    frame.starts.clear();
+    clear_backs(alloc, frame);
+    Ok(())
 }
 
 /// Whether the operands fit a unit, from a frame of so many words.
@@ -54,6 +44,7 @@ pub(crate) fn open(
     to: u32,
     keeps: bool,
     operands: &[Operand],
+    spare: &mut Pile<Frame>,
     body: &mut Body,
 ) -> Result<Option<u64>, NoMemory>
     ensures opened { IfOk result (λ c. opened_by c body.new ≡ opening keeps number to operands.now body.old) }
@@ -67,11 +58,19 @@ pub(crate) fn open(
         return Ok(None);
     }
     let formals = unit.formals.as_slice();
-    let entered = enter(alloc, formals, operands, unit.words, &mut body.frame.words)?;
-    let mut frame = new_frame(alloc, number, unit, entered)?;
+    let mut frame = spare_frame(alloc, spare);
+    begin(alloc, number, unit, &mut frame)?;
+    enter(
+        alloc,
+        formals,
+        operands,
+        &mut body.frame.words,
+        &mut frame.words,
+        &mut frame.backs,
+    )?;
     let cost = 1 + u64::from(unit.words);
     if keeps {
-        frame.backs = Seq::new(alloc);
+        clear_backs(alloc, &mut frame);
         body.frame.address = to;
     } else {
         go_to(&mut body.frame, to);
@@ -101,8 +100,16 @@ fn add_start(
         return Ok(None);
     }
     let formals = unit.formals.as_slice();
-    let entered = enter(alloc, formals, operands, unit.words, &mut body.frame.words)?;
-    let Entered { words, backs } = entered;
+    let mut words = nulls(alloc, unit.words)?;
+    let mut backs = Seq::new(alloc);
+    enter(
+        alloc,
+        formals,
+        operands,
+        &mut body.frame.words,
+        &mut words,
+        &mut backs,
+    )?;
     let (machine, node) = seat;
     let cost = 1 + u64::from(unit.words);
     body.frame.starts.push(Start {

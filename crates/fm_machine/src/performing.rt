@@ -1,6 +1,6 @@
 //! What statements do to their body.
 
-ghost use Rattle.std.specs.Prelude.{◌≡◌, [], ◌∷◌, false, IfOk, OnOk};
+ghost use Rattle.std.specs.Prelude.{◌≡◌, [], ◌∷◌, false, Some, None, IfOk, IfSome, OnOk};
 ghost use Rattle.fm_code.specs.Acts.{Prints};
 ghost use Rattle.fm_code.specs.Passing.{back_words};
 ghost use Rattle.fm_code.specs.Statements.{Own, action_by, gives_back, results_in, closes, moves, ran, is_stuck_in};
@@ -9,9 +9,13 @@ ghost use Rattle.fm_calling.specs.Looks.{look_in};
 ghost use Rattle.fm_machine.specs.Finished.{went, told, drops_in, Stays, opening};
 
 use crate::opening::{look_open, look_start, open, start};
+use crate::spares::keep;
 use fm_base::{NoMemory, Printed, Seq, output_line};
-use fm_calling::{Look, fail, give_all, look_back, look_close, look_move, look_value, word_at};
-use fm_code::{Ask, Back, Body, Operand, Row, Scratch};
+use fm_calling::{
+    Look, fail, give_all, give_plain, leaves_no_port, look_back, look_close, look_move,
+    look_plainly, look_value, word_at,
+};
+use fm_code::{Ask, Back, Body, Frame, Operand, Pile, Row, Scratch};
 use fm_instructions::{Ending, Turn, change, go_to, write};
 use std::alloc::Global;
 use std::mem::replace;
@@ -55,7 +59,7 @@ fn back_words(backs: &[Back]) -> Result<u64, NoMemory>
 
 /// The innermost frame gives back to the one below it. The cost.
 #[tactic(auto, using(crate::proofs::Returning::returns_fit, crate::proofs::Returning::returns_so))]
-fn give_back(alloc: Global, body: &mut Body) -> Result<u64, NoMemory>
+fn give_back(alloc: Global, spare: &mut Pile<Frame>, body: &mut Body) -> Result<u64, NoMemory>
     requires { is_stuck_in (gives_back body.old body.old.below) ≡ false }
     ensures { IfOk result (λ cost. gives_back body.old body.old.below ≡ Own body.new [] (drops_in (gives_back body.old body.old.below)) cost) }
 {
@@ -73,21 +77,52 @@ fn give_back(alloc: Global, body: &mut Body) -> Result<u64, NoMemory>
         &mut frame.words,
         &mut ports,
     )?;
-    back_words(backs)?.checked_add(1).ok_or(NoMemory)
+    let cost = back_words(backs)?.checked_add(1).ok_or(NoMemory)?;
+    keep(spare, frame);
+    Ok(cost)
+}
+
+/// Returns from a subroutine where no port is left or given back. The cost; none, and no change, where there may be one.
+pub(crate) fn return_plainly(spare: &mut Pile<Frame>, body: &mut Body) -> Option<u64>
+    ensures ran { IfSome result (λ cost. ran (gives_back body.old body.old.below) ≡ Some (record { body = body.new; lines = []; cost = cost })) }
+    ensures stays { result ≡ None → body.new ≡ body.old }
+{
+    let cost = look_plainly(body)?;
+    let caller = body.below.pop()?;
+    let frame = replace(&mut body.frame, caller);
+    give_plain(frame.backs.as_slice(), &mut body.frame.words, &frame.words);
+    keep(spare, frame);
+    Some(cost)
 }
 
 /// The innermost frame leaves a result with the one below it.
 #[tactic(auto, using(crate::proofs::Returning::results_so))]
-fn leave_result(value: i64, body: &mut Body) -> Result<(), NoMemory>
+fn leave_result(value: i64, spare: &mut Pile<Frame>, body: &mut Body) -> Result<(), NoMemory>
     ensures { OnOk result (results_in body.old value body.old.below ≡ Own body.new [] (drops_in (results_in body.old value body.old.below)) 1) }
 {
     // A step was told, so there is a caller.
     let Some(caller) = body.below.pop() else {
         return Err(NoMemory);
     };
-    body.frame = caller;
+    keep(spare, replace(&mut body.frame, caller));
     body.frame.results.push(value)?;
     Ok(())
+}
+
+/// Returns from a function where no port is left. The cost; none, and no change, where there may be one.
+pub(crate) fn return_value_plainly(
+    value: i64,
+    spare: &mut Pile<Frame>,
+    body: &mut Body,
+) -> Result<Option<u64>, NoMemory>
+    ensures ran { IfOk result (λ c. IfSome c (λ cost. ran (results_in body.old value body.old.below) ≡ Some (record { body = body.new; lines = []; cost = cost }))) }
+    ensures stays { IfOk result (λ c. c ≡ None → body.new ≡ body.old) }
+{
+    if body.below.is_empty() || !leaves_no_port(body) {
+        return Ok(None);
+    }
+    leave_result(value, spare, body)?;
+    Ok(Some(1))
 }
 
 /// A port is let go, if it is there.
@@ -109,27 +144,36 @@ fn move_port(from: u32, into: u32, to: u32, body: &mut Body)
 }
 
 #[tactic(auto, using(crate::proofs::Telling::goes_run, crate::proofs::Telling::asks_run, crate::proofs::Telling::stuck_run))]
-fn finish_return(alloc: Global, body: &mut Body) -> Result<Finish, NoMemory>
+fn finish_return(
+    alloc: Global,
+    spare: &mut Pile<Frame>,
+    body: &mut Body,
+) -> Result<Finish, NoMemory>
     ensures ran { IfOk result (λ f. went f body.new ≡ ran (gives_back body.old body.old.below)) }
     ensures tells { IfOk result (λ f. told f ≡ look_in (gives_back body.old body.old.below)) }
     ensures stays { IfOk result (λ f. Stays f body.old body.new) }
 {
     match look_back(alloc, body)? {
-        Look::Goes => Ok(Finish::Went(None, give_back(alloc, body)?)),
+        Look::Goes => Ok(Finish::Went(None, give_back(alloc, spare, body)?)),
         Look::Asks(ask) => Ok(Finish::Asks(ask)),
         Look::Stuck => Ok(Finish::Stuck),
     }
 }
 
 #[tactic(auto, using(crate::proofs::Telling::goes_run, crate::proofs::Telling::asks_run, crate::proofs::Telling::stuck_run))]
-fn finish_value(alloc: Global, value: i64, body: &mut Body) -> Result<Finish, NoMemory>
+fn finish_value(
+    alloc: Global,
+    value: i64,
+    spare: &mut Pile<Frame>,
+    body: &mut Body,
+) -> Result<Finish, NoMemory>
     ensures ran { IfOk result (λ f. went f body.new ≡ ran (results_in body.old value body.old.below)) }
     ensures tells { IfOk result (λ f. told f ≡ look_in (results_in body.old value body.old.below)) }
     ensures stays { IfOk result (λ f. Stays f body.old body.new) }
 {
     match look_value(alloc, body, value)? {
         Look::Goes => {
-            leave_result(value, body)?;
+            leave_result(value, spare, body)?;
             Ok(Finish::Went(None, 1))
         }
         Look::Asks(ask) => Ok(Finish::Asks(ask)),
@@ -175,7 +219,12 @@ fn finish_move(
     }
 }
 
-fn finish_ending(alloc: Global, ending: Ending, body: &mut Body) -> Result<Finish, NoMemory>
+fn finish_ending(
+    alloc: Global,
+    ending: Ending,
+    spare: &mut Pile<Frame>,
+    body: &mut Body,
+) -> Result<Finish, NoMemory>
     ensures ran { IfOk result (λ f. went f body.new ≡ ran (action_by body.old (ended ending body.old.frame))) }
     ensures tells { IfOk result (λ f. told f ≡ look_in (action_by body.old (ended ending body.old.frame))) }
     ensures stays { IfOk result (λ f. Stays f body.old body.new) }
@@ -185,8 +234,8 @@ fn finish_ending(alloc: Global, ending: Ending, body: &mut Body) -> Result<Finis
             change(&mut body.frame, changes);
             Ok(Finish::Went(None, 1))
         }
-        Ending::Returns => finish_return(alloc, body),
-        Ending::ReturnsValue(value) => finish_value(alloc, value, body),
+        Ending::Returns => finish_return(alloc, spare, body),
+        Ending::ReturnsValue(value) => finish_value(alloc, value, spare, body),
         Ending::Closes(number, to) => finish_close(alloc, number, to, body),
         Ending::Moves(from, into, to) => finish_move(alloc, from, into, to, body),
         Ending::Fails(fault) => Ok(Finish::Asks(fail(body, fault))),
@@ -200,15 +249,16 @@ fn finish_ending(alloc: Global, ending: Ending, body: &mut Body) -> Result<Finis
 pub(crate) fn let_go_at_ending(
     alloc: Global,
     ending: Ending,
+    spare: &mut Pile<Frame>,
     body: &mut Body,
 ) -> Result<u64, NoMemory>
     requires { is_stuck_in (action_by body.old (ended ending body.old.frame)) ≡ false }
     ensures { IfOk result (λ cost. action_by body.old (ended ending body.old.frame) ≡ Own body.new [] (drops_in (action_by body.old (ended ending body.old.frame))) cost) }
 {
     match ending {
-        Ending::Returns => give_back(alloc, body),
+        Ending::Returns => give_back(alloc, spare, body),
         Ending::ReturnsValue(value) => {
-            leave_result(value, body)?;
+            leave_result(value, spare, body)?;
             Ok(1)
         }
         Ending::Closes(number, to) => {
@@ -229,23 +279,26 @@ fn finish_open(
     to: u32,
     keeps: bool,
     operands: &[Operand],
+    spare: &mut Pile<Frame>,
     body: &mut Body,
 ) -> Result<Finish, NoMemory>
     ensures ran { IfOk result (λ f. went f body.new ≡ ran (opening keeps number to operands.now body.old)) }
     ensures tells { IfOk result (λ f. told f ≡ look_in (opening keeps number to operands.now body.old)) }
     ensures stays { IfOk result (λ f. Stays f body.old body.new) }
 {
-    match open(alloc, number, to, keeps, operands, body)? {
+    match open(alloc, number, to, keeps, operands, spare, body)? {
         Some(cost) => Ok(Finish::Went(None, cost)),
         None => Ok(Finish::Stuck),
     }
 }
 
-/// Does a statement that ends so and built this. After something other than a step the body is as it was.
+/// Does a statement that ends so and built this. A frame that it leaves may be kept to be used again. After
+/// something other than a step the body is as it was.
 pub(crate) fn perform(
     alloc: Global,
     turn: Turn,
     scratch: &Scratch,
+    spare: &mut Pile<Frame>,
     body: &mut Body,
 ) -> Result<Finish, NoMemory>
     ensures ran { IfOk result (λ f. went f body.new ≡ ran (action_by body.old (turned turn scratch.now body.old.frame))) }
@@ -258,10 +311,10 @@ pub(crate) fn perform(
             let (text, cost) = print(alloc, to, scratch.line.as_slice(), body)?;
             Ok(Finish::Went(Some(text), cost))
         }
-        Turn::Calls(unit, to) => finish_open(alloc, unit, to, false, operands, body),
-        Turn::Refers(unit, to) => finish_open(alloc, unit, to, true, operands, body),
+        Turn::Calls(unit, to) => finish_open(alloc, unit, to, false, operands, spare, body),
+        Turn::Refers(unit, to) => finish_open(alloc, unit, to, true, operands, spare, body),
         Turn::Starts(unit, to) => start(alloc, unit, to, operands, &scratch.place, body),
-        Turn::Over(ending) => finish_ending(alloc, ending, body),
+        Turn::Over(ending) => finish_ending(alloc, ending, spare, body),
     }
 }
 

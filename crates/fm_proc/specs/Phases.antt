@@ -1,6 +1,7 @@
 -- Processes in memory as those of the language of stack code.
 -- Source: this profile.
-use Rattle.std.specs.Prelude.{Option, map}
+use Rattle.std.specs.Prelude.{Box, Option, map}
+use Rattle.std.specs.declared.alloc.Global.{Global}
 use Rattle.fm_code.specs.declared.body.Body.{Body}
 use Rattle.fm_bodies.specs.Slots.{Slots}
 use Rattle.fm_bodies.specs.Processes as code
@@ -29,6 +30,10 @@ proc_of y = record {
   next_block = y.next_block;
   next_channel = y.next_channel;
 }
+
+-- one in a box of its own
+abbrev pub boxed_of : Box Process Global → CodeProc
+boxed_of b = proc_of b.value
 
 -- what a process leaves to its parent: its body, and its slots
 abbrev pub left_by : CodeProc → Option Body × Slots

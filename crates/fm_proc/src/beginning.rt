@@ -1,15 +1,16 @@
 //! The start of a block: its children, each with slots of its own.
 
-ghost use Rattle.std.specs.Prelude.{◌≡◌, ◌≤◌, ◌+◌, [], true, length, map, replicate, slice_get, vec_capacity, None, IfOk, OnErr};
+ghost use Rattle.std.specs.Prelude.{◌≡◌, ◌≤◌, ◌+◌, [], true, length, map, replicate, slice_get, vec_capacity, None, IfOk, OnErr, OnOk};
 ghost use Rattle.std.specs.List.{AllByRecursion};
 ghost use Rattle.fm_base.specs.Channels.{Chans};
 ghost use Rattle.fm_code.specs.declared.ask.Ask.TheVariants as ask;
 ghost use Rattle.fm_calling.specs.declared.looking.Look.TheVariants.{Asks};
 ghost use Rattle.fm_bodies.specs.Processes as code;
 ghost use Rattle.fm_bodies.specs.Processes.{children_of, loops_in};
+ghost use Rattle.fm_bodies.specs.Slots.{no_slots};
 ghost use Rattle.fm_slots.specs.Rooms.{HasRoom, LeavesRoom, slots_in};
-ghost use Rattle.fm_proc.specs.Drafts.{IsReady, all_begun, begun, body_of, drafted, room_of, rooms};
-ghost use Rattle.fm_proc.specs.Phases.{kid_of, proc_of};
+ghost use Rattle.fm_proc.specs.Drafts.{IsReady, all_begun, begun, blank, blank_body, child_in, filled, ports_room, room_of, rooms};
+ghost use Rattle.fm_proc.specs.Phases.{boxed_of, kid_of, proc_of};
 ghost use Rattle.fm_proc.specs.Told.{is_running, look_of};
 ghost use Rattle.fm_proc.specs.Performs.{Performs};
 
@@ -31,59 +32,77 @@ fn no_loops(alloc: Global, count: u32) -> Result<Row<Option<Turns>>, NoMemory>
     Ok(Row::from_vec(loops))
 }
 
-/// The frame with which a child begins, whose port words still name the slots of its parent.
-fn first_frame(alloc: Global, code: &SharedCode, start: &Start) -> Result<Frame, NoMemory>
-    ensures { IfOk result (λ f. f ≡ record { unit = start.now.unit; address = 0; words = start.now.words; loops = replicate (loops_in (slice_get code.now.units start.now.unit)) None; results = []; starts = []; backs = start.now.backs }) }
+/// The frame with which a child begins, before its words come and what it gives back.
+fn blank_frame(alloc: Global, code: &SharedCode, unit: u32) -> Result<Frame, NoMemory>
+    ensures { IfOk result (λ f. f ≡ record { unit = unit; address = 0; words = []; loops = replicate (loops_in (slice_get code.now.units unit)) None; results = []; starts = []; backs = [] }) }
 {
     Ok(Frame {
-        unit: start.unit,
+        unit,
         address: 0,
-        words: Row::from_slice(alloc, start.words.as_slice())?,
-        loops: no_loops(alloc, loops_at(code, start.unit))?,
+        words: Row::new(alloc),
+        loops: no_loops(alloc, loops_at(code, unit))?,
         results: Row::new(alloc),
         starts: Row::new(alloc),
-        backs: Seq::from_slice(alloc, start.backs.as_slice())?,
+        backs: Seq::new(alloc),
     })
 }
 
-fn first_body(alloc: Global, body: &Body, start: &Start) -> Result<Body, NoMemory>
-    ensures { IfOk result (λ c. c ≡ drafted body.now start.now) }
+fn blank_body(alloc: Global, body: &Body, start: &Start) -> Result<Body, NoMemory>
+    ensures { IfOk result (λ c. c ≡ blank_body body.now start.now) }
 {
     Ok(Body {
         code: body.code.share()?,
         machine: start.machine,
         node: start.node,
-        frame: first_frame(alloc, &body.code, start)?,
+        frame: blank_frame(alloc, &body.code, start.unit)?,
         below: Pile::new(alloc),
     })
 }
 
-/// How many ports the frame of a body has at most.
-fn room_of(body: &Body) -> Result<usize, NoMemory>
-    ensures { IfOk result (λ n. n ≡ room_of body.now) }
+/// A child before the words of its start come, what it gives back, and its ports.
+fn blank(alloc: Global, body: &Body, start: &Start) -> Result<Process, NoMemory>
+    ensures { IfOk result (λ y. proc_of y ≡ blank body.now start.now) }
 {
-    span_words(ports_at(&body.code, body.frame.unit))
+    Ok(Process {
+        phase: Phase::Running,
+        body: Some(blank_body(alloc, body, start)?),
+        slots: Slots::new(alloc),
+        lines: Seq::new(alloc),
+        next_block: 1,
+        next_channel: 1,
+    })
 }
 
-/// A child as it will be, whose port words still name the slots of its parent, and its own slots with room for its ports.
+/// How many ports the frame of a process has at most.
+fn room_of(process: &Process) -> Result<usize, NoMemory>
+    ensures { IfOk result (λ n. n ≡ room_of (proc_of process.now)) }
+{
+    match &process.body {
+        Some(body) => span_words(ports_at(&body.code, body.frame.unit)),
+        None => Ok(0),
+    }
+}
+
+/// A child that is still blank, and its own slots with room for its ports.
 #[derive(Drop)]
 struct Draft {
-    body: Body,
+    process: Box<Process>,
     slots: OpenSlots,
 }
 
 fn draft_of(alloc: Global, body: &Body, start: &Start) -> Result<Draft, NoMemory>
-    ensures body { IfOk result (λ d. body_of d ≡ drafted body.now start.now) }
+    ensures child { IfOk result (λ d. child_in d ≡ blank body.now start.now) }
     ensures ready { IfOk result (λ d. IsReady d) }
 {
-    let body = first_body(alloc, body, start)?;
-    let slots = OpenSlots::with_room(alloc, room_of(&body)?)?;
-    Ok(Draft { body, slots })
+    let process = blank(alloc, body, start)?;
+    let slots = OpenSlots::with_room(alloc, room_of(&process)?)?;
+    let process = Box::new(alloc, process)?;
+    Ok(Draft { process, slots })
 }
 
-/// The children of a block before their ports come to them.
+/// The children of a block before their starts come to them.
 fn drafts(alloc: Global, body: &Body) -> Result<Vec<Draft>, NoMemory>
-    ensures bodies { IfOk result (λ v. map body_of v.items ≡ map (drafted body.now) body.now.frame.starts) }
+    ensures children { IfOk result (λ v. map child_in v.items ≡ map (blank body.now) body.now.frame.starts) }
     ensures ready { IfOk result (λ v. AllByRecursion IsReady v.items) }
 {
     let starts = body.frame.starts.as_slice();
@@ -96,72 +115,105 @@ fn drafts(alloc: Global, body: &Body) -> Result<Vec<Draft>, NoMemory>
 
 /// How many ports they have at most.
 fn rooms(drafts: &[Draft]) -> Result<usize, NoMemory>
-    ensures { IfOk result (λ n. n ≡ rooms (map body_of drafts.now)) }
+    ensures { IfOk result (λ n. n ≡ rooms (map child_in drafts.now)) }
 {
     let mut room: usize = 0;
     'drafts: for draft in drafts {
-        room = room.checked_add(room_of(&draft.body)?).ok_or(NoMemory)?;
+        room = room.checked_add(room_of(&draft.process)?).ok_or(NoMemory)?;
     }
     Ok(room)
 }
 
-/// A child begins: the ports of its words come to slots of its own. Takes no memory.
-fn child(alloc: Global, draft: Draft, slots: &mut OpenSlots) -> Process
-    requires ready { IsReady draft }
-    requires room { HasRoom slots.old (room_of draft.body) }
-    ensures begun { (proc_of result, slots_in slots.new) ≡ begun (slots_in slots.old) draft.body }
-    ensures left { LeavesRoom (room_of draft.body) slots.old slots.new }
+/// The words of a start come to a body and what it gives back, and their ports go over to other slots. Takes no memory.
+fn fill(body: &mut Body, start: Start, from: &mut OpenSlots, to: &mut OpenSlots)
+    requires from { HasRoom from.old (ports_room body.old) }
+    requires to { HasRoom to.old (ports_room body.old) }
+    ensures filled { (body.new, (slots_in from.new, slots_in to.new)) ≡ filled body.old start (slots_in from.old) (slots_in to.old) }
+    ensures left { LeavesRoom (ports_room body.old) from.old from.new }
 {
-    let Draft {
-        body,
-        slots: mut own,
-    } = draft;
-    let mut body = body;
+    body.frame.words = start.words;
+    body.frame.backs = start.backs;
     move_over(
         ports_at(&body.code, body.frame.unit),
         &mut body.frame.words,
-        slots,
-        &mut own,
+        from,
+        to,
     );
-    Process {
-        phase: Phase::Running,
-        body: Some(body),
-        slots: Slots::from_open(own),
-        lines: Seq::new(alloc),
-        next_block: 1,
-        next_channel: 1,
-    }
 }
 
-/// The children begin, one after the other. Takes no memory.
+/// A blank child begins with its start, and the ports of its words come to these slots of its own. Takes no memory.
+fn begin_child(process: &mut Process, own: OpenSlots, start: Start, slots: &mut OpenSlots)
+    requires empty { slots_in own ≡ no_slots }
+    requires own { HasRoom own (room_of (proc_of process.old)) }
+    requires room { HasRoom slots.old (room_of (proc_of process.old)) }
+    ensures begun { (proc_of process.new, slots_in slots.new) ≡ begun (slots_in slots.old) (proc_of process.old) start }
+    ensures left { LeavesRoom (room_of (proc_of process.old)) slots.old slots.new }
+{
+    let Some(body) = &mut process.body else {
+        return;
+    };
+    let mut own = own;
+    fill(body, start, slots, &mut own);
+    process.slots = Slots::from_open(own);
+}
+
+fn child(draft: Draft, start: Start, slots: &mut OpenSlots) -> Box<Process>
+    requires ready { IsReady draft }
+    requires room { HasRoom slots.old (room_of (child_in draft)) }
+    ensures begun { (boxed_of result, slots_in slots.new) ≡ begun (slots_in slots.old) (child_in draft) start }
+    ensures left { LeavesRoom (room_of (child_in draft)) slots.old slots.new }
+{
+    let Draft {
+        process,
+        slots: own,
+    } = draft;
+    let mut process = process;
+    begin_child(&mut process, own, start, slots);
+    process
+}
+
+/// The children begin, one after the other, each with its start. Takes no memory.
 fn put_children(
-    alloc: Global,
     drafts: Vec<Draft>,
+    starts: Vec<Start>,
     slots: &mut OpenSlots,
-    children: &mut Vec<Process>,
+    children: &mut Vec<Box<Process>>,
 )
     requires ready { AllByRecursion IsReady drafts.items }
-    requires room { HasRoom slots.old (rooms (map body_of drafts.items)) }
+    requires paired { length drafts.items ≡ length starts.items }
+    requires room { HasRoom slots.old (rooms (map child_in drafts.items)) }
     requires empty { children.old.items ≡ [] }
     requires reserved { length drafts.items ≤ vec_capacity children.old }
-    ensures { (map proc_of children.new.items, slots_in slots.new) ≡ all_begun (slots_in slots.old) (map body_of drafts.items) }
+    ensures { (map boxed_of children.new.items, slots_in slots.new) ≡ all_begun (slots_in slots.old) (map child_in drafts.items) starts.items }
 {
-    let mut rest = VecDeque::from_vec(drafts);
-    'drafts: while let Some(draft) = rest.pop_front() {
-        children.push_reserved(child(alloc, draft, slots));
+    let mut drafts = VecDeque::from_vec(drafts);
+    let mut starts = VecDeque::from_vec(starts);
+    'drafts: while let Some(draft) = drafts.pop_front() {
+        let Some(start) = starts.pop_front() else {
+            unreachable!()
+        };
+        children.push_reserved(child(draft, start, slots));
     }
 }
 
-/// The children of these drafts. After want of memory the slots are as they were.
-fn children(alloc: Global, drafts: Vec<Draft>, slots: &mut Slots) -> Result<Vec<Process>, NoMemory>
-    requires { AllByRecursion IsReady drafts.items }
-    ensures children { IfOk result (λ v. (map proc_of v.items, slots.new) ≡ all_begun slots.old (map body_of drafts.items)) }
-    ensures stays { OnErr result (slots.new ≡ slots.old) }
+/// The children of these drafts, to which their starts come. After want of memory the starts and the slots are as they were.
+fn children(
+    alloc: Global,
+    drafts: Vec<Draft>,
+    starts: &mut Row<Start>,
+    slots: &mut Slots,
+) -> Result<Vec<Box<Process>>, NoMemory>
+    requires ready { AllByRecursion IsReady drafts.items }
+    requires paired { length drafts.items ≡ length starts.old }
+    ensures children { IfOk result (λ v. (map boxed_of v.items, slots.new) ≡ all_begun slots.old (map child_in drafts.items) starts.old) }
+    ensures taken { OnOk result (starts.new ≡ []) }
+    ensures stays { OnErr result ((starts.new ≡ starts.old) × (slots.new ≡ slots.old)) }
 {
     let room = rooms(drafts.as_slice())?;
     let mut children = Vec::with_capacity(alloc, drafts.len())?;
     let mut open = slots.open(alloc, room)?;
-    put_children(alloc, drafts, &mut open, &mut children);
+    let starts = starts.take(alloc).into_vec();
+    put_children(drafts, starts, &mut open, &mut children);
     *slots = Slots::from_open(open);
     Ok(children)
 }
@@ -209,7 +261,7 @@ fn begin_block(
     next: u32,
 ) -> Result<Block, NoMemory>
     ensures kids { IfOk result (λ g. map kid_of g.kids ≡ map code.kid_of body.old.frame.starts) }
-    ensures children { IfOk result (λ g. (map proc_of g.done.children.items, slots.new) ≡ children_of body.old slots.old body.old.frame.starts) }
+    ensures children { IfOk result (λ g. (map boxed_of g.done.children.items, slots.new) ≡ children_of body.old slots.old body.old.frame.starts) }
     ensures cost { IfOk result (λ g. g.done.cost ≡ 1 + length body.old.frame.starts) }
     ensures body { IfOk result (λ g. body.new ≡ record body.old { frame = record body.old.frame { starts = []; address = next } }) }
     ensures stays { OnErr result ((body.new ≡ body.old) × (slots.new ≡ slots.old)) }
@@ -217,8 +269,7 @@ fn begin_block(
     let kids = kids(alloc, body.frame.starts.as_slice())?;
     let cost = cost_of(body.frame.starts.len())?;
     let drafts = drafts(alloc, body)?;
-    let children = children(alloc, drafts, slots)?;
-    body.frame.starts.clear();
+    let children = children(alloc, drafts, &mut body.frame.starts, slots)?;
     body.frame.address = next;
     Ok(Block {
         kids,
@@ -235,7 +286,7 @@ pub(crate) fn begin(
 ) -> Result<Done, NoMemory>
     requires look { look_of (proc_of process.old) ≡ Asks (ask.Begin next) }
     requires running { is_running (proc_of process.old) ≡ true }
-    ensures performs { IfOk result (λ d. (cs : Chans) → Performs path.now (proc_of process.old) cs (proc_of process.new) (map proc_of d.children.items) cs d.cost) }
+    ensures performs { IfOk result (λ d. (cs : Chans) → Performs path.now (proc_of process.old) cs (proc_of process.new) (map boxed_of d.children.items) cs d.cost) }
     ensures stays { OnErr result (proc_of process.new ≡ proc_of process.old) }
 {
     let block = process.next_block;

@@ -5,7 +5,7 @@ ghost use Rattle.fm_calling.specs.declared.looking.Look.TheVariants.{Asks};
 ghost use Rattle.fm_chan.specs.Bodies.{chans_of};
 ghost use Rattle.fm_chan.specs.Woken.{WakesAll};
 ghost use Rattle.fm_proc.specs.Performs.{CanPerform, MakesNew, Performs, StaysOnWant, is_at_port};
-ghost use Rattle.fm_proc.specs.Phases.{proc_of};
+ghost use Rattle.fm_proc.specs.Phases.{boxed_of, proc_of};
 ghost use Rattle.fm_proc.specs.Told.{look_of};
 
 use crate::beginning::begin;
@@ -27,7 +27,7 @@ use std::alloc::Global;
 #[derive(Drop)]
 pub struct Done {
     /// The children that start, in order.
-    pub children: Vec<Process>,
+    pub children: Vec<Box<Process>>,
     /// The cost in turns.
     pub cost: u64,
 }
@@ -97,7 +97,7 @@ pub fn perform(
     requires look { look_of (proc_of process.old) ≡ Asks ask }
     requires can { CanPerform (proc_of process.old) (chans_of channels.old) }
     requires new { MakesNew path.now (proc_of process.old) (chans_of channels.old) }
-    ensures performs { IfOk result (λ d. Performs path.now (proc_of process.old) (chans_of channels.old) (proc_of process.new) (map proc_of d.children.items) (chans_of channels.new) d.cost) }
+    ensures performs { IfOk result (λ d. Performs path.now (proc_of process.old) (chans_of channels.old) (proc_of process.new) (map boxed_of d.children.items) (chans_of channels.new) d.cost) }
     ensures stays { StaysOnWant ask → OnErr result (proc_of process.new ≡ proc_of process.old) }
     ensures channels { StaysOnWant ask → OnErr result (chans_of channels.new ≡ chans_of channels.old) }
     ensures waking { OnOk result (WakesAll channels.old channels.new) }

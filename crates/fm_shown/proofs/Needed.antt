@@ -18,7 +18,6 @@ use Rattle.fm_bodies.specs.Frames.{Held}
 use Rattle.fm_bodies.specs.Processes.{CodeProc, Kid, Phase, Running, Joining, Ended, Faulted, asks_by, joining_by, joins_by, probes_by, receives_by, running_by, runs_by, sends_by}
 use Rattle.fm_bodies.specs.Needs.{need_in, need_of}
 use Rattle.fm_proc.specs.Told.{look_by}
-use Rattle.fm_proc.specs.Phases.{phase_of}
 use Rattle.fm_stacks.specs.declared.entries.Entry.{Entry}
 use Rattle.fm_stacks.specs.Kept.{IsTold}
 use Rattle.fm_stacks.specs.Readings.{proc_in}
@@ -90,19 +89,19 @@ module _ (m : Procs CodeProc) (q : Place) (y : CodeProc) where
   by_phase (Faulted line fault) (Some b) = refl
 
 -- what is told of a process is what it needs
-pub told_waits : (m : Procs CodeProc) (q : Place) (e : Entry) → IsTold e → told_by m q (phase_of e.process.phase) e.process.slots e.next ≡ waits_by m q (need_of (proc_in e))
-told_waits m q e told = ap (told_by m q (phase_of e.process.phase) e.process.slots) told ∙ by_phase m q (proc_in e) (phase_of e.process.phase) e.process.body
+pub told_waits : (m : Procs CodeProc) (q : Place) (e : Entry) → IsTold e → told_by m q (proc_in e).phase (proc_in e).slots e.next ≡ waits_by m q (need_of (proc_in e))
+told_waits m q e told = ap (told_by m q (proc_in e).phase (proc_in e).slots) told ∙ by_phase m q (proc_in e) (proc_in e).phase (proc_in e).body
 
 abbrev pub shown_wait : Place → Option Body → At → Wait
 shown_wait q b x = record { path = q; line = record { 0 = line_in b }; at = x }
 
 module _ (m : Procs CodeProc) (q : Place) (e : Entry) (told : IsTold e) (old new : List Wait) where
-  pub wait_more : (x : At) (path : Place) (line : ℕ) → path ≡ q → Some x ≡ told_by m q (phase_of e.process.phase) e.process.slots e.next → line ≡ line_in e.process.body
+  pub wait_more : (x : At) (path : Place) (line : ℕ) → path ≡ q → Some x ≡ told_by m q (proc_in e).phase (proc_in e).slots e.next → line ≡ line_in (proc_in e).body
       → new ≡ old ++ record { path = path; line = record { 0 = line }; at = x } ∷ [] → new ≡ old ++ wait_at m (q, proc_in e)
   wait_more x path line at_path is at_line more =
       more ∙ ap (λ (r : Place). old ++ record { path = r; line = record { 0 = line }; at = x } ∷ []) at_path ∙ ap (λ (n : ℕ). old ++ record { path = q; line = record { 0 = n }; at = x } ∷ []) at_line
-      ∙ ap (λ (o : Option At). old ++ map (shown_wait q e.process.body) (option_to_list o)) (is ∙ told_waits m q e told)
+      ∙ ap (λ (o : Option At). old ++ map (shown_wait q (proc_in e).body) (option_to_list o)) (is ∙ told_waits m q e told)
 
-  pub wait_none : None ≡ told_by m q (phase_of e.process.phase) e.process.slots e.next → new ≡ old → new ≡ old ++ wait_at m (q, proc_in e)
+  pub wait_none : None ≡ told_by m q (proc_in e).phase (proc_in e).slots e.next → new ≡ old → new ≡ old ++ wait_at m (q, proc_in e)
   wait_none is same =
-      same ∙ sym (append-nil old) ∙ ap (λ (o : Option At). old ++ map (shown_wait q e.process.body) (option_to_list o)) (is ∙ told_waits m q e told)
+      same ∙ sym (append-nil old) ∙ ap (λ (o : Option At). old ++ map (shown_wait q (proc_in e).body) (option_to_list o)) (is ∙ told_waits m q e told)

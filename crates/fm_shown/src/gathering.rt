@@ -14,7 +14,7 @@ use crate::variables::shown_all;
 use crate::waits::push_wait;
 use fm_base::{NoMemory, Path, Seq};
 use fm_mean::{FaultAt, Outcome, OutputLine, Wait};
-use fm_proc::Phase;
+use fm_proc::{Phase, Process};
 use fm_rules::Program;
 use fm_stacks::{Entries, Entry, Stacks};
 use std::alloc::Global;
@@ -98,13 +98,14 @@ impl Gathered {
         entry: &Entry,
     ) -> Result<(), NoMemory>
         requires told { IsTold entry.now }
-        requires family { HasFamily (order_of processes.now) path.now (phase_of entry.now.process.phase) entry.now.first_child }
+        requires family { HasFamily (order_of processes.now) path.now (proc_in entry.now).phase entry.now.first_child }
         ensures lines { OnOk result (self.new.lines.items ≡ self.old.lines.items ++ lines_at (path.now, proc_in entry.now)) }
         ensures faults { OnOk result (self.new.faults.items ≡ self.old.faults.items ++ fault_at (path.now, proc_in entry.now)) }
         ensures waits { OnOk result (self.new.waits.items ≡ self.old.waits.items ++ wait_at (procs_of processes.now) (path.now, proc_in entry.now)) }
     {
-        push_lines(alloc, &mut self.lines, path, entry.process.lines.as_slice())?;
-        push_fault(alloc, &mut self.faults, path, &entry.process.phase)?;
+        let process: &Process = &entry.process;
+        push_lines(alloc, &mut self.lines, path, process.lines.as_slice())?;
+        push_fault(alloc, &mut self.faults, path, &process.phase)?;
         push_wait(alloc, processes, &mut self.waits, path, entry)
     }
 }

@@ -9,7 +9,7 @@ ghost use Rattle.fm_mean.specs.Outports.{outport_cmp};
 ghost use Rattle.fm_bodies.specs.Slots.{port_in};
 ghost use Rattle.fm_bodies.specs.Processes.{body_words, held};
 ghost use Rattle.fm_proc.specs.Phases.{proc_of};
-ghost use Rattle.fm_stacks.specs.Readings.{procs_of, state_of};
+ghost use Rattle.fm_stacks.specs.Readings.{proc_in, procs_of, state_of};
 ghost use Rattle.fm_alike.specs.Shown.{holder_path, holders_by, holdings, holdings_at};
 ghost use Rattle.fm_shown.specs.Holding.{outport_in, with_held, with_holder, with_holders, words_held};
 
@@ -21,7 +21,7 @@ use fm_maps::Map;
 use fm_mean::{Holder, Outport};
 use fm_proc::{Phase, Process};
 use fm_slots::Slots;
-use fm_stacks::{Entries, Stacks};
+use fm_stacks::{Entries, Entry, Stacks};
 use std::alloc::Global;
 
 // The outport that a port is, if it is one.
@@ -161,10 +161,11 @@ fn put_process(
     alloc: Global,
     all: &mut Map<Outport, Path>,
     path: &Path,
-    process: &Process,
+    entry: &Entry,
 ) -> Result<(), NoMemory>
-    ensures { OnOk result (map_of outport_cmp all.new ≡ with_holders (map_of outport_cmp all.old) (holdings_at (path.now, proc_of process.now))) }
+    ensures { OnOk result (map_of outport_cmp all.new ≡ with_holders (map_of outport_cmp all.old) (holdings_at (path.now, proc_in entry.now))) }
 {
+    let process: &Process = &entry.process;
     let holder = holder_path(alloc, path, process)?;
     put_held(alloc, all, &holder, process)
 }
@@ -176,7 +177,7 @@ fn owners(alloc: Global, processes: &Entries) -> Result<Map<Outport, Path>, NoMe
     let mut all = Map::new(alloc);
     let rows = processes.rows.in_path_order(alloc)?;
     'entries: for row in &rows {
-        put_process(alloc, &mut all, row.0, &row.1.process)?;
+        put_process(alloc, &mut all, row.0, row.1)?;
     }
     Ok(all)
 }

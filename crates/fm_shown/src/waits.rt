@@ -5,7 +5,6 @@ ghost use Rattle.fm_mean.specs.declared.outcome.At.TheVariants as at;
 ghost use Rattle.fm_net.specs.Machine.{Place};
 ghost use Rattle.fm_numbered.specs.Rows.{place_at};
 ghost use Rattle.fm_bodies.specs.Slots.{in_slot};
-ghost use Rattle.fm_proc.specs.Phases.{phase_of};
 ghost use Rattle.fm_stacks.specs.Kept.{AreChildren, HasFamily, IsTold};
 ghost use Rattle.fm_stacks.specs.Readings.{order_of, proc_in, procs_of};
 ghost use Rattle.fm_stacks.specs.Waiting.{inport_in, is_join};
@@ -16,7 +15,7 @@ use fm_base::{Line, NoMemory, Path};
 use fm_calling::{Look, line_of};
 use fm_code::{Ask, Body};
 use fm_mean::{At, Wait};
-use fm_proc::Phase;
+use fm_proc::{Phase, Process};
 use fm_slots::Slots;
 use fm_stacks::{Entries, Entry, number_behind};
 use std::alloc::Global;
@@ -133,11 +132,12 @@ fn waits_asked(
     entry: &Entry,
     ask: &Ask,
 ) -> Result<Option<At>, NoMemory>
-    ensures { IfOk result (λ o. (q : Place) → HasFamily (order_of processes.now) q (phase_of entry.now.process.phase) entry.now.first_child →
-        o ≡ asked_by (procs_of processes.now) q (phase_of entry.now.process.phase) entry.now.process.slots ask.now) }
+    ensures { IfOk result (λ o. (q : Place) → HasFamily (order_of processes.now) q (proc_in entry.now).phase entry.now.first_child →
+        o ≡ asked_by (procs_of processes.now) q (proc_in entry.now).phase (proc_in entry.now).slots ask.now) }
 {
-    match &entry.process.phase {
-        Phase::Running => received(alloc, &entry.process.slots, ask),
+    let process: &Process = &entry.process;
+    match &process.phase {
+        Phase::Running => received(alloc, &process.slots, ask),
         Phase::Joining { block: _, kids } => {
             joined(alloc, processes, entry.first_child, kids.len(), ask)
         }
@@ -148,8 +148,8 @@ fn waits_asked(
 
 // What a process waits for, where it waits.
 fn waits(alloc: Global, processes: &Entries, entry: &Entry) -> Result<Option<At>, NoMemory>
-    ensures { IfOk result (λ o. (q : Place) → HasFamily (order_of processes.now) q (phase_of entry.now.process.phase) entry.now.first_child →
-        o ≡ told_by (procs_of processes.now) q (phase_of entry.now.process.phase) entry.now.process.slots entry.now.next) }
+    ensures { IfOk result (λ o. (q : Place) → HasFamily (order_of processes.now) q (proc_in entry.now).phase entry.now.first_child →
+        o ≡ told_by (procs_of processes.now) q (proc_in entry.now).phase (proc_in entry.now).slots entry.now.next) }
 {
     match &entry.next {
         Look::Goes => Ok(None),
@@ -177,13 +177,14 @@ pub(crate) fn push_wait(
     entry: &Entry,
 ) -> Result<(), NoMemory>
     requires told { IsTold entry.now }
-    requires family { HasFamily (order_of processes.now) path.now (phase_of entry.now.process.phase) entry.now.first_child }
+    requires family { HasFamily (order_of processes.now) path.now (proc_in entry.now).phase entry.now.first_child }
     ensures { OnOk result (all.new.items ≡ all.old.items ++ wait_at (procs_of processes.now) (path.now, proc_in entry.now)) }
 {
     match waits(alloc, processes, entry)? {
         Some(at) => {
             let path = path.copy(alloc)?;
-            let line = line_at(&entry.process.body);
+            let process: &Process = &entry.process;
+            let line = line_at(&process.body);
             all.push(Wait { path, line, at })?;
             Ok(())
         }

@@ -8,14 +8,14 @@ use Rattle.fm_numbered.specs.Rows.{numbered_map, place_at, places}
 use Rattle.fm_net.specs.Machine.{Place, Procs, State}
 use Rattle.fm_net.specs.Language.{language_step}
 use Rattle.fm_bodies.specs.Processes.{CodeProc, code_language}
-use Rattle.fm_proc.specs.Phases.{proc_of}
+use Rattle.fm_proc.specs.Phases.{boxed_of}
 use Rattle.fm_stacks.specs.declared.entries.Entry.{Entry}
 use Rattle.fm_stacks.specs.declared.entries.Entries.{Entries}
 use Rattle.fm_stacks.specs.declared.entries.Actor.{Actor}
 use Rattle.fm_stacks.specs.declared.stacks.Stacks.{Stacks}
 
 abbrev pub proc_in : Entry → CodeProc
-proc_in e = proc_of e.process
+proc_in e = boxed_of e.process
 
 -- the processes by their paths
 unfoldable pub procs_of : Entries → Procs CodeProc

@@ -26,7 +26,7 @@ use std::sync::Arc;
 #[derive(Drop)]
 pub struct Entry {
     /// The process.
-    pub process: Process,
+    pub process: Box<Process>,
     /// What it does next.
     pub next: Look,
     /// The number of the first child of the block that it started last.
@@ -114,12 +114,19 @@ impl Entry {
     /// The children that the process waits for.
     pub(crate) fn family(&self) -> Family
         ensures first { result.first ≡ self.now.first_child }
-        ensures count { result.count ≡ length (kids_in (phase_of self.now.process.phase)) }
+        ensures count { result.count ≡ length (kids_in (proc_in self.now).phase) }
     {
         Family {
             first: self.first_child,
             count: kid_count(&self.process),
         }
+    }
+
+    // What the process does next, told without doing it.
+    fn look(&self, alloc: Global, work: &mut Work) -> Result<Look, NoMemory>
+        ensures { IfOk result (λ l. l ≡ look_of (proc_in self.now)) }
+    {
+        next_look(alloc, work, &self.process)
     }
 }
 
@@ -141,7 +148,10 @@ impl Entries {
         ensures { (q : Place) → place_at self.now.rows number ≡ Some q → option_map proc_of (option_copied result) ≡ get (procs_of self.now) q }
     {
         match self.rows.get(number) {
-            Some(entry) => Some(&entry.process),
+            Some(entry) => {
+                let process: &Process = &entry.process;
+                Some(process)
+            }
             None => None,
         }
     }
@@ -216,7 +226,7 @@ impl Entries {
         ensures families { OnOk result (AreFamilies self.old → AreFamilies self.new) }
     {
         let next = match self.rows.get(actor.number) {
-            Some(entry) => next_look(alloc, work, &entry.process)?,
+            Some(entry) => entry.look(alloc, work)?,
             None => return Ok(()),
         };
         self.keep_next(actor, next);

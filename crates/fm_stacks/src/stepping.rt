@@ -14,7 +14,7 @@ ghost use Rattle.fm_bodies.specs.Processes.{CodeProc, Joining, Kid, Running, cod
 ghost use Rattle.fm_code.specs.declared.ask.Ask.TheVariants as ask;
 ghost use Rattle.fm_calling.specs.declared.looking.Look.TheVariants as look;
 ghost use Rattle.fm_proc.specs.Performs.{CanPerform, MakesNew};
-ghost use Rattle.fm_proc.specs.Phases.{left_by, left_of, proc_of};
+ghost use Rattle.fm_proc.specs.Phases.{boxed_of, left_by, left_of};
 ghost use Rattle.fm_proc.specs.Told.{is_joining, is_running, look_of};
 ghost use Rattle.fm_stacks.specs.declared.entries.Entry as declared_entry;
 ghost use Rattle.fm_stacks.specs.Kept.{AreChildren, AreFamilies, AreFamiliesBut, AreToldBut};
@@ -81,7 +81,10 @@ impl Entries {
         ensures { (q : Place) (y : CodeProc) → place_at self.now.rows number ≡ Some q → get (procs_of self.now) q ≡ Some y → result ≡ y.next_block }
     {
         match self.rows.get(number) {
-            Some(entry) => entry.process.next_block,
+            Some(entry) => {
+                let process: &Process = &entry.process;
+                process.next_block
+            }
             None => 0,
         }
     }
@@ -144,18 +147,19 @@ impl Entries {
         actor: &Actor,
         block: u32,
         place: usize,
-        process: Process,
+        process: Box<Process>,
     ) -> Result<(), NoMemory>
         requires { get (procs_of self.old) (child (actor_place actor.now) block (place + 1)) ≡ None }
         ensures entries { OnOk result ((e : declared_entry.Entry) → get (numbered_map self.new.rows) (actor_place actor.now) ≡ Some e → get (numbered_map self.old.rows) (actor_place actor.now) ≡ Some e) }
-        ensures processes { OnOk result (procs_of self.new ≡ insert (procs_of self.old) (child (actor_place actor.now) block (place + 1)) (proc_of process)) }
+        ensures processes { OnOk result (procs_of self.new ≡ insert (procs_of self.old) (child (actor_place actor.now) block (place + 1)) (boxed_of process)) }
         ensures order { OnOk result (order_of self.new ≡ order_of self.old ++ child (actor_place actor.now) block (place + 1) ∷ []) }
         ensures told { OnOk result ((own : Place) → AreToldBut own self.old → AreToldBut own self.new) }
-        ensures families { OnOk result ((own : Place) → (proc_of process).phase ≡ Running → AreFamiliesBut own self.old → AreFamiliesBut own self.new) }
+        ensures families { OnOk result ((own : Place) → (boxed_of process).phase ≡ Running → AreFamiliesBut own self.old → AreFamiliesBut own self.new) }
     {
         let at = child_path(alloc, &actor.path, block, place)?;
         let path = Arc::new(alloc, at)?;
-        let next = next_look(alloc, work, &process)?;
+        let started: &Process = &process;
+        let next = next_look(alloc, work, started)?;
         let first_child = 0;
         self.push(
             path,
@@ -174,13 +178,13 @@ impl Entries {
         work: &mut Work,
         actor: &Actor,
         block: u32,
-        children: Vec<Process>,
+        children: Vec<Box<Process>>,
     ) -> Result<(), NoMemory>
         requires actor { IsActor self.old actor.now }
         requires new { (i : ℕ) → get (procs_of self.old) (child (actor_place actor.now) block i) ≡ None }
-        requires run { AllByRecursion (λ (y : CodeProc). y.phase ≡ Running) (map proc_of children.items) }
+        requires run { AllByRecursion (λ (y : CodeProc). y.phase ≡ Running) (map boxed_of children.items) }
         ensures told { OnOk result (AreToldBut (actor_place actor.now) self.old → AreToldBut (actor_place actor.now) self.new) }
-        ensures processes { OnOk result (procs_of self.new ≡ alters (start_changes (actor_place actor.now) block 1 (map proc_of children.items)) (procs_of self.old)) }
+        ensures processes { OnOk result (procs_of self.new ≡ alters (start_changes (actor_place actor.now) block 1 (map boxed_of children.items)) (procs_of self.old)) }
         ensures order { OnOk result (order_of self.new ≡ order_of self.old ++ child_places (actor_place actor.now) block 1 (length children.items)) }
         ensures families { OnOk result ((y : CodeProc) → get (procs_of self.old) (actor_place actor.now) ≡ Some y →
             ((b : ℕ) (kids : List Kid) → y.phase ≡ Joining b kids → (b ≡ block) × (length kids ≡ length children.items)) → AreFamiliesBut (actor_place actor.now) self.old → AreFamilies self.new) }
@@ -233,7 +237,7 @@ impl Entries {
         ensures told { OnOk result (AreToldBut (actor_place actor.now) self.old → AreToldBut (actor_place actor.now) self.new) }
         ensures families { OnOk result (AreFamiliesBut (actor_place actor.now) self.old → AreFamiliesBut (actor_place actor.now) self.new) }
         ensures performs { IfOk result (λ d. (y : CodeProc) → get (procs_of self.old) (actor_place actor.now) ≡ Some y →
-            PerformsAt (actor_place actor.now) y (chans_of channels.old) (procs_of self.old) (procs_of self.new) (map proc_of d.children.items) (chans_of channels.new) d.cost) }
+            PerformsAt (actor_place actor.now) y (chans_of channels.old) (procs_of self.old) (procs_of self.new) (map boxed_of d.children.items) (chans_of channels.new) d.cost) }
         ensures waking { OnOk result (WakesAll channels.old channels.new) }
     {
         match self.rows.get_mut(actor.number) {

@@ -1,9 +1,11 @@
 use Rattle.std.proofs.Common.{Some, None, ap, sym, inr, ◌∙◌}
 use Rattle.std.specs.Prelude.{option_map}
+use Rattle.std.specs.Box.{with_value}
 use Rattle.fm_calling.specs.declared.looking.Look.TheVariants.{Stuck}
 use Rattle.fm_numbered.specs.Rows.{numbered_map, places}
-use Rattle.fm_bodies.specs.Processes.{CodeProc}
-use Rattle.fm_proc.specs.Phases.{left_by}
+use Rattle.fm_bodies.specs.Processes.{CodeProc, emptied}
+use Rattle.fm_proc.specs.declared.process.Process.{Process}
+use Rattle.fm_proc.specs.Phases.{left_by, proc_of}
 use Rattle.fm_proc.specs.Told.{look_of}
 use Rattle.fm_stacks.specs.declared.entries.Entry.{Entry}
 use Rattle.fm_stacks.specs.Readings.{order_of, proc_in, procs_of}
@@ -30,35 +32,35 @@ returns-in-None-clause-families c = λ all. families_same c.args.self.now (recor
 pub returns-clause-processes : goal.returns-clause-processes
 returns-clause-processes c = λ q at.
     let x = c.in-Some.entry.now in
-    let y : Entry = record { process = c.release.new.process; next = Stuck; first_child = x.first_child } in
+    let y : Entry = record { process = with_value x.process c.release.new.process; next = Stuck; first_child = x.first_child } in
     emptied_there c.args.self.now (record { rows = c.get_mut.follows.lender y }) q x y (found c.args.self.now c.args.number q (Some x) at c.in-Some.ensures.value)
-    (c.get_mut.follows.holds y q at).map_is c.release.ensures.process
+    (c.get_mut.follows.holds y q at).map_is (c.release.ensures.process ∙ ap (λ (p : Process). emptied (proc_of p)) c.deref_mut.ensures.value)
 
 pub returns-clause-order : goal.returns-clause-order
 returns-clause-order c =
     let x = c.in-Some.entry.now in
-    let y : Entry = record { process = c.release.new.process; next = Stuck; first_child = x.first_child } in
+    let y : Entry = record { process = with_value x.process c.release.new.process; next = Stuck; first_child = x.first_child } in
     let who = placed c.args.self.now c.args.number x c.in-Some.ensures.value in
     (c.get_mut.follows.holds y who.0 who.1).places_are
 
 pub returns-clause-left : goal.returns-clause-left
 returns-clause-left c = λ q at.
-    ap Some c.release.ensures.left
+    ap Some (c.release.ensures.left ∙ ap (λ (p : Process). left_by (proc_of p)) c.deref_mut.ensures.value)
     ∙ sym (ap (option_map left_by) (there c.args.self.now q (Some c.in-Some.entry.now) (found c.args.self.now c.args.number q (Some c.in-Some.entry.now) at c.in-Some.ensures.value)))
 
 pub returns-clause-told : goal.returns-clause-told
 returns-clause-told c = λ own q at done but.
     let x = c.in-Some.entry.now in
-    let y : Entry = record { process = c.release.new.process; next = Stuck; first_child = x.first_child } in
+    let y : Entry = record { process = with_value x.process c.release.new.process; next = Stuck; first_child = x.first_child } in
     told_put own c.args.self.now (record { rows = c.get_mut.follows.lender y }) q y (c.get_mut.follows.holds y q at).map_is
-    (inr (sym (ap look_of c.release.ensures.process ∙ emptied_stuck (proc_in x)))) but
+    (inr (sym (ap look_of c.release.ensures.process ∙ emptied_stuck (proc_of c.deref_mut.result.now)))) but
 
 pub returns-clause-families : goal.returns-clause-families
 returns-clause-families c = λ all.
     let x = c.in-Some.entry.now in
-    let y : Entry = record { process = c.release.new.process; next = Stuck; first_child = x.first_child } in
+    let y : Entry = record { process = with_value x.process c.release.new.process; next = Stuck; first_child = x.first_child } in
     let who = placed c.args.self.now c.args.number x c.in-Some.ensures.value in
     let put = c.get_mut.follows.holds y who.0 who.1 in
     let is = found c.args.self.now c.args.number who.0 (Some x) who.1 c.in-Some.ensures.value in
     families_put c.args.self.now (record { rows = c.get_mut.follows.lender y }) who.0 y put.map_is put.places_are
-    (family_kept (order_of c.args.self.now) who.0 (proc_in x).phase (proc_in y).phase x.first_child (ap (λ (v : CodeProc). v.phase) c.release.ensures.process) (all who.0 x (sym is))) all
+    (family_kept (order_of c.args.self.now) who.0 (proc_in x).phase (proc_in y).phase x.first_child (ap (λ (v : CodeProc). v.phase) c.release.ensures.process ∙ ap (λ (p : Process). (proc_of p).phase) c.deref_mut.ensures.value) (all who.0 x (sym is))) all

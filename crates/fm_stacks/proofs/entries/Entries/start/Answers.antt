@@ -7,7 +7,9 @@ use Rattle.fm_net.specs.Machine.{Place, child}
 use Rattle.fm_net.proofs.Children.{not_own_child}
 use Rattle.fm_net.proofs.Keys.{path_order}
 use Rattle.fm_numbered.specs.Rows.{numbered_map}
-use Rattle.fm_proc.specs.Phases.{proc_of}
+use Rattle.fm_proc.specs.declared.process.Process.{Process}
+use Rattle.fm_proc.specs.Phases.{boxed_of, proc_of}
+use Rattle.fm_proc.specs.Told.{look_of}
 use Rattle.fm_stacks.specs.Readings.{actor_place, order_of, procs_of}
 use Rattle.fm_stacks.proofs.Families.{runs_alone}
 use Rattle.fm_stacks.proofs.entries.Entries.start.Goals as goal
@@ -32,7 +34,7 @@ pub returns-clause-processes : goal.returns-clause-processes
 returns-clause-processes c =
     let p = actor_place c.args.actor.now in
     let place : arc_value c.in_ok-path.path ≡ child p c.args.block (c.args.place + 1) = c.in_ok-path.ensures.ok ∙ c.in_ok-at.ensures ∙ ap (λ (q : Place). child q c.args.block (c.args.place + 1)) c.deref.ensures in
-    IfOk-weaker c.push.result _ _ (λ u put. put ∙ ap (λ (q : Place). insert (procs_of c.args.self.now) q (proc_of c.args.process)) place) c.push.ensures.processes
+    IfOk-weaker c.push.result _ _ (λ u put. put ∙ ap (λ (q : Place). insert (procs_of c.args.self.now) q (boxed_of c.args.process)) place) c.push.ensures.processes
 
 pub returns-clause-order : goal.returns-clause-order
 returns-clause-order c =
@@ -41,8 +43,8 @@ returns-clause-order c =
     IfOk-weaker c.push.result _ _ (λ u more. more ∙ ap (λ (q : Place). order_of c.args.self.now ++ q ∷ []) place) c.push.ensures.order
 
 pub returns-clause-told : goal.returns-clause-told
-returns-clause-told c = IfOk-weaker c.push.result _ _ (λ u kept own but. kept own c.in_ok-next.ensures but) c.push.ensures.told
+returns-clause-told c = IfOk-weaker c.push.result _ _ (λ u kept own but. kept own (c.in_ok-next.ensures ∙ ap (λ (p : Process). look_of (proc_of p)) c.deref-started.ensures) but) c.push.ensures.told
 
 pub returns-clause-families : goal.returns-clause-families
 returns-clause-families c = IfOk-weaker c.push.result _ _ (λ u kept own runs but.
-    kept own (runs_alone (order_of c.push.new.self) (arc_value c.in_ok-path.path) (proc_of c.args.process).phase 0 runs) but) c.push.ensures.families
+    kept own (runs_alone (order_of c.push.new.self) (arc_value c.in_ok-path.path) (boxed_of c.args.process).phase 0 runs) but) c.push.ensures.families

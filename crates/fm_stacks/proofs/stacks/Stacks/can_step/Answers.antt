@@ -1,6 +1,9 @@
 use Rattle.std.proofs.Common.{Some, sym, ap, ◌∙◌}
 use Rattle.std.proofs.lemmas.Result.{IfOk-weaker}
 use Rattle.fm_chan.specs.Bodies.{chans_of}
+use Rattle.fm_proc.specs.declared.process.Process.{Process}
+use Rattle.fm_proc.specs.Phases.{proc_of}
+use Rattle.fm_proc.specs.Told.{is_running}
 use Rattle.fm_stacks.specs.Readings.{proc_in, procs_of, state_of}
 use Rattle.fm_stacks.specs.Waiting.{can_in}
 use Rattle.fm_stacks.proofs.Able.{nobody_can}
@@ -18,7 +21,7 @@ returns-in-Goes c =
     let entry = c.in-Some.entry.now in
     let place = placed x c.args.number entry c.in-Some.ensures in
     let is = found x c.args.number place.0 (Some entry) place.1 c.in-Some.ensures in
-    c.is_running.ensures ∙ sym (ap (can_in s) place.1 ∙ steps_served s place.0 (proc_in entry) (there x place.0 (Some entry) is)
+    c.is_running.ensures ∙ ap (λ (p : Process). is_running (proc_of p)) c.deref.ensures ∙ sym (ap (can_in s) place.1 ∙ steps_served s place.0 (proc_in entry) (there x place.0 (Some entry) is)
     ∙ goes_served (procs_of x) (chans_of c.args.self.now.channels) place.0 (proc_in entry) (sym (c.requires.told place.0 entry (sym is)) ∙ c.in-Goes.is))
 
 pub returns-in-Stuck : goal.returns-in-Stuck

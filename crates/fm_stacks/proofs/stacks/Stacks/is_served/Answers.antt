@@ -1,7 +1,9 @@
-use Rattle.std.proofs.Common.{sym, ◌∙◌}
+use Rattle.std.proofs.Common.{ap, sym, ◌∙◌}
 use Rattle.fm_chan.specs.Bodies.{chans_of}
+use Rattle.fm_proc.specs.declared.process.Process.{Process}
 use Rattle.fm_proc.specs.Phases.{proc_of}
 use Rattle.fm_stacks.specs.Readings.{procs_of}
+use Rattle.fm_stacks.specs.Waiting.{is_served}
 use Rattle.fm_stacks.proofs.Served.{running_served}
 use Rattle.fm_stacks.proofs.stacks.Stacks.is_served.Goals as goal
 
@@ -10,4 +12,7 @@ is_free-requires-clause-running c = sym c.is_running.ensures ∙ c.if-is_running
 
 pub returns-then-is_running : goal.returns-then-is_running
 returns-then-is_running c = λ q family.
-    c.is_free.ensures ∙ sym (running_served (procs_of c.args.self.now.entries) (chans_of c.args.self.now.channels) q (proc_of c.args.entry.now.process) (sym c.is_running.ensures ∙ c.if-is_running.true))
+    let m = procs_of c.args.self.now.entries in
+    let cs = chans_of c.args.self.now.channels in
+    c.is_free.ensures ∙ sym (running_served m cs q (proc_of c.deref-process.result.now) (sym c.is_running.ensures ∙ c.if-is_running.true))
+    ∙ ap (λ (p : Process). is_served m cs q (proc_of p)) c.deref-process.ensures

@@ -9,7 +9,7 @@ use Rattle.fm_net.specs.Starts.{child_places}
 use Rattle.fm_net.proofs.Children.{not_own_child}
 use Rattle.fm_net.proofs.Keys.{path_order}
 use Rattle.fm_bodies.specs.Processes.{CodeProc}
-use Rattle.fm_proc.specs.Phases.{proc_of}
+use Rattle.fm_proc.specs.Phases.{boxed_of}
 use Rattle.fm_stacks.specs.Readings.{actor_place, order_of, procs_of, state_of}
 use Rattle.fm_stacks.proofs.Born.{all_run, can_perform, waits_for}
 use Rattle.fm_stacks.proofs.Doing.{performed, performed_starts}
@@ -45,7 +45,7 @@ start_all-requires-clause-run c =
     let p = actor_place c.args.actor.now in
     let who = stands (get s.procs p) s p refl c.requires.can in
     let done = c.in_ok-children.ensures.performs who.0 who.1 in
-    all_run p who.0 s.chans done.after (map proc_of c.in_ok-children.field-0.children.items) _ _ done.performs
+    all_run p who.0 s.chans done.after (map boxed_of c.in_ok-children.field-0.children.items) _ _ done.performs
 
 pub returns-clause-step : goal.returns-clause-step
 returns-clause-step c =
@@ -54,7 +54,7 @@ returns-clause-step c =
     let who = stands (get s.procs p) s p refl c.requires.can in
     let y = who.0 in
     let done = c.in_ok-children.ensures.performs y who.1 in
-    let xs = map proc_of c.in_ok-children.field-0.children.items in
+    let xs = map boxed_of c.in_ok-children.field-0.children.items in
     performed s p y who.1 done.after xs _ c.in_ok-children.field-0.cost done.performs (procs_of c.start_all.new.self)
     (c.in_ok-start_all.ensures.processes
     ∙ ap (λ (b : ℕ). alters (start_changes p b 1 xs) (procs_of c.perform.new.self)) (c.next_block-block.ensures p y c.requires.actor who.1)
@@ -67,8 +67,8 @@ returns-clause-starts c =
     let who = stands (get s.procs p) s p refl c.requires.can in
     let y = who.0 in
     let done = c.in_ok-children.ensures.performs y who.1 in
-    let xs = map proc_of c.in_ok-children.field-0.children.items in
-    let count : length xs ≡ c.len-started.result = omega (arith, length-map c.in_ok-children.field-0.children.items proc_of, c.len-started.ensures) in
+    let xs = map boxed_of c.in_ok-children.field-0.children.items in
+    let count : length xs ≡ c.len-started.result = omega (arith, length-map c.in_ok-children.field-0.children.items boxed_of, c.len-started.ensures) in
     performed_starts s p y who.1 done.after xs _ c.in_ok-children.field-0.cost done.performs
     ∙ ap (λ (b : ℕ). child_places p b 1 (length xs)) (sym (c.next_block-block.ensures p y c.requires.actor who.1)) ∙ ap (λ (n : ℕ). child_places p c.next_block-block.result 1 n) count
 
@@ -85,7 +85,7 @@ returns-clause-families c =
     let items = c.in_ok-children.field-0.children.items in
     let block = c.next_block-block.ensures p y c.requires.actor who.1 in
     c.in_ok-start_all.ensures.families done.after (ap (λ (m : Procs CodeProc). get m p) done.procs_are ∙ insert_here path_order s.procs p done.after)
-    (λ b kids is. let w = waits_for p y s.chans done.after (map proc_of items) _ _ done.performs b kids is in (w.0 ∙ sym block, w.1 ∙ length-map items proc_of))
+    (λ b kids is. let w = waits_for p y s.chans done.after (map boxed_of items) _ _ done.performs b kids is in (w.0 ∙ sym block, w.1 ∙ length-map items boxed_of))
     (c.in_ok-children.ensures.families (families_but p c.args.self.now.entries c.requires.families))
 
 pub returns-clause-order : goal.returns-clause-order
