@@ -1,5 +1,6 @@
 -- What children left, one after the other, and the join as the machine sees it.
-use Rattle.std.proofs.Common.{◌≡◌, ℕ, ℤ, ◌+◌, ◌*◌, ◌≤◌, ◌==◌, Option, Some, None, List, [], ◌∷◌, ◌++◌, length, map, refl, sym, ap, ap₂, arith, append-nil, vec_len, vec_capacity, ◌∙◌}
+use Rattle.std.proofs.Common.{◌≡◌, ℕ, ℤ, ◌+◌, ◌*◌, ◌≤◌, ◌==◌, zero, suc, drop, Option, Some, None, List, [], ◌∷◌, ◌++◌, length, map, refl, sym, ap, ap₂, arith, append-nil, vec_len, vec_capacity, ◌∙◌}
+use Rattle.std.specs.Prelude.{option_map}
 use Rattle.std.specs.Global.{Vec}
 use Rattle.std.specs.List.{flat_map}
 use Rattle.fm_base.specs.Channels.{Chans, all_shed}
@@ -8,12 +9,12 @@ use Rattle.fm_code.specs.declared.ask.Ask.TheVariants as ask
 use Rattle.fm_code.specs.declared.body.Back.{Back}
 use Rattle.fm_code.specs.declared.body.Body.{Body}
 use Rattle.fm_code.specs.Passing.{back_words}
-use Rattle.fm_code.specs.Statements.{at_statement, left_ports}
+use Rattle.fm_code.specs.Statements.{at_statement, left_ports, with_words}
 use Rattle.fm_calling.specs.declared.looking.Look.TheVariants.{Asks}
 use Rattle.fm_net.specs.Machine.{Place}
 use Rattle.fm_bodies.specs.Slots.{Slots, vacated}
 use Rattle.fm_bodies.specs.Frames.{Held, Joined}
-use Rattle.fm_bodies.specs.Processes.{CodeProc, Kid, Phase, Running, Joining, given_back, rest_dropped, kid_back, kids_back, joining_words, joined, holding, frame_words}
+use Rattle.fm_bodies.specs.Processes.{CodeProc, Kid, Running, given_back, rest_dropped, kid_back, kids_back, joining_words, joined, holding, frame_words}
 use Rattle.fm_slots.specs.declared.joining.Gains.{Gains}
 use Rattle.fm_slots.specs.declared.joining.Child.{Child}
 use Rattle.fm_slots.specs.Helds.{held}
@@ -23,11 +24,11 @@ use Rattle.fm_slots.specs.Rooms.{slots_in}
 use Rattle.fm_slots.proofs.RoomLaws.{fewer}
 use Rattle.fm_slots.proofs.Roomy.{room_within}
 use Rattle.fm_slots.proofs.Vacated.{same_vacated}
+use Rattle.fm_proc.specs.declared.joining.OpenJoin.{OpenJoin}
 use Rattle.fm_proc.specs.Phases.{left_by}
-use Rattle.fm_proc.specs.Told.{look_of}
 use Rattle.fm_proc.specs.Performs.{Joins}
-use Rattle.fm_proc.specs.Gains.{alone, gained, mine_of, first_kid, other_kids, lefts_back, joined_by}
-use Rattle.fm_proc.specs.Rooms.{left_room, lefts_room}
+use Rattle.fm_proc.specs.Gains.{alone, gained, mine_of, first_kid, other_kids, lefts_back}
+use Rattle.fm_proc.specs.Joinings.{HasJoined, HasRoomToJoin, kids_of}
 use Rattle.fm_proc.proofs.Asked.{asks_joining}
 
 -- What the parent has doesn't depend on the child before.
@@ -41,11 +42,50 @@ same_lefts : (j j' : Joined) (kids : List Kid) (xs : List (Option Body × Slots)
 same_lefts j j' kids [] e = e
 same_lefts j j' kids (x ∷ xs) e = same_lefts (kid_back j (first_kid kids) x.1 x.0) (kid_back j' (first_kid kids) x.1 x.0) (other_kids kids) xs (same_kid j j' (first_kid kids) x.1 x.0 e)
 
-pub one_left : (j j' : Joined) (kids kids' : List Kid) (k : Kid) (xs xs' : List (Option Body × Slots)) (x : Option Body × Slots) (all : Held × List PortValue) → mine_of (lefts_back j kids xs) ≡ all → xs ≡ x ∷ xs' → k ≡ first_kid kids → kids' ≡ other_kids kids → mine_of (kid_back j k x.1 x.0) ≡ mine_of j' → mine_of (lefts_back j' kids' xs') ≡ all
-one_left j j' kids kids' k xs xs' x all on is first others gains =
-    ap (λ l. mine_of (lefts_back j' l xs')) others
-    ∙ (same_lefts j' (kid_back j (first_kid kids) x.1 x.0) (other_kids kids) xs' (sym gains ∙ ap (λ l. mine_of (kid_back j l x.1 x.0)) first)
-    ∙ (ap (λ l. mine_of (lefts_back j kids l)) (sym is) ∙ on))
+-- the kids behind so many
+others_behind : (n : ℕ) (kids : List Kid) → other_kids (drop n kids) ≡ drop (suc n) kids
+others_behind zero [] = refl
+others_behind zero (k ∷ ks) = refl
+others_behind (suc n) [] = refl
+others_behind (suc n) (k ∷ ks) = others_behind n ks
+
+behind_first : (n : ℕ) (kids : List Kid) → drop n (other_kids kids) ≡ drop (suc n) kids
+behind_first zero [] = refl
+behind_first (suc n) [] = refl
+behind_first n (k ∷ ks) = refl
+
+one_longer : {X : Type 0} (xs : List X) (x : X) → suc (length xs) ≡ length (xs ++ x ∷ [])
+one_longer [] x = refl
+one_longer (y ∷ xs) x = ap suc (one_longer xs x)
+
+-- by what one child more left
+lefts_more : (j : Joined) (kids : List Kid) (xs : List (Option Body × Slots)) (x : Option Body × Slots) → lefts_back j kids (xs ++ x ∷ []) ≡ kid_back (lefts_back j kids xs) (first_kid (drop (length xs) kids)) x.1 x.0
+lefts_more j kids [] x = refl
+lefts_more j kids (y ∷ xs) x =
+    let k = kid_back j (first_kid kids) y.1 y.0 in
+    lefts_more k (other_kids kids) xs x
+    ∙ ap (λ (l : List Kid). kid_back (lefts_back k (other_kids kids) xs) (first_kid l) x.1 x.0) (behind_first (length xs) kids)
+
+pub one_joined : (y z : CodeProc) (lefts : List (Option Body × Slots)) (x : Option Body × Slots) (j j' : OpenJoin) → HasJoined y lefts z j → j'.next ≡ j.next → j'.cost ≡ j.cost → kids_of j' ≡ other_kids (kids_of j) →
+    mine_of (kid_back (gained j.gains) (first_kid (kids_of j)) x.1 x.0) ≡ mine_of (gained j'.gains) → HasJoined y (lefts ++ x ∷ []) z j'
+one_joined y z lefts x j j' h next cost others came =
+    let start : Joined = alone (holding y h.body) [] in
+    record {
+      block = h.block;
+      kids = h.kids;
+      body = h.body;
+      rest = h.rest;
+      phase_is = h.phase_is;
+      body_is = h.body_is;
+      looks = h.looks ∙ ap (λ (n : ℕ). Asks (ask.Join n)) (sym next);
+      stays = h.stays;
+      gains =
+          ap mine_of (lefts_more start h.kids lefts x)
+          ∙ (same_kid (lefts_back start h.kids lefts) (gained j.gains) (first_kid (drop (length lefts) h.kids)) x.1 x.0 h.gains
+          ∙ (ap (λ (l : List Kid). mine_of (kid_back (gained j.gains) (first_kid l) x.1 x.0)) (sym h.others) ∙ came));
+      others = others ∙ (ap other_kids h.others ∙ (others_behind (length lefts) h.kids ∙ ap (λ (n : ℕ). drop n h.kids) (one_longer lefts x)));
+      cost_is = cost ∙ h.cost_is;
+    }
 
 -- A child that was there.
 
@@ -82,26 +122,28 @@ room_dropped g h drops backs rest gives more most = λ n r.
 pub room_for_rest : (g h : Gains) (backs rest : ℕ) → LeavesRoomFor backs g h → HasRoomFor g (backs + rest) → vec_len h.drops + rest ≤ vec_capacity h.drops
 room_for_rest g h backs rest gives r = (gives rest r).drops
 
-pub words_next : (kids kids' : List Kid) (unit : ℕ) (backs : List Back) → record { unit = unit; backs = backs } ≡ first_kid kids → kids' ≡ other_kids kids → joining_words kids ≡ back_words backs + joining_words kids'
-words_next [] kids' unit backs e f =
-    let none : back_words backs ≡ 0 = ap (λ (k : Kid). back_words k.backs) e in
-    let rest : joining_words kids' ≡ 0 = ap joining_words f in
-    omega arith
-words_next (k ∷ ks) kids' unit backs e f =
-    let one : back_words backs ≡ back_words k.backs = ap (λ (k : Kid). back_words k.backs) e in
-    let rest : joining_words kids' ≡ joining_words ks = ap joining_words f in
-    omega arith
+words_first : (kids : List Kid) → joining_words kids ≡ back_words (first_kid kids).backs + joining_words (other_kids kids)
+words_first [] = refl
+words_first (k ∷ ks) = refl
 
-lefts_next : (xs xs' : List (Option Body × Slots)) (x : Option Body × Slots) → xs ≡ x ∷ xs' → lefts_room xs ≡ left_room x.0 + lefts_room xs'
-lefts_next xs xs' x e = ap lefts_room e
+-- room for the child that is next
+pub room_first : (g : Gains) (kid : Kid) (kids : List Kid) (used : ℕ) → kid ≡ first_kid kids → HasRoomFor g (joining_words kids + used) → HasRoomFor g (back_words kid.backs + used)
+room_first g kid kids used first r =
+    let all = words_first kids in
+    let same : back_words kid.backs ≡ back_words (first_kid kids).backs = ap (λ (k : Kid). back_words k.backs) first in
+    fewer g (joining_words kids + used) (back_words kid.backs + used) (omega (arith, all, same)) r
 
--- room for the child that is next, and for those behind it
-pub room_first : (g : Gains) (kids kids' : List Kid) (unit : ℕ) (backs : List Back) (xs xs' : List (Option Body × Slots)) (x : Option Body × Slots) → HasRoomFor g (joining_words kids + lefts_room xs) →
-    record { unit = unit; backs = backs } ≡ first_kid kids → kids' ≡ other_kids kids → xs ≡ x ∷ xs' → HasRoomFor g ((back_words backs + left_room x.0) + (joining_words kids' + lefts_room xs'))
-room_first g kids kids' unit backs xs xs' x r e f is =
-    let words : joining_words kids ≡ back_words backs + joining_words kids' = words_next kids kids' unit backs e f in
-    let lefts : lefts_room xs ≡ left_room x.0 + lefts_room xs' = lefts_next xs xs' x is in
-    fewer g (joining_words kids + lefts_room xs) ((back_words backs + left_room x.0) + (joining_words kids' + lefts_room xs')) (omega arith) r
+-- room for the children behind it
+pub room_behind : (g h : Gains) (kid : Kid) (kids others : List Kid) (used : ℕ) → kid ≡ first_kid kids → others ≡ other_kids kids → LeavesRoomFor (back_words kid.backs + used) g h →
+    (n : ℕ) → HasRoomFor g (joining_words kids + (used + n)) → HasRoomFor h (joining_words others + n)
+room_behind g h kid kids others used first rest gives n r =
+    let all = words_first kids in
+    let same : back_words kid.backs ≡ back_words (first_kid kids).backs = ap (λ (k : Kid). back_words k.backs) first in
+    let behind : joining_words others ≡ joining_words (other_kids kids) = ap joining_words rest in
+    gives (joining_words others + n) (fewer g (joining_words kids + (used + n)) ((back_words kid.backs + used) + (joining_words others + n)) (omega (arith, all, same, behind)) r)
+
+pub less_room : (j : OpenJoin) (most ports : ℕ) → ports ≤ most → HasRoomToJoin j most → HasRoomToJoin j ports
+less_room j most ports low r = fewer j.gains (joining_words (kids_of j) + most) (joining_words (kids_of j) + ports) (omega (arith, low)) r
 
 -- The join.
 
@@ -110,27 +152,30 @@ by_lefts j kids [] = refl
 by_lefts j [] (z ∷ zs) = by_lefts (kid_back j (record { unit = 0; backs = [] }) z.slots z.body) [] zs
 by_lefts j (k ∷ kids) (z ∷ zs) = by_lefts (kid_back j k z.slots z.body) kids zs
 
-abbrev joins_as : CodeProc → Body → ℕ → Joined → CodeProc
-joins_as y b next j = record y { phase = Running; body = Some (record b { frame = at_statement (record b.frame { words = j.mine.words }) next }); slots = j.mine.slots }
+abbrev joins_as : CodeProc → Body → ℕ → Held → CodeProc
+joins_as y b next h = record y { phase = Running; body = Some (record b { frame = at_statement (record b.frame { words = h.words }) next }); slots = h.slots }
 
-pub joins_so : (p : Place) (y : CodeProc) (children : List CodeProc) (cs after : Chans) (b b' : Body) (block next cost : ℕ) (kids : List Kid) (lefts : List (Option Body × Slots)) (ph : Phase) (slots : Slots) (drops : List PortValue) → look_of y ≡ Asks (ask.Join next) → y.body ≡ Some b → y.phase ≡ Joining block kids → map left_by children ≡ lefts → ph ≡ Running → b' ≡ record b { frame = at_statement (record b.frame { words = (joined_by b y.slots kids lefts).mine.words }) next } → slots ≡ (joined_by b y.slots kids lefts).mine.slots → drops ≡ (joined_by b y.slots kids lefts).drops → after ≡ all_shed drops cs → cost ≡ 1 + joining_words kids → Joins p y children cs (record y { phase = ph; body = Some b'; slots = slots }) after cost
-joins_so p y children cs after b b' block next cost kids lefts ph slots drops looks is joins left runs e f g shed paid =
-    let start : Joined = alone (holding y b) [] in
-    let same : lefts_back start kids lefts ≡ kids_back start kids children = ap (lefts_back start kids) (sym left) ∙ sym (by_lefts start kids children) in
+-- who has joined all its children goes on
+pub joins_so : (p : Place) (y z : CodeProc) (children : List CodeProc) (cs after : Chans) (j : OpenJoin) (body : Option Body) (slots : Slots) (cost : ℕ) → HasJoined y (map left_by children) z j →
+    body ≡ option_map (λ (b : Body). with_words b j.next j.gains.words.items) z.body → slots ≡ slots_in j.gains.slots → after ≡ all_shed j.gains.drops.items cs → cost ≡ j.cost → Joins p y children cs (record z { body = body; slots = slots }) after cost
+joins_so p y z children cs after j body slots cost h e f shed paid =
+    let start : Joined = alone (holding y h.body) [] in
+    let mine : mine_of (gained j.gains) ≡ mine_of (kids_back start h.kids children) = sym h.gains ∙ ap mine_of (sym (by_lefts start h.kids children)) in
+    let put : CodeProc → CodeProc = λ v. record v { body = option_map (λ (b : Body). with_words b j.next j.gains.words.items) v.body; slots = slots } in
     record {
-      block = block;
-      count = length kids;
-      goes = λ c r. joined y b next kids r.children;
-      asks_so = asks_joining y b block kids (ask.Join next) looks refl is joins;
+      block = h.block;
+      count = length h.kids;
+      goes = λ c r. joined y h.body j.next h.kids r.children;
+      asks_so = asks_joining y h.body h.block h.kids (ask.Join j.next) h.looks refl h.body_is h.phase_is;
       on = record {
         self =
-            ap (λ x. record y { phase = x; body = Some b'; slots = slots }) runs
-            ∙ (ap (λ x. record y { phase = Running; body = Some x; slots = slots }) e
-            ∙ (ap (λ x. record y { phase = Running; body = Some (record b { frame = at_statement (record b.frame { words = (joined_by b y.slots kids lefts).mine.words }) next }); slots = x }) f
-            ∙ ap (joins_as y b next) same));
+            ap (λ x. record z { body = x; slots = slots }) e
+            ∙ (ap put h.stays
+            ∙ (ap (λ x. joins_as y h.body j.next (record { words = j.gains.words.items; slots = x })) f
+            ∙ ap (λ (m : Held × List PortValue). joins_as y h.body j.next m.0) mine));
         block = refl;
         starts_are = refl;
-        chans = shed ∙ ap (λ l. all_shed l cs) ((g ∙ ap (λ (j : Joined). j.drops) same) ∙ sym (append-nil _));
-        cost_is = paid;
+        chans = shed ∙ ap (λ l. all_shed l cs) (ap (λ (m : Held × List PortValue). m.1) mine ∙ sym (append-nil _));
+        cost_is = paid ∙ h.cost_is;
       };
     }

@@ -5,5 +5,6 @@ pub mod Performs
 pub mod Events
 pub mod Makes
 pub mod Gains
+pub mod Joinings
 pub mod Rooms
 pub mod Drafts

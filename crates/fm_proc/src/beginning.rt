@@ -106,7 +106,7 @@ fn drafts(alloc: Global, body: &Body) -> Result<Vec<Draft>, NoMemory>
     ensures ready { IfOk result (λ v. AllByRecursion IsReady v.items) }
 {
     let starts = body.frame.starts.as_slice();
-    let mut drafts = Vec::new(alloc);
+    let mut drafts = Vec::with_capacity(alloc, starts.len())?;
     'starts: for start in starts {
         drafts.push(draft_of(alloc, body, start)?)?;
     }
@@ -231,7 +231,7 @@ fn kid(alloc: Global, start: &Start) -> Result<Kid, NoMemory>
 fn kids(alloc: Global, starts: &[Start]) -> Result<Seq<Kid>, NoMemory>
     ensures { IfOk result (λ ks. map kid_of ks ≡ map code.kid_of starts.now) }
 {
-    let mut kids = Seq::new(alloc);
+    let mut kids = Seq::from_vec(Vec::with_capacity(alloc, starts.len())?);
     'starts: for start in starts {
         kids.push(kid(alloc, start)?)?;
     }

@@ -1,28 +1,31 @@
 //! Joining: what children leave, and how a process goes on with it.
 
-ghost use Rattle.std.specs.Prelude.{◌≡◌, ◌+◌, ◌≤◌, [], true, Some, List, map, vec_len, vec_capacity, IfOk, OnOk, IfErr, OnErr};
+ghost use Rattle.std.specs.Prelude.{◌≡◌, ◌+◌, ◌≤◌, ◌++◌, ◌∷◌, ℕ, [], true, Option, Some, List, map, option_map, vec_len, vec_capacity, IfOk, OnErr};
 ghost use Rattle.fm_code.specs.declared.ask.Ask.TheVariants as ask;
+ghost use Rattle.fm_code.specs.declared.body.Body as declared_body;
 ghost use Rattle.fm_code.specs.Passing.{back_words};
-ghost use Rattle.fm_code.specs.Statements.{at_statement};
+ghost use Rattle.fm_code.specs.Statements.{with_words};
 ghost use Rattle.fm_calling.specs.declared.looking.Look.TheVariants.{Asks};
 ghost use Rattle.fm_chan.specs.Bodies.{chans_of};
 ghost use Rattle.fm_chan.specs.Woken.{WakesAll};
 ghost use Rattle.fm_net.specs.Machine.{Place};
 ghost use Rattle.fm_bodies.specs.Processes.{CodeProc, emptied, given_back, joining_words, kid_back};
+ghost use Rattle.fm_bodies.specs.Slots as bodies;
 ghost use Rattle.fm_slots.specs.Helds.{held};
 ghost use Rattle.fm_slots.specs.Joins.{GivesSo, HasRoomFor, LeavesRoomFor, joined};
 ghost use Rattle.fm_proc.specs.Phases.{kid_of, left_by, left_of, proc_of};
 ghost use Rattle.fm_proc.specs.Told.{is_joining, look_of};
 ghost use Rattle.fm_proc.specs.Performs.{Joins};
-ghost use Rattle.fm_proc.specs.Gains.{alone, first_kid, gained, joined_by, lefts_back, mine_of, other_kids};
-ghost use Rattle.fm_proc.specs.Rooms.{body_room, left_room, lefts_room};
+ghost use Rattle.fm_proc.specs.Gains.{alone, first_kid, gained, mine_of, other_kids};
+ghost use Rattle.fm_proc.specs.Joinings.{HasJoined, HasRoomToJoin};
+ghost use Rattle.fm_proc.specs.Rooms.{body_room, left_room};
 
 use crate::dropping::drop_body;
 use crate::going::go_on;
-use crate::measuring::{joining_words, room_of};
+use crate::measuring::{joining_words, room_with};
 use crate::process::{Kid, Phase, Process};
 use crate::shedding::shed;
-use fm_base::NoMemory;
+use fm_base::{NoMemory, Seq};
 use fm_chan::{Channels, Port};
 use fm_code::{Back, Body, Row};
 use fm_slots::{Child, Gains, Slots, give_back};
@@ -89,31 +92,6 @@ fn take_left(alloc: Global, gains: &mut Gains, left: Left, unit: u32, backs: &[B
     }
 }
 
-/// What is to be joined next, and what then; a child of which nothing is known gives nothing back.
-fn next_kid(kids: &[Kid]) -> (u32, &[Back], &[Kid])
-    ensures kid { record { unit = result.0; backs = result.1.now } ≡ first_kid (map kid_of kids.now) }
-    ensures rest { map kid_of result.2.now ≡ other_kids (map kid_of kids.now) }
-{
-    match kids.split_first() {
-        Some((kid, rest)) => (kid.unit, kid.backs.as_slice(), rest),
-        None => (0, &[], &[]),
-    }
-}
-
-/// What children left comes to their parent, one after the other. Takes no memory.
-fn take_all(alloc: Global, gains: &mut Gains, kids: &[Kid], left: Vec<Left>)
-    requires room { HasRoomFor gains.old (joining_words (map kid_of kids.now) + lefts_room (map left_of left.items)) }
-    ensures { mine_of (lefts_back (gained gains.old) (map kid_of kids.now) (map left_of left.items)) ≡ mine_of (gained gains.new) }
-{
-    let mut awaited = kids;
-    let mut rest = VecDeque::from_vec(left);
-    'children: while let Some(child) = rest.pop_front() {
-        let (unit, backs, behind) = next_kid(awaited);
-        take_left(alloc, gains, child, unit, backs);
-        awaited = behind;
-    }
-}
-
 /// Words that come from a row, with room for so many more. After want of memory they are where they were.
 fn open_words(alloc: Global, words: &mut Row<i64>, room: usize) -> Result<Vec<i64>, NoMemory>
     ensures words { IfOk result (λ own. own.items ≡ words.old) }
@@ -143,103 +121,72 @@ fn open_gains(
 {
     let ports = room.checked_mul(2).ok_or(NoMemory)?;
     let drops = Vec::with_capacity(alloc, room)?;
-    let own = open_words(alloc, words, room)?;
+    let mine = open_words(alloc, words, room)?;
     match slots.open(alloc, ports) {
         Ok(slots) => Ok(Gains {
-            words: own,
+            words: mine,
             slots,
             drops,
         }),
         Err(NoMemory) => {
-            *words = Row::from_vec(own);
+            *words = Row::from_vec(mine);
             Err(NoMemory)
         }
     }
 }
 
-/// A join for which all memory is there: what the parent has, and the cost.
+/// The memory of a join: what the parent has, with room for all that comes, and the cost.
 #[derive(Drop)]
 struct Opened {
     gains: Gains,
     cost: u64,
 }
 
-/// Takes all memory that a join needs. After want of memory the parent is as it was.
-fn open_join(
-    alloc: Global,
-    words: &mut Row<i64>,
-    slots: &mut Slots,
-    kids: &[Kid],
-    left: &[Left],
-) -> Result<Opened, NoMemory>
-    ensures gains { IfOk result (λ o. gained o.gains ≡ alone (held words.old slots.old) []) }
-    ensures room { IfOk result (λ o. HasRoomFor o.gains (joining_words (map kid_of kids.now) + lefts_room (map left_of left.now))) }
-    ensures cost { IfOk result (λ o. o.cost ≡ 1 + joining_words (map kid_of kids.now)) }
-    ensures stays { OnErr result ((words.new ≡ words.old) × (slots.new ≡ slots.old)) }
-{
-    let backs = joining_words(kids)?;
-    let cost = backs.checked_add(1).ok_or(NoMemory)?;
-    let room = room_of(backs, left)?;
-    let gains = open_gains(alloc, words, slots, room)?;
-    Ok(Opened { gains, cost })
-}
-
-/// What a join lets go, and its cost.
-#[derive(Drop)]
-struct Joined {
-    drops: Vec<Port>,
-    cost: u64,
-}
-
-/// The body goes on with what its children left. After want of memory all is as it was, and what they left comes back.
-fn join_body(
+/// Takes all memory that a join needs, of which the children still have so much at most. After want of memory the parent is as it
+/// was.
+fn open_body(
     alloc: Global,
     body: &mut Body,
     slots: &mut Slots,
     kids: &[Kid],
-    left: Vec<Left>,
-    next: u32,
-) -> Result<Joined, (Vec<Left>, NoMemory)>
-    ensures body { OnOk result (body.new ≡ record body.old { frame = at_statement (record body.old.frame { words = (joined_by body.old slots.old (map kid_of kids.now) (map left_of left.items)).mine.words }) next }) }
-    ensures slots { OnOk result (slots.new ≡ (joined_by body.old slots.old (map kid_of kids.now) (map left_of left.items)).mine.slots) }
-    ensures drops { IfOk result (λ j. j.drops.items ≡ (joined_by body.old slots.old (map kid_of kids.now) (map left_of left.items)).drops) }
-    ensures cost { IfOk result (λ j. j.cost ≡ 1 + joining_words (map kid_of kids.now)) }
+    room: usize,
+) -> Result<Opened, NoMemory>
+    ensures gains { IfOk result (λ o. gained o.gains ≡ alone (held body.old.frame.words slots.old) []) }
+    ensures room { IfOk result (λ o. HasRoomFor o.gains (joining_words (map kid_of kids.now) + room)) }
+    ensures cost { IfOk result (λ o. o.cost ≡ 1 + joining_words (map kid_of kids.now)) }
+    ensures body { body.new ≡ record body.old { frame = record body.old.frame { words = body.new.frame.words } } }
     ensures stays { OnErr result ((body.new ≡ body.old) × (slots.new ≡ slots.old)) }
-    ensures back { IfErr result (λ e. map left_of e.0.items ≡ map left_of left.items) }
 {
-    match open_join(alloc, &mut body.frame.words, slots, kids, left.as_slice()) {
-        Ok(Opened { gains, cost }) => {
-            let mut gains = gains;
-            take_all(alloc, &mut gains, kids, left);
-            let Gains {
-                words,
-                slots: own,
-                drops,
-            } = gains;
-            body.frame.words = Row::from_vec(words);
-            go_on(body, next);
-            *slots = Slots::from_open(own);
-            Ok(Joined { drops, cost })
-        }
-        Err(NoMemory) => Err((left, NoMemory)),
-    }
+    let backs = joining_words(kids)?;
+    let cost = backs.checked_add(1).ok_or(NoMemory)?;
+    let room = room_with(backs, room)?;
+    let gains = open_gains(alloc, &mut body.frame.words, slots, room)?;
+    Ok(Opened { gains, cost })
 }
 
-/// All children of the process's block have ended and left this, in the order of their starts: the cost. After want of memory
-/// nothing has changed, and what the children left comes back.
-pub fn join(
+/// A join under way: what the parent has, the children that it hasn't joined yet, where it goes on, and the cost. Contracts say which
+/// children a process has joined (`HasJoined`).
+#[derive(Drop)]
+pub struct OpenJoin {
+    gains: Gains,
+    kids: VecDeque<Kid>,
+    next: u32,
+    cost: u64,
+}
+
+/// All children of the process's block have ended, and it begins to join them, with room for so many ports that they still have. The
+/// process runs then, and its words and ports are with the join. After want of memory it is as it was.
+pub fn open_join(
     alloc: Global,
     process: &mut Process,
-    channels: &mut Channels,
-    left: Vec<Left>,
     next: u32,
-) -> Result<u64, (Vec<Left>, NoMemory)>
+    room: usize,
+) -> Result<OpenJoin, NoMemory>
     requires look { look_of (proc_of process.old) ≡ Asks (ask.Join next) }
     requires joins { is_joining (proc_of process.old) ≡ true }
-    ensures joins { IfOk result (λ cost. (p : Place) (children : List CodeProc) → map left_by children ≡ map left_of left.items → Joins p (proc_of process.old) children (chans_of channels.old) (proc_of process.new) (chans_of channels.new) cost) }
-    ensures waking { OnOk result (WakesAll channels.old channels.new) }
-    ensures stays { OnErr result ((proc_of process.new ≡ proc_of process.old) × (chans_of channels.new ≡ chans_of channels.old)) }
-    ensures back { IfErr result (λ e. map left_of e.0.items ≡ map left_of left.items) }
+    ensures joined { IfOk result (λ j. HasJoined (proc_of process.old) [] (proc_of process.new) j) }
+    ensures room { IfOk result (λ j. HasRoomToJoin j room) }
+    ensures stays { OnErr result (proc_of process.new ≡ proc_of process.old) }
 {
     let Some(body) = &mut process.body else {
         unreachable!()
@@ -247,8 +194,77 @@ pub fn join(
     let Phase::Joining { block: _, kids } = &process.phase else {
         unreachable!()
     };
-    let joined = join_body(alloc, body, &mut process.slots, kids.as_slice(), left, next)?;
-    process.phase = Phase::Running;
-    shed(channels, joined.drops);
-    Ok(joined.cost)
+    let Opened { gains, cost } = open_body(alloc, body, &mut process.slots, kids.as_slice(), room)?;
+    let Phase::Joining { block: _, kids } = replace(&mut process.phase, Phase::Running) else {
+        unreachable!()
+    };
+    let kids = VecDeque::from_vec(kids.into_vec());
+    Ok(OpenJoin {
+        gains,
+        kids,
+        next,
+        cost,
+    })
+}
+
+/// What is to be joined next; a child of which nothing is known gives nothing back.
+fn next_kid(alloc: Global, kids: &mut VecDeque<Kid>) -> Kid
+    ensures kid { kid_of result ≡ first_kid (map kid_of kids.old.items) }
+    ensures rest { map kid_of kids.new.items ≡ other_kids (map kid_of kids.old.items) }
+{
+    match kids.pop_front() {
+        Some(kid) => kid,
+        None => Kid {
+            unit: 0,
+            backs: Seq::new(alloc),
+        },
+    }
+}
+
+/// The words come to the frame, which goes on at a statement.
+fn put_words(body: &mut Option<Body>, words: Vec<i64>, next: u32)
+    ensures { body.new ≡ option_map (λ (b : declared_body.Body). with_words b next words.items) body.old }
+{
+    match body {
+        Some(body) => {
+            body.frame.words = Row::from_vec(words);
+            go_on(body, next);
+        }
+        None => {}
+    }
+}
+
+impl OpenJoin {
+    /// What the next child left, in the order of the starts, comes to its parent. Takes no memory.
+    pub fn take(&mut self, alloc: Global, left: Left)
+        requires room { HasRoomToJoin self.old (left_room left.body) }
+        ensures joined { (y z : CodeProc) (lefts : List (Option declared_body.Body × bodies.Slots)) → HasJoined y lefts z self.old → HasJoined y (lefts ++ left_of left ∷ []) z self.new }
+        ensures room { (ports : ℕ) → HasRoomToJoin self.old (left_room left.body + ports) → HasRoomToJoin self.new ports }
+    {
+        let kid = next_kid(alloc, &mut self.kids);
+        take_left(alloc, &mut self.gains, left, kid.unit, kid.backs.as_slice());
+    }
+
+    /// All children have been joined: the process goes on behind its block with what it has, and what was let go is discarded. The
+    /// cost. Takes no memory.
+    pub fn close(self, process: &mut Process, channels: &mut Channels) -> u64
+        ensures joins { (y : CodeProc) (children : List CodeProc) → HasJoined y (map left_by children) (proc_of process.old) self → (p : Place) → Joins p y children (chans_of channels.old) (proc_of process.new) (chans_of channels.new) result }
+        ensures waking { WakesAll channels.old channels.new }
+    {
+        let OpenJoin {
+            gains,
+            kids: _,
+            next,
+            cost,
+        } = self;
+        let Gains {
+            words,
+            slots,
+            drops,
+        } = gains;
+        put_words(&mut process.body, words, next);
+        process.slots = Slots::from_open(slots);
+        shed(channels, drops);
+        cost
+    }
 }

@@ -23,7 +23,8 @@ mod telling;
 mod units;
 
 pub use advancing::{Advanced, advance};
-pub use joining::{Left, join, release};
+pub use joining::{Left, OpenJoin, open_join, release};
+pub use measuring::left_room;
 pub use performing::{Done, perform};
 pub use process::{Kid, Phase, Process};
 pub use telling::next_look;

@@ -3,11 +3,10 @@
 ghost use Rattle.std.specs.Prelude.{◌≡◌, ◌+◌, IfOk, map};
 ghost use Rattle.fm_code.specs.Passing.{back_words};
 ghost use Rattle.fm_bodies.specs.Processes.{joining_words};
-ghost use Rattle.fm_proc.specs.Phases.{kid_of, left_of};
-ghost use Rattle.fm_proc.specs.Rooms.{body_room, frame_room, frames_room, left_room, lefts_room, unit_room};
+ghost use Rattle.fm_proc.specs.Phases.{kid_of, proc_of};
+ghost use Rattle.fm_proc.specs.Rooms.{body_room, frame_room, frames_room, left_room, unit_room};
 
-use crate::joining::Left;
-use crate::process::Kid;
+use crate::process::{Kid, Process};
 use crate::units::ports_at;
 use fm_base::NoMemory;
 use fm_code::{Back, Body, Frame, SharedCode};
@@ -75,22 +74,20 @@ fn body_room(body: &Body) -> Result<usize, NoMemory>
     room.checked_add(below).ok_or(NoMemory)
 }
 
-fn left_room(left: &Left) -> Result<usize, NoMemory>
-    ensures { IfOk result (λ n. n ≡ left_room left.now.body) }
+/// As many ports as a process still has at most, by the words of its frames.
+pub fn left_room(process: &Process) -> Result<usize, NoMemory>
+    ensures { IfOk result (λ n. n ≡ left_room (proc_of process.now).body) }
 {
-    match &left.body {
+    match &process.body {
         Some(body) => body_room(body),
         None => Ok(0),
     }
 }
 
-/// The room for so many words that are given back, and for all ports that these still have.
-pub(crate) fn room_of(backs: u64, left: &[Left]) -> Result<usize, NoMemory>
-    ensures { IfOk result (λ n. n ≡ backs + lefts_room (map left_of left.now)) }
+/// The room for so many words that are given back, and for so many ports.
+pub(crate) fn room_with(backs: u64, ports: usize) -> Result<usize, NoMemory>
+    ensures { IfOk result (λ n. n ≡ backs + ports) }
 {
-    let mut room = usize::try_from(backs).map_err(|_| NoMemory)?;
-    'children: for child in left {
-        room = room.checked_add(left_room(child)?).ok_or(NoMemory)?;
-    }
-    Ok(room)
+    let room = usize::try_from(backs).map_err(|_| NoMemory)?;
+    room.checked_add(ports).ok_or(NoMemory)
 }

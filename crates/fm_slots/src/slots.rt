@@ -3,7 +3,7 @@
 ghost use Rattle.std.specs.Prelude.{◌≡◌, ◌≤◌, ◌<◌, ◌+◌, pos, suc, ◌++◌, None, IfOk, OnOk, option_to_list, slice_get, slice_set, unwrap_or, vec_len, vec_capacity};
 ghost use Rattle.std.specs.Option.{option_copied};
 ghost use Rattle.fm_code.specs.Passing.{is_port};
-ghost use Rattle.fm_bodies.specs.Slots.{all_left, all_taken, before, in_slot, left, no_slots, put, put_any, taken, vacated};
+ghost use Rattle.fm_bodies.specs.Slots.{all_taken, before, in_slot, left, no_slots, put, put_any, taken};
 ghost use Rattle.fm_slots.specs.Places.{HasNumber};
 
 use fm_base::NoMemory;
@@ -187,18 +187,6 @@ impl Slots {
         let mut ports = Vec::new(alloc);
         'words: for word in words {
             ports.push(self.take(*word)?)?;
-        }
-        Ok(ports)
-    }
-
-    /// The ports in these slots, which are free then, one after the other.
-    pub fn vacate(&mut self, alloc: Global, words: &[i64]) -> Result<Vec<Port>, NoMemory>
-        ensures ports { IfOk result (λ v. v.items ≡ vacated self.old words.now) }
-        ensures slots { OnOk result (self.new ≡ all_left self.old words.now) }
-    {
-        let mut ports = Vec::new(alloc);
-        'words: for word in words {
-            push_some(&mut ports, self.leave(*word)?)?;
         }
         Ok(ports)
     }

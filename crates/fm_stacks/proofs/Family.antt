@@ -2,7 +2,7 @@
 use Rattle.std.proofs.Common.{◌≡◌, ℕ, zero, suc, ◌+◌, ◌<◌, ◌≤◌, ◌==◌, eq-eqb, true, false, cond, Option, Some, None, List, [], ◌∷◌, ◌++◌, length, map, refl, sym, ap, subst, ◌∙◌, arith}
 use Rattle.std.proofs.lemmas.Bool.{ne_eqb}
 use Rattle.std.proofs.lemmas.List.{map-append}
-use Rattle.std.specs.Prelude.{is_some, option_map, option_to_list}
+use Rattle.std.specs.Prelude.{is_some, option_map}
 use Rattle.std.specs.FinMap.{get, insert}
 use Rattle.fm_maps.specs.Changes.{alter, alters, Off}
 use Rattle.fm_maps.proofs.Alters.{alters-append, alters_past, alters_there}
@@ -142,15 +142,11 @@ module _ (m : Procs CodeProc) (p : Place) (b : ℕ) where
       go (yes e) = eq-eqb n count e ∙ sym (subst (λ (k : ℕ). is_some (gathered has_ended m p b 1 k) ≡ true) e ended)
       go (no differs) = ne_eqb n count differs ∙ sym (not_all (omega (arith, within, differs)))
 
-  kept_of_one : {X K : Type 0} (f : CodeProc → X) (g : K → X) (o : Option K) (x : CodeProc) → option_map g o ≡ Some (f x) → f x ∷ [] ≡ map g (option_to_list o)
-  kept_of_one f g None x e = absurd (cc e)
-  kept_of_one f g (Some k) x e = let same : g k ≡ f x = cc e in ap (λ z. z ∷ []) (sym same)
-
   -- what is kept of one child more
-  pub kept_more : {X K : Type 0} (f : CodeProc → X) (g : K → X) (n : ℕ) (ks : List K) (o : Option K) → ((xs : List CodeProc) → gathered has_ended m p b 1 n ≡ Some xs → map f xs ≡ map g ks)
-      → option_map g o ≡ option_map f (get m (child p b (n + 1))) → (ys : List CodeProc) → gathered has_ended m p b 1 (n + 1) ≡ Some ys → map f ys ≡ map g (ks ++ option_to_list o)
-  kept_more f g n ks o before this ys e =
+  pub kept_more : {X : Type 0} (f : CodeProc → X) (n : ℕ) (x : X) → Some x ≡ option_map f (get m (child p b (n + 1))) → (ys : List CodeProc) → gathered has_ended m p b 1 (n + 1) ≡ Some ys
+      → (xs : List CodeProc) × (gathered has_ended m p b 1 n ≡ Some xs) × (map f xs ++ x ∷ [] ≡ map f ys)
+  kept_more f n x this ys e =
       let next : suc n ≡ n + 1 = omega arith in
       let l = last_gathered 1 n ys (ap (λ (j : ℕ). gathered has_ended m p b 1 j) next ∙ e) in
-      ap (map f) (sym l.whole) ∙ map-append f l.front (l.last ∷ []) ∙ ap (λ zs. zs ++ f l.last ∷ []) (before l.front l.before)
-      ∙ ap (λ zs. map g ks ++ zs) (kept_of_one f g o l.last (this ∙ ap (option_map f) l.is)) ∙ sym (map-append g ks (option_to_list o))
+      let same : x ≡ f l.last = cc (this ∙ ap (option_map f) l.is) in
+      (l.front, l.before, ap (λ z. map f l.front ++ z ∷ []) same ∙ sym (map-append f l.front (l.last ∷ [])) ∙ ap (map f) l.whole)

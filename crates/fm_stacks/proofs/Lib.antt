@@ -5,6 +5,7 @@ pub mod Letting
 pub mod Served
 pub mod Doing
 pub mod Joining
+pub mod Blocks
 pub mod Born
 pub mod Placing
 pub mod Able

@@ -1,26 +1,20 @@
 -- What a process does, at its place among the processes.
-use Rattle.std.proofs.Common.{◌≡◌, ◌≢◌, ◌≤◌, ℕ, false, Some, None, Result, Ok, Err, List, ap, refl, subst, sym}
-use Rattle.std.specs.Prelude.{IfOk, MatchResult, IsErrAnd}
+use Rattle.std.proofs.Common.{◌≡◌, ◌≢◌, ◌≤◌, ℕ, false, Some, None, Result, Ok, Err, List, ap, refl, subst}
+use Rattle.std.specs.Prelude.{IfOk}
 use Rattle.fm_base.specs.Channels.{Chans}
 use Rattle.fm_net.specs.Machine.{Place}
 use Rattle.fm_bodies.specs.Needs.{is_local}
 use Rattle.fm_bodies.specs.Processes.{CodeProc, Phase, Running, Joining, Ended, Faulted, emptied}
 use Rattle.fm_proc.specs.declared.advancing.Advanced.{Advanced}
-use Rattle.fm_proc.specs.Performs.{Joins, Performs}
+use Rattle.fm_proc.specs.Performs.{Performs}
 use Rattle.fm_proc.specs.Runs.{Runs}
 use Rattle.fm_calling.specs.declared.looking.Look.TheVariants.{Stuck}
 use Rattle.fm_proc.specs.Told.{look_by, look_of}
 use Rattle.fm_stacks.specs.declared.entries.Entries.{Entries}
 use Rattle.fm_stacks.specs.declared.entries.Entry.{Entry}
 use Rattle.fm_stacks.specs.Readings.{proc_in, procs_of}
-use Rattle.fm_stacks.specs.Stepping.{AdvancesAt, JoinsAt, PerformsAt}
+use Rattle.fm_stacks.specs.Stepping.{AdvancesAt, PerformsAt}
 use Rattle.fm_stacks.proofs.Maps.{Puts, puts_one}
-
--- what holds of a success holds of it where only the error is another
-pub passed_on : {T E D : Type 0} (r : Result T E) (s : Result T D) (P : T → Type 0) (Q : E → D → Type 0) → MatchResult r (λ x. s ≡ Ok x) (λ e. IsErrAnd s (Q e)) → IfOk r P → IfOk s P
-passed_on (Ok x) s P Q is holds = subst (λ t. IfOk t P) (sym is) holds
-passed_on (Err e) (Ok x) P Q fails holds = absurd fails
-passed_on (Err e) (Err d) P Q fails holds = tt
 
 -- who stands at the place did it, and it alone changed
 module _ (p : Place) (y w : CodeProc) (same : Some w ≡ Some y) (old new : Entries) (x : Entry) (puts : Puts old new p x) where
@@ -31,13 +25,6 @@ module _ (p : Place) (y w : CodeProc) (same : Some w ≡ Some y) (old new : Entr
   performs_at cs xs after cost does = record {
     after = proc_in x;
     performs = subst (λ (v : CodeProc). Performs p v cs (proc_in x) xs after cost) one does;
-    procs_are = puts_one old new p x puts;
-  }
-
-  pub joins_at : (children : List CodeProc) (cs after : Chans) (cost : ℕ) → Joins p w children cs (proc_in x) after cost → JoinsAt p y children cs (procs_of old) (procs_of new) after cost
-  joins_at children cs after cost does = record {
-    after = proc_in x;
-    joins = subst (λ (v : CodeProc). Joins p v children cs (proc_in x) after cost) one does;
     procs_are = puts_one old new p x puts;
   }
 

@@ -6,6 +6,7 @@
 #![tactic(auto)]
 
 mod entries;
+mod joins;
 mod pieces;
 mod ready;
 mod stacks;

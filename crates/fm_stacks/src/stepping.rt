@@ -1,36 +1,35 @@
 //! One event of a process, with the children that it starts and those that it joins.
 
-ghost use Rattle.std.specs.Prelude.{◌≡◌, ◌++◌, ◌∷◌, ◌+◌, ◌≤◌, ℕ, true, is_some, List, [], length, map, Some, None, option_map, option_to_list, IfOk, OnOk};
+ghost use Rattle.std.specs.Prelude.{◌≡◌, ◌++◌, ◌∷◌, ◌+◌, ◌≤◌, ℕ, true, is_some, List, [], length, map, Some, None, IfOk, OnErr, OnOk};
 ghost use Rattle.std.specs.FinMap.{get, insert};
 ghost use Rattle.std.specs.List.{AllByRecursion};
 ghost use Rattle.fm_chan.specs.Bodies.{chans_of};
 ghost use Rattle.fm_chan.specs.Woken.{WakesAll};
-ghost use Rattle.fm_maps.specs.Changes.{alter, alters};
-ghost use Rattle.fm_net.specs.Machine.{Place, child, start_changes, child_changes, gathered};
+ghost use Rattle.fm_maps.specs.Changes.{alters};
+ghost use Rattle.fm_net.specs.Machine.{Place, child, start_changes};
 ghost use Rattle.fm_net.specs.Starts.{child_places, starts_at};
 ghost use Rattle.fm_numbered.specs.Rows.{numbered_map, place_at};
 ghost use Rattle.fm_bodies.specs.Needs.{is_local};
-ghost use Rattle.fm_bodies.specs.Processes.{CodeProc, Joining, Kid, Running, code_language, emptied, has_ended as is_done};
+ghost use Rattle.fm_bodies.specs.Processes.{CodeProc, Joining, Kid, Running, code_language};
 ghost use Rattle.fm_code.specs.declared.ask.Ask.TheVariants as ask;
 ghost use Rattle.fm_calling.specs.declared.looking.Look.TheVariants as look;
 ghost use Rattle.fm_proc.specs.Performs.{CanPerform, MakesNew};
-ghost use Rattle.fm_proc.specs.Phases.{boxed_of, left_by, left_of};
-ghost use Rattle.fm_proc.specs.Told.{is_joining, is_running, look_of};
+ghost use Rattle.fm_proc.specs.Phases.{boxed_of};
+ghost use Rattle.fm_proc.specs.Told.{is_running, look_of};
 ghost use Rattle.fm_stacks.specs.declared.entries.Entry as declared_entry;
-ghost use Rattle.fm_stacks.specs.Kept.{AreChildren, AreFamilies, AreFamiliesBut, AreToldBut};
+ghost use Rattle.fm_stacks.specs.Kept.{AreFamilies, AreFamiliesBut, AreToldBut};
 ghost use Rattle.fm_stacks.specs.Pieces.{IsNewAt};
 ghost use Rattle.fm_stacks.specs.Readings.{IsActor, actor_place, code_step, order_of, procs_of, state_of};
-ghost use Rattle.fm_stacks.specs.Stepping.{AdvancesAt, JoinsAt, PerformsAt, joined_next};
-ghost use Rattle.fm_stacks.specs.Waiting.{ended_at};
+ghost use Rattle.fm_stacks.specs.Stepping.{AdvancesAt, PerformsAt, joined_next};
 
-use crate::entries::{Actor, Entries, Entry, Family, child_path, number_behind};
+use crate::entries::{Actor, Entries, Entry, child_path, number_behind};
 use crate::stacks::Stacks;
 use fm_base::NoMemory;
 use fm_calling::Look;
 use fm_chan::Channels;
 use fm_code::Ask;
 use fm_instructions::Work;
-use fm_proc::{Advanced, Done, Left, Process, advance, join, next_look, perform, release};
+use fm_proc::{Advanced, Done, Process, advance, next_look, perform};
 use std::alloc::Global;
 use std::sync::Arc;
 
@@ -43,18 +42,6 @@ pub(crate) struct Stepped {
     pub started: usize,
     /// The cost in turns.
     pub cost: u64,
-}
-
-fn push_some(all: &mut Vec<Left>, left: Option<Left>) -> Result<(), NoMemory>
-    ensures { OnOk result (all.new.items ≡ all.old.items ++ option_to_list left) }
-{
-    match left {
-        Some(left) => {
-            all.push(left)?;
-            Ok(())
-        }
-        None => Ok(()),
-    }
 }
 
 // The statement behind a join.
@@ -87,41 +74,6 @@ impl Entries {
             }
             None => 0,
         }
-    }
-
-    // Takes out what a process leaves that has ended.
-    fn release(&mut self, alloc: Global, number: u32) -> Option<Left>
-        ensures processes { (q : Place) → place_at self.old.rows number ≡ Some q → procs_of self.new ≡ alter (procs_of self.old) q (option_map emptied) }
-        ensures order { order_of self.new ≡ order_of self.old }
-        ensures left { (q : Place) → place_at self.old.rows number ≡ Some q → option_map left_of result ≡ option_map left_by (get (procs_of self.old) q) }
-        ensures told { (own q : Place) → place_at self.old.rows number ≡ Some q → ended_at (get (procs_of self.old) q) ≡ true → AreToldBut own self.old → AreToldBut own self.new }
-        ensures families { AreFamilies self.old → AreFamilies self.new }
-    {
-        let entry = match self.rows.get_mut(number) {
-            Some(entry) => entry,
-            None => return None,
-        };
-        entry.next = Look::Stuck;
-        Some(release(alloc, &mut entry.process))
-    }
-
-    // Takes out what children leave that have ended, in order.
-    fn release_all(&mut self, alloc: Global, family: Family) -> Result<Vec<Left>, NoMemory>
-        ensures processes { OnOk result ((q : Place) (b : ℕ) → AreChildren (order_of self.old) family.first q b family.count →
-            procs_of self.new ≡ alters (child_changes emptied q b 1 family.count) (procs_of self.old)) }
-        ensures order { OnOk result (order_of self.new ≡ order_of self.old) }
-        ensures left { IfOk result (λ v. (q : Place) (b : ℕ) (children : List CodeProc) → AreChildren (order_of self.old) family.first q b family.count →
-            gathered is_done (procs_of self.old) q b 1 family.count ≡ Some children → map left_by children ≡ map left_of v.items) }
-        ensures told { OnOk result ((own q : Place) (b : ℕ) (children : List CodeProc) → AreChildren (order_of self.old) family.first q b family.count →
-            gathered is_done (procs_of self.old) q b 1 family.count ≡ Some children → AreToldBut own self.old → AreToldBut own self.new) }
-        ensures families { OnOk result (AreFamilies self.old → AreFamilies self.new) }
-    {
-        let mut all = Vec::new(alloc);
-        'children: for place in 0..family.count {
-            let number = number_behind(family.first, place)?;
-            push_some(&mut all, self.release(alloc, number))?;
-        }
-        Ok(all)
     }
 
     // Keeps the number of the first child of a process.
@@ -245,38 +197,10 @@ impl Entries {
             None => unreachable!(),
         }
     }
-
-    // Joins a process with children that left this.
-    fn join(
-        &mut self,
-        alloc: Global,
-        actor: &Actor,
-        channels: &mut Channels,
-        left: Vec<Left>,
-        next: u32,
-    ) -> Result<u64, NoMemory>
-        requires actor { IsActor self.old actor.now }
-        requires look { (y : CodeProc) → get (procs_of self.old) (actor_place actor.now) ≡ Some y → look_of y ≡ look.Asks (ask.Join next) }
-        requires joining { (y : CodeProc) → get (procs_of self.old) (actor_place actor.now) ≡ Some y → is_joining y ≡ true }
-        ensures order { OnOk result (order_of self.new ≡ order_of self.old) }
-        ensures told { OnOk result (AreToldBut (actor_place actor.now) self.old → AreToldBut (actor_place actor.now) self.new) }
-        ensures families { OnOk result (AreFamiliesBut (actor_place actor.now) self.old → AreFamiliesBut (actor_place actor.now) self.new) }
-        ensures joins { IfOk result (λ cost. (y : CodeProc) (children : List CodeProc) → get (procs_of self.old) (actor_place actor.now) ≡ Some y → map left_by children ≡ map left_of left.items →
-            JoinsAt (actor_place actor.now) y children (chans_of channels.old) (procs_of self.old) (procs_of self.new) (chans_of channels.new) cost) }
-        ensures waking { OnOk result (WakesAll channels.old channels.new) }
-    {
-        match self.rows.get_mut(actor.number) {
-            Some(entry) => join(alloc, &mut entry.process, channels, left, next).map_err(|(
-                _,
-                error,
-            )| error),
-            None => unreachable!(),
-        }
-    }
 }
 
 impl Stacks {
-    // Makes one step of a process, which joins a block.
+    // Makes one step of a process, which joins a block. After want of memory nothing has changed.
     fn step_join(&mut self, alloc: Global, actor: &Actor, next: u32) -> Result<Stepped, NoMemory>
         requires families { AreFamilies self.old.entries }
         requires actor { IsActor self.old.entries actor.now }
@@ -288,12 +212,12 @@ impl Stacks {
         ensures order { IfOk result (λ r. order_of self.new.entries ≡ order_of self.old.entries ++ child_places (actor_place actor.now) r.block 1 r.started) }
         ensures told { OnOk result (AreToldBut (actor_place actor.now) self.old.entries → AreToldBut (actor_place actor.now) self.new.entries) }
         ensures waking { OnOk result (WakesAll self.old.channels self.new.channels) }
+        ensures stays { OnErr result ((state_of self.new ≡ state_of self.old) × (order_of self.new.entries ≡ order_of self.old.entries)) }
+        ensures kept { OnErr result (AreFamilies self.new.entries × (AreToldBut (actor_place actor.now) self.old.entries → AreToldBut (actor_place actor.now) self.new.entries)) }
     {
         let family = self.entries.family(actor.number);
-        let left = self.entries.release_all(alloc, family)?;
-        let cost = self
-            .entries
-            .join(alloc, actor, &mut self.channels, left, next)?;
+        let channels = &mut self.channels;
+        let cost = self.entries.join(alloc, actor, family, channels, next)?;
         Ok(Stepped {
             block: 0,
             started: 0,

@@ -1,4 +1,4 @@
-use Rattle.std.proofs.Common.{◌≡◌, ◌∷◌, List, length, rules, arith, map, ap, subst, ◌∙◌}
+use Rattle.std.proofs.Common.{List, length, rules, arith, map, ap, subst, ◌∙◌}
 use Rattle.std.proofs.lemmas.List.{map_push}
 use Rattle.std.specs.List.{AllByRecursion}
 use Rattle.fm_code.specs.declared.body.Start.{Start}

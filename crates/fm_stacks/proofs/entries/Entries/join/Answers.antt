@@ -1,48 +1,62 @@
-use Rattle.std.proofs.Common.{Some, None, inl, refl, ap, sym, ◌∙◌}
-use Rattle.std.specs.Prelude.{is_some}
-use Rattle.std.specs.Box.{with_value}
-use Rattle.std.proofs.lemmas.Result.{IfOk-weaker}
-use Rattle.fm_chan.specs.Bodies.{chans_of}
-use Rattle.fm_numbered.proofs.Rows.{there as stands_there}
-use Rattle.fm_proc.specs.declared.process.Process.{Process}
-use Rattle.fm_proc.specs.Phases.{proc_of}
-use Rattle.fm_stacks.specs.Readings.{proc_in, actor_place}
-use Rattle.fm_stacks.proofs.Families.{families_put_but}
-use Rattle.fm_stacks.proofs.Maps.{found, there, told_put}
-use Rattle.fm_stacks.proofs.Placing.{joins_at, passed_on}
+use Rattle.std.proofs.Common.{ℕ, List, ap, subst, sym, ◌∙◌, arith}
+use Rattle.std.specs.FinMap.{insert}
+use Rattle.fm_maps.specs.Changes.{alters}
+use Rattle.fm_net.specs.Machine.{Place, Procs, child_changes, gathered}
+use Rattle.fm_bodies.specs.Processes.{CodeProc, emptied, has_ended}
+use Rattle.fm_proc.specs.Joinings.{HasRoomToJoin}
+use Rattle.fm_stacks.specs.Kept.{AreChildren}
+use Rattle.fm_stacks.specs.Readings.{actor_place, procs_of}
+use Rattle.fm_stacks.proofs.Blocks.{gathered_past, meanwhile, stands_meanwhile}
+use Rattle.fm_stacks.proofs.Families.{families_but}
 use Rattle.fm_stacks.proofs.entries.Entries.join.Goals as goal
 
-pub join-requires-clause-look : goal.join-requires-clause-look
-join-requires-clause-look c = rw c.deref_mut.ensures.value (c.requires.look (proc_in c.in-Some.entry.now) (there c.args.self.now (actor_place c.args.actor.now) (Some c.in-Some.entry.now) (found c.args.self.now c.args.actor.now.number (actor_place c.args.actor.now) (Some c.in-Some.entry.now) c.requires.actor c.in-Some.ensures.value)))
-
-pub join-requires-clause-joins : goal.join-requires-clause-joins
-join-requires-clause-joins c = rw c.deref_mut.ensures.value (c.requires.joining (proc_in c.in-Some.entry.now) (there c.args.self.now (actor_place c.args.actor.now) (Some c.in-Some.entry.now) (found c.args.self.now c.args.actor.now.number (actor_place c.args.actor.now) (Some c.in-Some.entry.now) c.requires.actor c.in-Some.ensures.value)))
-
-pub unreachable-requires : goal.unreachable-requires
-unreachable-requires c = cc (ap is_some (found c.args.self.now c.args.actor.now.number (actor_place c.args.actor.now) None c.requires.actor c.in-None.ensures.value) ∙ stands_there c.args.self.now.rows c.args.actor.now.number (actor_place c.args.actor.now) c.requires.actor)
-
-pub returns-clause-joins : goal.returns-clause-joins
-returns-clause-joins c =
+pub take_children-requires-clause-room : goal.take_children-requires-clause-room
+take_children-requires-clause-room c =
     let k = actor_place c.args.actor.now in
-    let y = record c.in-Some.entry.now { process = with_value c.in-Some.entry.now.process c.join.new.process } in
-    let is = there c.args.self.now k (Some c.in-Some.entry.now) (found c.args.self.now c.args.actor.now.number k (Some c.in-Some.entry.now) c.requires.actor c.in-Some.ensures.value) in
-    passed_on c.join.result c.map_err.result _ _ c.map_err.ensures.cases (IfOk-weaker c.join.result _ _ (λ cost told x children at left.
-    joins_at k x (proc_of c.deref_mut.result.now) (ap (λ (v : Process). Some (proc_of v)) c.deref_mut.ensures.value ∙ (sym is ∙ at)) c.args.self.now (record { rows = c.get_mut.follows.lender y }) y
-    (c.get_mut.follows.holds y k c.requires.actor).map_is children (chans_of c.args.channels.now) (chans_of c.join.new.channels) cost (told k children left)) c.join.ensures.joins)
+    let family = c.args.family in
+    let e = c.requires.ended in
+    let opened = c.in_ok-join.ensures.opens e.parent e.is in
+    record {
+      place = k;
+      block = e.block;
+      others = family.count;
+      children = e.children;
+      all = omega arith;
+      stand = subst (λ (ps : List Place). AreChildren ps family.first k e.block family.count) (sym c.open_join.ensures.order) e.stand;
+      ended = ap (λ m. gathered has_ended m k e.block 1 family.count) opened.procs_are ∙ gathered_past k e.block 1 family.count (procs_of c.args.self.now) opened.after ∙ e.ended;
+      room = subst (λ (n : ℕ). HasRoomToJoin c.in_ok-join.join n) (c.in_ok-room.ensures k e.block e.children e.stand e.ended) c.in_ok-join.ensures.room;
+    }
 
 pub returns-clause-told : goal.returns-clause-told
-returns-clause-told c =
+returns-clause-told c = λ but.
     let k = actor_place c.args.actor.now in
-    let y = record c.in-Some.entry.now { process = with_value c.in-Some.entry.now.process c.join.new.process } in
-    passed_on c.join.result c.map_err.result _ _ c.map_err.ensures.cases (IfOk-weaker c.join.result _ _ (λ a told but.
-    told_put k c.args.self.now (record { rows = c.get_mut.follows.lender y }) k y (c.get_mut.follows.holds y k c.requires.actor).map_is (inl refl) but) c.join.ensures.joins)
-
-pub returns-clause-order : goal.returns-clause-order
-returns-clause-order c = passed_on c.join.result c.map_err.result _ _ c.map_err.ensures.cases (IfOk-weaker c.join.result _ _ (λ a told. (c.get_mut.follows.holds (record c.in-Some.entry.now { process = with_value c.in-Some.entry.now.process c.join.new.process }) (actor_place c.args.actor.now) c.requires.actor).places_are) c.join.ensures.joins)
+    let family = c.args.family in
+    let e = c.requires.ended in
+    let opened = c.in_ok-join.ensures.opens e.parent e.is in
+    let stand = subst (λ (ps : List Place). AreChildren ps family.first k e.block family.count) (sym c.open_join.ensures.order) e.stand in
+    let ended = ap (λ m. gathered has_ended m k e.block 1 family.count) opened.procs_are ∙ gathered_past k e.block 1 family.count (procs_of c.args.self.now) opened.after ∙ e.ended in
+    c.close_join.ensures.told (c.take_children.ensures.told k k e.block e.children stand ended (c.open_join.ensures.told but))
 
 pub returns-clause-families : goal.returns-clause-families
-returns-clause-families c =
+returns-clause-families c = λ all.
+    c.close_join.ensures.families (families_but (actor_place c.args.actor.now) c.take_children.new.self (c.take_children.ensures.families (c.open_join.ensures.families all)))
+
+pub returns-clause-joins : goal.returns-clause-joins
+returns-clause-joins c = λ y b children at all e.
     let k = actor_place c.args.actor.now in
-    let y = record c.in-Some.entry.now { process = with_value c.in-Some.entry.now.process c.join.new.process } in
-    let put = c.get_mut.follows.holds y k c.requires.actor in
-    passed_on c.join.result c.map_err.result _ _ c.map_err.ensures.cases (IfOk-weaker c.join.result _ _ (λ a told but. families_put_but k c.args.self.now (record { rows = c.get_mut.follows.lender y }) y put.map_is put.places_are but) c.join.ensures.joins)
+    let family = c.args.family in
+    let m = procs_of c.args.self.now in
+    let ws = child_changes emptied k b 1 family.count in
+    let opened = c.in_ok-join.ensures.opens y at in
+    let stand = subst (λ (ps : List Place). AreChildren ps family.first k b family.count) (sym c.open_join.ensures.order) all in
+    let ended = ap (λ n. gathered has_ended n k b 1 family.count) opened.procs_are ∙ gathered_past k b 1 family.count m opened.after ∙ e in
+    let taken = c.take_children.ensures.processes k b stand in
+    let stands = stands_meanwhile k b family.count m (procs_of c.open_join.new.self) (procs_of c.take_children.new.self) opened.after opened.procs_are taken in
+    let done = c.close_join.ensures.joins y opened.after children stands (c.take_children.ensures.joined k b children y opened.after stand ended opened.joined) in
+    record {
+      after = done.after;
+      joins = done.joins;
+      procs_are =
+          done.procs_are ∙ ap (λ (n : Procs CodeProc). insert n k done.after) (taken ∙ ap (alters ws) opened.procs_are)
+          ∙ meanwhile k b family.count m opened.after done.after;
+    }
