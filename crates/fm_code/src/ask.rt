@@ -4,7 +4,7 @@ use crate::code::Span;
 use fm_base::{Fault, Line, Seq};
 
 /// An argument, or an item of a message: a word, or words of the frame at their place.
-#[derive(Clone, Copy, Debug, PartialEq, Eq)]
+#[derive(Clone, Copy)]
 pub enum Operand {
     /// A word.
     Value(i64),
@@ -16,7 +16,7 @@ pub enum Operand {
 
 /// What the next statement of a body asks for. Words of the frame are named by their numbers, ports by the
 /// words that are kept for them; `next` is the address of the statement that comes then.
-#[derive(Debug, PartialEq, Eq, Drop)]
+#[derive(Drop)]
 pub enum Ask {
     /// A fault at a line.
     Fail {

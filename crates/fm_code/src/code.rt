@@ -4,7 +4,7 @@ use crate::instr::Instr;
 use fm_base::{Line, Seq};
 
 /// Some words of a frame, one behind the other.
-#[derive(Clone, Copy, Debug, PartialEq, Eq)]
+#[derive(Clone, Copy)]
 pub struct Span {
     /// The number of the first.
     pub first: u32,
@@ -13,7 +13,7 @@ pub struct Span {
 }
 
 /// A formal of a unit, by the words of the unit's frame.
-#[derive(Clone, Copy, Debug, PartialEq, Eq)]
+#[derive(Clone, Copy)]
 pub struct Formal {
     /// Its words.
     pub span: Span,
@@ -24,7 +24,7 @@ pub struct Formal {
 }
 
 /// A statement of the source.
-#[derive(Clone, Copy, Debug, PartialEq, Eq)]
+#[derive(Clone, Copy)]
 pub struct Entry {
     /// The line at which it begins.
     pub line: Line,
@@ -33,7 +33,7 @@ pub struct Entry {
 }
 
 /// The code of a unit.
-#[derive(Debug, PartialEq, Eq, Drop)]
+#[derive(Drop)]
 pub struct Unit {
     /// Its instructions. Their places are their addresses.
     pub code: Seq<Instr>,
@@ -52,7 +52,7 @@ pub struct Unit {
 }
 
 /// The code of a program.
-#[derive(Debug, PartialEq, Eq, Drop)]
+#[derive(Drop)]
 pub struct Code {
     /// The units, in the order of the source.
     pub units: Seq<Unit>,

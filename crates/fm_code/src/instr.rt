@@ -5,7 +5,7 @@ use fm_base::Op;
 use fm_values::Intrinsic;
 
 /// Evaluates: a word on the stack gives way to another, and the statement goes on.
-#[derive(Clone, Copy, Debug, PartialEq, Eq)]
+#[derive(Clone, Copy)]
 pub enum Eval {
     /// Pushes a word.
     Push(i64),
@@ -32,7 +32,7 @@ pub enum Eval {
 }
 
 /// A loop of a unit.
-#[derive(Clone, Copy, Debug, PartialEq, Eq)]
+#[derive(Clone, Copy)]
 pub struct Loop {
     /// Its number among those of the unit: that of its trips among those of the frame.
     pub number: u32,
@@ -41,7 +41,7 @@ pub struct Loop {
 }
 
 /// Adds to what the statement builds: a line, operands, its loop, or a place for a process. The statement goes on.
-#[derive(Clone, Copy, Debug, PartialEq, Eq)]
+#[derive(Clone, Copy)]
 pub enum Build {
     /// A byte goes last into the text.
     Letter(u8),
@@ -77,7 +77,7 @@ pub enum Build {
 
 /// Ends a statement that concerns the process alone. Unless it says otherwise, the last operand is the
 /// address of the next statement.
-#[derive(Clone, Copy, Debug, PartialEq, Eq)]
+#[derive(Clone, Copy)]
 pub enum End {
     /// Goes on.
     Goto(u32),
@@ -107,7 +107,7 @@ pub enum End {
 
 /// Ends a statement on ports or on other processes. Unless it says otherwise, the last operand is the
 /// address of the next statement.
-#[derive(Clone, Copy, Debug, PartialEq, Eq)]
+#[derive(Clone, Copy)]
 pub enum Meet {
     /// The process ends.
     Stop,
@@ -137,7 +137,7 @@ pub enum Meet {
 
 /// An instruction. A statement is some that evaluate and build, and then one that ends it: nothing jumps
 /// inside a statement, and what ends it tells where the next one begins.
-#[derive(Clone, Copy, Debug, PartialEq, Eq)]
+#[derive(Clone, Copy)]
 pub enum Instr {
     /// Evaluates.
     Eval(Eval),

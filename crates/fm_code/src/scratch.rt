@@ -10,7 +10,7 @@ use fm_base::{Printed, Seq};
 use std::alloc::Global;
 
 /// Where a process is to be put.
-#[derive(Debug, PartialEq, Eq, Drop)]
+#[derive(Drop)]
 pub enum Place {
     /// Where its parent is.
     Here,

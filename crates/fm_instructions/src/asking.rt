@@ -14,7 +14,7 @@ use fm_code::{Ask, Frame, Meet};
 use std::alloc::Global;
 
 /// What stands at a port word.
-#[derive(Clone, Copy, Debug, PartialEq, Eq)]
+#[derive(Clone, Copy)]
 enum Port {
     /// A port, by its slot.
     Slot(i64),

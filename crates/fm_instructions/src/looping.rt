@@ -9,7 +9,7 @@ use fm_code::{Frame, Loop, Turns};
 use fm_values::{add, trips_behind};
 
 /// Where the end of a statement leads, in a loop and behind it.
-#[derive(Clone, Copy, Debug, PartialEq, Eq)]
+#[derive(Clone, Copy)]
 pub(crate) struct Ways {
     /// The address of the body.
     pub(crate) body: u32,

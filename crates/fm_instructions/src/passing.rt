@@ -10,7 +10,7 @@ use fm_base::NoMemory;
 use fm_code::{Build, End, Frame, Instr, Operand, Row, Span};
 
 /// What is told at once of a statement. What it passes stands beside it.
-#[derive(Clone, Copy, Debug, PartialEq, Eq)]
+#[derive(Clone, Copy)]
 pub enum Passing {
     /// It calls a unit with the operands, and goes on at the address.
     Calls(u32, u32),

@@ -4,7 +4,7 @@ use fm_base::Fault;
 use fm_code::{Ask, Turns};
 
 /// What a statement changes in its frame.
-#[derive(Clone, Copy, Debug, PartialEq, Eq)]
+#[derive(Clone, Copy)]
 pub struct Change {
     /// The address of the next statement.
     pub to: u32,
@@ -15,7 +15,7 @@ pub struct Change {
 }
 
 /// How a statement ends that built nothing.
-#[derive(Debug, PartialEq, Eq, Drop)]
+#[derive(Drop)]
 pub enum Ending {
     /// It changes its frame.
     Goes(Change),
@@ -36,7 +36,7 @@ pub enum Ending {
 }
 
 /// How a statement ends. What it built stands beside it.
-#[derive(Debug, PartialEq, Eq, Drop)]
+#[derive(Drop)]
 pub enum Turn {
     /// It prints the line, and goes on at the address.
     Prints(u32),

@@ -20,7 +20,7 @@ pub struct Work {
 }
 
 /// How an instruction leaves its statement that may go on.
-#[derive(Clone, Copy, Debug, PartialEq, Eq)]
+#[derive(Clone, Copy)]
 pub(crate) enum Progress {
     /// It goes on.
     On,
