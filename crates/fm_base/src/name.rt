@@ -8,15 +8,15 @@ use std::alloc::Global;
 use std::marker::Model;
 
 /// The number of a line of the source, from 1.
-#[derive(Clone, Copy, Debug, PartialEq, Eq, PartialOrd, Ord)]
+#[derive(Clone, Copy, PartialEq, Eq, PartialOrd, Ord)]
 pub struct Line(pub u32);
 
 /// A statement label: the number that its digits make.
-#[derive(Clone, Copy, Debug, PartialEq, Eq, PartialOrd, Ord)]
+#[derive(Clone, Copy, PartialEq, Eq, PartialOrd, Ord)]
 pub struct Label(pub u32);
 
 /// A symbolic name, in upper case. Contracts see it as its bytes.
-#[derive(Debug, PartialEq, Eq, PartialOrd, Ord, Drop)]
+#[derive(PartialEq, Eq, PartialOrd, Ord, Drop)]
 pub struct Name {
     /// The bytes, in upper case.
     pub bytes: Seq<u8>,

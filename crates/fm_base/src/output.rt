@@ -11,7 +11,7 @@ use std::alloc::Global;
 const BLANK: u8 = b' ';
 
 /// An item of a printed line.
-#[derive(Debug, PartialEq, Eq, Drop)]
+#[derive(Drop)]
 pub enum Printed {
     /// An integer, in decimal.
     Number(i64),

@@ -15,7 +15,7 @@ use std::marker::Model;
 
 /// The pairs of block and index, each from 1, that lead from main to a process. Contracts see it
 /// as the list of these pairs.
-#[derive(Debug, PartialEq, Eq, PartialOrd, Ord, Drop)]
+#[derive(PartialEq, Eq, PartialOrd, Ord, Drop)]
 pub struct Path {
     /// The pairs, outermost first.
     pub pairs: Seq<(u32, u32)>,
@@ -91,7 +91,7 @@ impl Path {
 }
 
 /// A channel: the process that made it, and its number among that process's channels, from 1.
-#[derive(Debug, PartialEq, Eq, PartialOrd, Ord, Drop)]
+#[derive(PartialEq, Eq, PartialOrd, Ord, Drop)]
 pub struct ChanName {
     /// The path of the maker.
     pub maker: Path,

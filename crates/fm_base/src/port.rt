@@ -7,7 +7,7 @@ use crate::path::ChanName;
 use std::alloc::Global;
 
 /// What a port variable holds where it isn't NULL: an end of a channel.
-#[derive(Debug, PartialEq, Eq, PartialOrd, Ord, Drop)]
+#[derive(PartialEq, Eq, PartialOrd, Ord, Drop)]
 pub enum PortValue {
     /// The writer of this number: an outport.
     Writer(ChanName, u32),

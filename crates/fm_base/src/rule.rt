@@ -8,7 +8,7 @@ use crate::name::Line;
 use std::alloc::{AllocError, AllocFailed, Global};
 
 /// A rule of the language that a program may break. The tens digit of its number is its phase.
-#[derive(Clone, Copy, Debug, PartialEq, Eq)]
+#[derive(Clone, Copy)]
 pub enum Rule {
     /// Bad character.
     E01 = 1,
@@ -142,7 +142,7 @@ impl Rule {
 }
 
 /// A rule that is broken, and the line at which it is.
-#[derive(Clone, Copy, Debug, PartialEq, Eq)]
+#[derive(Clone, Copy)]
 pub struct Refusal {
     /// The line.
     pub line: Line,
@@ -165,7 +165,7 @@ impl Refusal {
 }
 
 /// Why a check gave no program.
-#[derive(Clone, Copy, Debug, PartialEq, Eq)]
+#[derive(Clone, Copy)]
 pub enum CheckFail {
     /// A rule is broken: the least one.
     Refused(Refusal),

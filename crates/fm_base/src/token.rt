@@ -9,7 +9,7 @@ use crate::seq::Seq;
 use std::alloc::Global;
 
 /// The class of a statement's text: which form it may have.
-#[derive(Clone, Copy, Debug, PartialEq, Eq)]
+#[derive(Clone, Copy, PartialEq, Eq)]
 pub enum Class {
     BlockIf,
     LogicalIf,
@@ -116,7 +116,7 @@ impl Class {
 }
 
 /// An operator of expressions.
-#[derive(Clone, Copy, Debug, PartialEq, Eq)]
+#[derive(Clone, Copy, PartialEq, Eq)]
 pub enum Op {
     Eqv,
     Neqv,
@@ -163,7 +163,7 @@ impl Op {
 }
 
 /// A token of a statement.
-#[derive(Debug, PartialEq, Eq, Drop)]
+#[derive(PartialEq, Eq, Drop)]
 pub enum Token {
     /// The keyword of a class.
     Key(Class),

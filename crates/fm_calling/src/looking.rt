@@ -17,7 +17,7 @@ use fm_code::{Ask, Back, Body, Entry, Frame, Row, SharedCode, Start, Unit};
 use std::alloc::Global;
 
 /// What a body does.
-#[derive(Debug, PartialEq, Eq, Drop)]
+#[derive(Drop)]
 pub enum Look {
     /// A step that lets no port go.
     Goes,

@@ -3,7 +3,7 @@
 use fm_base::{Label, Line, Seq};
 
 /// A statement, read from an initial line and its continuation lines.
-#[derive(Debug, PartialEq, Eq, Drop)]
+#[derive(Drop)]
 pub struct Card {
     /// The number of the initial line.
     pub line: Line,

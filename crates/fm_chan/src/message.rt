@@ -5,7 +5,7 @@ use fm_base::Seq;
 use std::marker::Model;
 
 /// A part of a message.
-#[derive(Debug, Drop)]
+#[derive(Drop)]
 pub enum Item {
     /// Words, where a logical is 0 or 1.
     Words(Seq<i64>),
@@ -14,7 +14,7 @@ pub enum Item {
 }
 
 /// What one SEND puts into a channel. Contracts see it as the list of its items as plain data.
-#[derive(Debug, Drop)]
+#[derive(Drop)]
 pub struct Message {
     /// The items, from left to right.
     pub items: Seq<Item>,
@@ -32,7 +32,7 @@ impl Model for Message {
 }
 
 /// What a receive got.
-#[derive(Debug, Drop)]
+#[derive(Drop)]
 pub enum Got {
     /// The oldest message.
     Message(Message),

@@ -9,7 +9,7 @@ use std::alloc::Global;
 use std::marker::Model;
 
 /// One end of a channel. It is made with its channel and never copied; contracts see it as a plain value.
-#[derive(Debug, Drop)]
+#[derive(Drop)]
 pub struct Port {
     value: PortValue,
 }

@@ -3,7 +3,7 @@
 use fm_base::{Fault, NoMemory};
 
 /// Why an evaluation has no result.
-#[derive(Clone, Copy, Debug, PartialEq, Eq)]
+#[derive(Clone, Copy)]
 pub enum Failure {
     /// The first fault from left to right.
     Fault(Fault),

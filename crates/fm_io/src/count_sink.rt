@@ -9,7 +9,7 @@ use std::marker::Model;
 
 /// Keeps only how many bytes were written, and never fails. Contracts see it as a `Tally`: this count,
 /// and whether all was flushed.
-#[derive(Debug, Drop)]
+#[derive(Drop)]
 pub struct CountSink {
     written: u64,
     flushed: bool,

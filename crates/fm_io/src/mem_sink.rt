@@ -16,7 +16,7 @@ use std::marker::Model;
 /// Takes pieces up to its room, and fails at listed writes. Contracts see it as a `Tray`: the bytes
 /// written, the most bytes of a write and of all, the writes so far, those that fail, the faults so
 /// far, and whether all was flushed.
-#[derive(Debug, Drop)]
+#[derive(Drop)]
 pub struct MemSink {
     bytes: Vec<u8>,
     piece: usize,

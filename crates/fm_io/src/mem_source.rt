@@ -13,7 +13,7 @@ use std::marker::Model;
 
 /// Gives bytes in pieces, and fails at listed calls. Contracts see it as a `Feed`: what is left, the
 /// most bytes of a call, the calls so far, those that fail, and the faults so far.
-#[derive(Debug, Drop)]
+#[derive(Drop)]
 pub struct MemSource {
     bytes: Vec<u8>,
     at: usize,
@@ -85,7 +85,7 @@ impl Source for MemSource {
 
 /// Gives bytes in pieces and never fails. Contracts see it as a `SureFeed`: what is left and the most
 /// bytes of a call.
-#[derive(Debug, Drop)]
+#[derive(Drop)]
 pub struct SureSource {
     bytes: Vec<u8>,
     at: usize,

@@ -21,7 +21,7 @@ use std::alloc::Global;
 use std::mem::replace;
 
 /// What came of the end of a statement.
-#[derive(Debug, PartialEq, Eq, Drop)]
+#[derive(Drop)]
 pub(crate) enum Finish {
     /// A step was made, with the line that it put out and its cost.
     Went(Option<Seq<u8>>, u64),

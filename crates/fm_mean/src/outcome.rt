@@ -3,7 +3,7 @@
 use fm_base::{ChanName, Fault, Line, Name, Path, Seq};
 
 /// A line of output, and the process that printed it.
-#[derive(Debug, PartialEq, Eq, Drop)]
+#[derive(Drop)]
 pub struct OutputLine {
     /// The process.
     pub path: Path,
@@ -12,7 +12,7 @@ pub struct OutputLine {
 }
 
 /// What a variable of main holds in the end, element after element in column order. A scalar has one.
-#[derive(Debug, PartialEq, Eq, Drop)]
+#[derive(Drop)]
 pub enum Shown {
     /// Integers.
     Numbers(Seq<i64>),
@@ -23,7 +23,7 @@ pub enum Shown {
 }
 
 /// A variable of main, and what it holds.
-#[derive(Debug, PartialEq, Eq, Drop)]
+#[derive(Drop)]
 pub struct ShownVariable {
     /// The name.
     pub name: Name,
@@ -32,7 +32,7 @@ pub struct ShownVariable {
 }
 
 /// A process that has faulted.
-#[derive(Debug, PartialEq, Eq, Drop)]
+#[derive(Drop)]
 pub struct FaultAt {
     /// The process.
     pub path: Path,
@@ -43,7 +43,7 @@ pub struct FaultAt {
 }
 
 /// What a process waits for.
-#[derive(Debug, PartialEq, Eq, Drop)]
+#[derive(Drop)]
 pub enum At {
     /// A message of the channel.
     Receive(ChanName),
@@ -52,7 +52,7 @@ pub enum At {
 }
 
 /// A process that waits.
-#[derive(Debug, PartialEq, Eq, Drop)]
+#[derive(Drop)]
 pub struct Wait {
     /// The process.
     pub path: Path,
@@ -66,7 +66,7 @@ pub struct Wait {
 ///
 /// A process holds the outports in its variables and in its starts that wait. What an ended process
 /// keeps to give back is held by the process that started it. An outport in a message is held by nobody.
-#[derive(Debug, PartialEq, Eq, Drop)]
+#[derive(Drop)]
 pub struct Holder {
     /// The channel.
     pub channel: ChanName,
@@ -77,7 +77,7 @@ pub struct Holder {
 }
 
 /// What a run shows when it has ended. Lines, faults and waits stand in path order.
-#[derive(Debug, PartialEq, Eq, Drop)]
+#[derive(Drop)]
 pub struct Outcome {
     /// The output, process after process.
     pub lines: Seq<OutputLine>,

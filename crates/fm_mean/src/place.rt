@@ -3,7 +3,7 @@
 use fm_base::Seq;
 
 /// Some elements of a variable, one behind the other: a scalar, an element or a whole array.
-#[derive(Clone, Copy, Debug, PartialEq, Eq)]
+#[derive(Clone, Copy)]
 pub struct Span {
     /// The place of the variable among those of the unit, from 0.
     pub variable: u32,
@@ -14,7 +14,7 @@ pub struct Span {
 }
 
 /// A formal that gives back what it has, and the span that gets it.
-#[derive(Clone, Copy, Debug, PartialEq, Eq)]
+#[derive(Clone, Copy)]
 pub struct Back {
     /// The place of the formal among the variables of its unit.
     pub formal: u32,
@@ -23,7 +23,7 @@ pub struct Back {
 }
 
 /// An argument or an item of a message, evaluated.
-#[derive(Debug, PartialEq, Eq, Drop)]
+#[derive(Drop)]
 pub enum Actual {
     /// Words, and the span that gets them back, if one does.
     Given(Seq<i64>, Option<Span>),

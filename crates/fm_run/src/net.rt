@@ -26,7 +26,7 @@ use std::alloc::Global;
 use std::sync::Arc;
 
 /// What a process did in its piece: local steps, and then one event, if it came to one that it could do.
-#[derive(Clone, Copy, Debug, PartialEq, Eq)]
+#[derive(Clone, Copy)]
 pub struct Piece {
     /// The number of its steps.
     pub steps: u32,
@@ -39,7 +39,7 @@ pub struct Piece {
 }
 
 /// What is known of the children that a process waits for.
-#[derive(Clone, Copy, Debug, PartialEq, Eq)]
+#[derive(Clone, Copy)]
 pub struct Awaited {
     /// How many of them are known to have ended, from the first on.
     pub ended: usize,

@@ -51,7 +51,7 @@ pub struct Actor {
 }
 
 /// The children that a process waits for.
-#[derive(Clone, Copy, Debug, PartialEq, Eq)]
+#[derive(Clone, Copy)]
 pub struct Family {
     /// The number of the first one.
     pub first: u32,

@@ -21,7 +21,7 @@ use fm_proc::Advanced;
 use std::alloc::Global;
 
 /// What a process did in its piece: statements of its own, and then one event, if it came to one that it could do.
-#[derive(Clone, Copy, Debug, PartialEq, Eq)]
+#[derive(Clone, Copy)]
 pub struct CodePiece {
     /// The number of its steps.
     pub steps: u32,

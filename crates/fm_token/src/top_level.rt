@@ -5,7 +5,7 @@ ghost use Rattle.fm_token.specs.TopLevel.{close_of, has_top};
 ghost use Rattle.fm_token.specs.Steps.{after_byte, is_at_top, is_last_close};
 
 /// What stands before a position of a text.
-#[derive(Clone, Copy, Debug)]
+#[derive(Clone, Copy)]
 pub struct Before {
     /// Whether the position is inside a constant.
     pub inside: bool,

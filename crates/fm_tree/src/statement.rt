@@ -26,7 +26,7 @@ pub struct Defined {
 }
 
 /// What INTENT says of a formal argument.
-#[derive(Clone, Copy, Debug, PartialEq, Eq)]
+#[derive(Clone, Copy)]
 pub enum Way {
     In,
     Out,
@@ -34,7 +34,7 @@ pub enum Way {
 }
 
 /// The label behind DO, and whether a comma stands behind it.
-#[derive(Clone, Copy, Debug, PartialEq, Eq)]
+#[derive(Clone, Copy)]
 pub struct LoopLabel {
     pub label: Label,
     pub comma: bool,
@@ -58,7 +58,7 @@ pub enum Item {
 }
 
 /// How the unit of a WRITE is written.
-#[derive(Clone, Copy, Debug, PartialEq, Eq)]
+#[derive(Clone, Copy)]
 pub enum WriteUnit {
     Star,
     Six,

@@ -65,7 +65,7 @@ fn kid_count(process: &PlainProc) -> usize
 }
 
 /// The children that a process waits for: the number of the first one, and how many they are.
-#[derive(Clone, Copy, Debug, PartialEq, Eq)]
+#[derive(Clone, Copy)]
 pub(crate) struct Family {
     /// The number of the first one.
     pub first: u32,

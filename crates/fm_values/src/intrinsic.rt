@@ -9,7 +9,7 @@ use crate::arithmetic::{negate, subtract};
 use fm_base::Fault;
 
 /// An intrinsic function.
-#[derive(Clone, Copy, Debug, PartialEq, Eq)]
+#[derive(Clone, Copy)]
 pub enum Intrinsic {
     /// Absolute value.
     Abs,

@@ -4,7 +4,7 @@ ghost use Rattle.std.specs.Prelude.{◌≡◌};
 ghost use Rattle.fm_values.specs.Values.{is_true, is_truth, truth_word, word_of};
 
 /// The value of an expression.
-#[derive(Clone, Copy, Debug, PartialEq, Eq)]
+#[derive(Clone, Copy)]
 pub enum Value {
     /// An INTEGER.
     Number(i64),

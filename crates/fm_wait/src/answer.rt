@@ -3,7 +3,7 @@
 use fm_base::{Path, Seq};
 
 /// Whom the waiting processes wait for, and the cycles among them.
-#[derive(Debug, PartialEq, Eq, Drop)]
+#[derive(Drop)]
 pub struct Waits {
     /// For each wait of the outcome, in its order, whom it is for. None where the wait is lost.
     pub on: Seq<Option<Path>>,
