@@ -16,9 +16,14 @@ use fm_values::{Intrinsic, add, apply_words, is_truth, multiply, negate, truth_w
 pub(crate) fn distance(low: i64, extent: u32, subscript: i64) -> Result<i64, Fault>
     ensures { result ≡ distance low extent subscript }
 {
-    match subscript.checked_sub(low) {
-        Some(distance) if low <= subscript && distance < i64::from(extent) => Ok(distance),
-        _ => Err(Fault::Subscript),
+    if subscript < low {
+        return Err(Fault::Subscript);
+    }
+    let distance = subscript.abs_diff(low);
+    if distance < u64::from(extent) {
+        Ok(distance as i64)
+    } else {
+        Err(Fault::Subscript)
     }
 }
 

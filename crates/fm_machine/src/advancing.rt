@@ -174,34 +174,12 @@ pub fn proceed(
                 cost = both(cost, more)?;
                 steps += 1;
             }
-            Finish::Asks(ask) => {
-                let next = Look::Asks(ask);
-                return Ok(Made {
-                    steps,
-                    cost,
-                    lines,
-                    next,
-                });
-            }
-            Finish::Stuck => {
-                let next = Look::Stuck;
-                return Ok(Made {
-                    steps,
-                    cost,
-                    lines,
-                    next,
-                });
-            }
+            Finish::Asks(ask) => return Ok(Made::new(steps, cost, lines, Look::Asks(ask))),
+            Finish::Stuck => return Ok(Made::new(steps, cost, lines, Look::Stuck)),
         }
     }
     let next = next_look(alloc, work, body)?;
-    let steps = slice;
-    Ok(Made {
-        steps,
-        cost,
-        lines,
-        next,
-    })
+    Ok(Made::new(slice, cost, lines, next))
 }
 
 /// Does statements of a process, as many as `slice` at most, from a copy of its start, and stops where the

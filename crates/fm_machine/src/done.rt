@@ -24,6 +24,20 @@ pub struct Made {
     pub next: Look,
 }
 
+impl Made {
+    /// So many statements, with their cost and lines, and what the next one does.
+    pub(crate) fn new(steps: u32, cost: u64, lines: Seq<Seq<u8>>, next: Look) -> Made
+        ensures { result ≡ record { steps = steps; cost = cost; lines = lines; next = next } }
+    {
+        Made {
+            steps,
+            cost,
+            lines,
+            next,
+        }
+    }
+}
+
 fn asked_in(look: Look) -> Option<Ask>
     ensures { result ≡ asked_in look }
 {

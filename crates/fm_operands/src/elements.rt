@@ -55,6 +55,7 @@ pub fn no_element(out: &mut Seq<Instr>) -> Result<(), NoMemory>
     out.push(Instr::Eval(Eval::Subscript(0, 0)))
 }
 
+/// Whether an array has so many dimensions as there are subscripts, and has an element.
 pub fn has_elements(variable: &Variable, subscripts: usize) -> bool
     ensures { result ≡ has_elements variable.now subscripts }
 {

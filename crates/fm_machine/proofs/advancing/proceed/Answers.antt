@@ -14,16 +14,16 @@ steps-preserved c = record {
 }
 
 pub returns-in-Asks-clause-ran : goal.returns-in-Asks-clause-ran
-returns-in-Asks-clause-ran c =
-    many_kept c.steps.steps c.go_on_alone-alone.result _ c.args.body.now c.steps.body c.go_on_alone-alone.new.body c.step.new.body c.steps.lines c.steps.cost c.in_ok-cost.cost _ c.steps.invariant.ran c.go_on_alone-alone.ensures.ran (search rules) refl (search rules) refl
+returns-in-Asks-clause-ran c = rw c.new.ensures (
+    many_kept c.steps.steps c.go_on_alone-alone.result _ c.args.body.now c.steps.body c.go_on_alone-alone.new.body c.step.new.body c.steps.lines c.steps.cost c.in_ok-cost.cost _ c.steps.invariant.ran c.go_on_alone-alone.ensures.ran (search rules) refl (search rules) refl)
 
 pub returns-in-Stuck-clause-ran : goal.returns-in-Stuck-clause-ran
-returns-in-Stuck-clause-ran c =
-    many_kept c.steps.steps c.go_on_alone-alone.result _ c.args.body.now c.steps.body c.go_on_alone-alone.new.body c.step.new.body c.steps.lines c.steps.cost c.in_ok-cost.cost _ c.steps.invariant.ran c.go_on_alone-alone.ensures.ran (search rules) refl (search rules) refl
+returns-in-Stuck-clause-ran c = rw c.new-in-Stuck.ensures (
+    many_kept c.steps.steps c.go_on_alone-alone.result _ c.args.body.now c.steps.body c.go_on_alone-alone.new.body c.step.new.body c.steps.lines c.steps.cost c.in_ok-cost.cost _ c.steps.invariant.ran c.go_on_alone-alone.ensures.ran (search rules) refl (search rules) refl)
 
 pub returns-clause-ran : goal.returns-clause-ran
 returns-clause-ran c = elim c.steps-test.branch [
   | else-steps-test w ↦ search rules
   | then-steps-test+in_ok-cost+then-steps-slice w ↦
-      many_kept c.steps.steps w.go_on_alone-alone.result c.args.slice c.args.body.now c.steps.body w.go_on_alone-alone.new.body c.steps-test.body c.steps.lines c.steps.cost w.in_ok-cost.cost c.steps-test.cost c.steps.invariant.ran w.go_on_alone-alone.ensures.ran (search rules) (search rules) (search rules) (search rules)
+      rw c.new-2.ensures (many_kept c.steps.steps w.go_on_alone-alone.result c.args.slice c.args.body.now c.steps.body w.go_on_alone-alone.new.body c.steps-test.body c.steps.lines c.steps.cost w.in_ok-cost.cost c.steps-test.cost c.steps.invariant.ran w.go_on_alone-alone.ensures.ran (search rules) (search rules) (search rules) (search rules))
 ]
