@@ -13,7 +13,7 @@ use fm_code::{Eval, Frame};
 use fm_values::{Intrinsic, add, apply_words, is_truth, multiply, negate, truth_word};
 
 /// A subscript from its lower bound on; Subscript where it isn't within the extent.
-pub(crate) fn distance(low: i64, extent: u32, subscript: i64) -> Result<i64, Fault>
+pub fn distance(low: i64, extent: u32, subscript: i64) -> Result<i64, Fault>
     ensures { result ≡ distance low extent subscript }
 {
     if subscript < low {
@@ -65,7 +65,7 @@ fn dimension(work: &mut Work, low: i64, extent: u32) -> Result<Progress, NoMemor
 }
 
 /// The word of the frame with this number.
-pub(crate) fn word_of(frame: &Frame, number: i64) -> Option<i64>
+pub fn word_of(frame: &Frame, number: i64) -> Option<i64>
     ensures { result ≡ word_of frame.now number }
 {
     if number < 0 {

@@ -9,16 +9,14 @@ mod changing;
 mod deciding;
 mod evaluating;
 mod looping;
-mod onward;
 mod passing;
 mod statements;
-mod step;
 mod turn;
-mod values;
 mod work;
 
 pub use changing::{change, go_to, write};
-pub use onward::go_on;
+pub use evaluating::{distance, word_of};
+pub use looping::{Ways, fewer};
 pub use passing::{Passing, tell_passing};
 pub use statements::statement;
 pub use turn::{Change, Ending, Turn};

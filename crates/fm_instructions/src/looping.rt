@@ -10,11 +10,11 @@ use fm_values::{add, trips_behind};
 
 /// Where the end of a statement leads, in a loop and behind it.
 #[derive(Clone, Copy)]
-pub(crate) struct Ways {
+pub struct Ways {
     /// The address of the body.
-    pub(crate) body: u32,
+    pub body: u32,
     /// The address behind the loop.
-    pub(crate) behind: u32,
+    pub behind: u32,
 }
 
 /// The trips that are left are kept, and the variable gets a value.
@@ -49,7 +49,7 @@ pub(crate) fn enter(counts: Loop, ways: Ways, from: i64, to: i64, by: i64, frame
 }
 
 /// The trips that are left behind the next one, after a trip.
-pub(crate) fn fewer(behind: Option<u64>) -> Option<u64>
+pub fn fewer(behind: Option<u64>) -> Option<u64>
     ensures { result ≡ fewer behind }
 {
     match behind {

@@ -12,7 +12,7 @@ use std::alloc::Global;
 #[derive(Drop)]
 pub struct Work {
     /// The stack of operands.
-    pub(crate) stack: Stack,
+    pub stack: Stack,
     /// What is built.
     pub scratch: Scratch,
     /// Frames that returned, to be used again: what is in them means nothing.

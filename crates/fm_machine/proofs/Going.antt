@@ -10,7 +10,7 @@ use Rattle.fm_code.specs.Fused.{AreFused}
 use Rattle.fm_code.specs.Acts.{statement}
 use Rattle.fm_machine.specs.Finished.{RunsFrame}
 use Rattle.fm_code.specs.Statements.{Action, Own, Ran, CodeUnit, ran, unit_at, code_in, action_by, action_of, turn_of, with_frame, run, not_moved, grown, one_more}
-use Rattle.fm_instructions.specs.Onward.{gone, Gone}
+use Rattle.fm_fused.specs.Onward.{gone, Gone}
 use Rattle.fm_machine.proofs.Slices.{one_step, some_ran}
 
 grown_none : (r : Ran) → grown r (not_moved r.body) ≡ r

@@ -17,8 +17,9 @@ use crate::performing::{
 };
 use fm_base::{NoMemory, Seq};
 use fm_calling::{Look, unit_at};
-use fm_code::{Body, Frame, Fused, Instr, copy_body};
-use fm_instructions::{Passing, Turn, Work, go_on, statement, tell_passing};
+use fm_code::{Body, Frame, Fused, Instr, Stack, copy_body};
+use fm_fused::go_on;
+use fm_instructions::{Passing, Turn, Work, statement, tell_passing};
 use std::alloc::Global;
 use std::sync::Arc;
 
@@ -120,12 +121,12 @@ fn both(first: u64, second: u64) -> Result<u64, NoMemory>
 
 /// Does statements that change nothing but their frame, as many as `slice` at most. How many: each costs 1.
 #[inline(never)]
-fn go_on_many(fused: &[Fused], work: &mut Work, frame: &mut Frame, slice: u32) -> u32
+fn go_on_many(fused: &[Fused], stack: &mut Stack, frame: &mut Frame, slice: u32) -> u32
     ensures ran { (code : List Instr) → AreFused fused.now code → RunsFrame code result frame.old frame.new }
     ensures within { result ≤ slice }
 {
     'steps: for steps in 0..slice {
-        if !go_on(fused, work, frame) {
+        if !go_on(fused, stack, frame) {
             return steps;
         }
     }
@@ -134,13 +135,13 @@ fn go_on_many(fused: &[Fused], work: &mut Work, frame: &mut Frame, slice: u32) -
 
 /// Does statements of a body that change nothing but its innermost frame, as many as `slice` at most. How
 /// many: each costs 1.
-fn go_on_alone(work: &mut Work, body: &mut Body, slice: u32) -> u32
+fn go_on_alone(stack: &mut Stack, body: &mut Body, slice: u32) -> u32
     ensures ran { run result body.old ≡ Some (record { body = body.new; lines = []; cost = result }) }
     ensures within { result ≤ slice }
 {
     let number = body.frame.unit;
     match unit_at(&body.code, number) {
-        Some(_) => go_on_many(body.code.fused(number), work, &mut body.frame, slice),
+        Some(_) => go_on_many(body.code.fused(number), stack, &mut body.frame, slice),
         None => 0,
     }
 }
@@ -162,7 +163,7 @@ pub fn proceed(
     let mut cost: u64 = 0;
     let mut steps: u32 = 0;
     'steps: while steps < slice {
-        let alone = go_on_alone(work, body, slice - steps);
+        let alone = go_on_alone(&mut work.stack, body, slice - steps);
         cost = both(cost, u64::from(alone))?;
         steps += alone;
         if steps == slice {
