@@ -14,7 +14,7 @@ use Rattle.fm_mean.specs.Process.{Proc}
 use Rattle.fm_mean.specs.Steps.{ask, language, step}
 use Rattle.fm_mean.proofs.Lawful.{lawful}
 use Rattle.fm_bodies.specs.Processes.{CodeProc}
-use Rattle.fm_proc.specs.Performs.{MakesNew}
+use Rattle.fm_events.specs.Performs.{MakesNew}
 use Rattle.fm_stacks.specs.declared.pieces.CodePiece.{CodePiece}
 use Rattle.fm_stacks.specs.Pieces as code
 use Rattle.fm_stacks.specs.Pieces.{IsNewAlong, IsNewAt}

@@ -14,9 +14,9 @@ use Rattle.fm_bodies.specs.Slots.{Slots}
 use Rattle.fm_bodies.specs.Processes.{CodeProc, Kid, Joining, kid_of, child_of, children_of, began}
 use Rattle.fm_proc.specs.declared.beginning.Draft.{Draft}
 use Rattle.fm_proc.specs.Drafts.{IsReady, blank, child_in, begun, all_begun}
-use Rattle.fm_proc.specs.Told.{look_of, is_running}
-use Rattle.fm_proc.specs.Performs.{Performs}
-use Rattle.fm_proc.proofs.Asked.{asks_running}
+use Rattle.fm_events.specs.Told.{look_of, is_running}
+use Rattle.fm_events.specs.Performs.{Performs}
+use Rattle.fm_events.proofs.Asked.{asks_running}
 
 -- The children.
 

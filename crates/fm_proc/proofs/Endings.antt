@@ -8,9 +8,9 @@ use Rattle.fm_calling.specs.declared.looking.Look.TheVariants.{Asks}
 use Rattle.fm_net.specs.Machine.{Place, Nothing, reply_with}
 use Rattle.fm_bodies.specs.Slots.{Slots, all_left, vacated}
 use Rattle.fm_bodies.specs.Processes.{CodeProc, Ended, ended, ended_frame}
-use Rattle.fm_proc.specs.Told.{look_of, is_running}
-use Rattle.fm_proc.specs.Performs.{Performs}
-use Rattle.fm_proc.proofs.Asked.{asks_running}
+use Rattle.fm_events.specs.Told.{look_of, is_running}
+use Rattle.fm_events.specs.Performs.{Performs}
+use Rattle.fm_events.proofs.Asked.{asks_running}
 
 pub ended_so : (p : Place) (y : CodeProc) (cs after : Chans) (b b' : Body) (slots : Slots) (ports : List ℤ) (drops : List PortValue) → look_of y ≡ Asks ask.End → is_running y ≡ true → y.body ≡ Some b → b' ≡ record b { frame = (ended_frame b b.frame b.below).0; below = [] } → ports ≡ (ended_frame b b.frame b.below).1 → slots ≡ all_left y.slots ports → drops ≡ vacated y.slots ports → after ≡ all_shed drops cs → Performs p y cs (record y { phase = Ended; body = Some b'; slots = slots }) [] after 1
 ended_so p y cs after b b' slots ports drops looks runs is e f g h shed = record {

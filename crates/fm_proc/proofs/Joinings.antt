@@ -25,11 +25,11 @@ use Rattle.fm_slots.proofs.RoomLaws.{fewer}
 use Rattle.fm_slots.proofs.Roomy.{room_within}
 use Rattle.fm_slots.proofs.Vacated.{same_vacated}
 use Rattle.fm_proc.specs.declared.joining.OpenJoin.{OpenJoin}
-use Rattle.fm_proc.specs.Phases.{left_by}
-use Rattle.fm_proc.specs.Performs.{Joins}
+use Rattle.fm_proc.specs.Lefts.{left_by}
+use Rattle.fm_events.specs.Performs.{Joins}
 use Rattle.fm_proc.specs.Gains.{alone, gained, mine_of, first_kid, other_kids, lefts_back}
 use Rattle.fm_proc.specs.Joinings.{HasJoined, HasRoomToJoin, kids_of}
-use Rattle.fm_proc.proofs.Asked.{asks_joining}
+use Rattle.fm_events.proofs.Asked.{asks_joining}
 
 -- What the parent has doesn't depend on the child before.
 

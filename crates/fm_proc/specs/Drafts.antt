@@ -9,7 +9,7 @@ use Rattle.fm_bodies.specs.Frames.{moved_over}
 use Rattle.fm_bodies.specs.Processes.{CodeProc, Running, first_frame}
 use Rattle.fm_slots.specs.Rooms.{HasRoom, slots_in, span_words}
 use Rattle.fm_proc.specs.declared.beginning.Draft.{Draft}
-use Rattle.fm_proc.specs.Phases.{boxed_of}
+use Rattle.fm_events.specs.Phases.{boxed_of}
 
 -- the body with which a child begins, before the words of its start come and what it gives back
 abbrev pub blank_body : Body → Start → Body

@@ -10,8 +10,8 @@ use Rattle.fm_bodies.specs.Processes.{CodeProc, Kid, Running, Joining, joining_w
 use Rattle.fm_slots.specs.Joins.{HasRoomFor}
 use Rattle.fm_proc.specs.declared.joining.OpenJoin.{OpenJoin}
 use Rattle.fm_proc.specs.Gains.{gained, joined_by, mine_of}
-use Rattle.fm_proc.specs.Phases.{kid_of}
-use Rattle.fm_proc.specs.Told.{look_of}
+use Rattle.fm_events.specs.Phases.{kid_of}
+use Rattle.fm_events.specs.Told.{look_of}
 
 -- the children that aren't joined yet
 abbrev pub kids_of : OpenJoin → List Kid

@@ -1,9 +1,5 @@
-pub mod Phases
-pub mod Told
+pub mod Lefts
 pub mod Runs
-pub mod Performs
-pub mod Events
-pub mod Makes
 pub mod Gains
 pub mod Joinings
 pub mod Rooms

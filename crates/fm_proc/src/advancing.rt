@@ -2,13 +2,13 @@
 
 ghost use Rattle.std.specs.Prelude.{◌≡◌, ◌≢◌, ◌≤◌, ◌++◌, true, false, IfOk, OnOk};
 ghost use Rattle.fm_bodies.specs.Needs.{is_local};
-ghost use Rattle.fm_proc.specs.Phases.{proc_of};
+ghost use Rattle.fm_events.specs.Phases.{proc_of};
 ghost use Rattle.fm_proc.specs.Runs.{Runs};
-ghost use Rattle.fm_proc.specs.Told.{is_running, look_of};
+ghost use Rattle.fm_events.specs.Told.{is_running, look_of};
 
-use crate::process::Process;
 use fm_base::{NoMemory, Seq};
 use fm_calling::Look;
+use fm_events::Process;
 use fm_instructions::Work;
 use fm_machine::{Made, proceed};
 use std::alloc::Global;

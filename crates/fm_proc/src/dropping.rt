@@ -8,9 +8,9 @@ ghost use Rattle.fm_bodies.specs.Slots.{vacated};
 ghost use Rattle.fm_bodies.specs.Processes.{body_words};
 ghost use Rattle.fm_proc.specs.Rooms.{Sheds, body_room, frame_room, unit_room, words_by};
 
-use crate::units::ports_at;
 use fm_chan::Port;
 use fm_code::{Body, Frame, SharedCode, Span};
+use fm_events::ports_at;
 use fm_slots::{Slots, vacate_words, words_of};
 
 /// Lets go the ports at the words of a span.

@@ -6,17 +6,15 @@ ghost use Rattle.fm_calling.specs.declared.looking.Look.TheVariants.{Asks};
 ghost use Rattle.fm_chan.specs.Bodies.{chans_of};
 ghost use Rattle.fm_chan.specs.Woken.{WakesAll};
 ghost use Rattle.fm_bodies.specs.Processes.{ended_frame};
-ghost use Rattle.fm_proc.specs.Phases.{proc_of};
-ghost use Rattle.fm_proc.specs.Told.{is_running, look_of};
-ghost use Rattle.fm_proc.specs.Performs.{Performs};
+ghost use Rattle.fm_events.specs.Phases.{proc_of};
+ghost use Rattle.fm_events.specs.Told.{is_running, look_of};
+ghost use Rattle.fm_events.specs.Performs.{Performs};
 
-use crate::process::{Phase, Process};
-use crate::shedding::{shed, vacate};
-use crate::units::{formals_at, ports_at};
 use fm_base::{NoMemory, Path};
 use fm_calling::{push_frame_ports, push_start_ports};
 use fm_chan::Channels;
 use fm_code::{Body, Frame, Row};
+use fm_events::{Phase, Process, formals_at, ports_at, shed, vacate};
 use fm_slots::{Slots, keep};
 use std::alloc::Global;
 

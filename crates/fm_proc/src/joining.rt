@@ -13,21 +13,20 @@ ghost use Rattle.fm_bodies.specs.Processes.{CodeProc, emptied, given_back, joini
 ghost use Rattle.fm_bodies.specs.Slots as bodies;
 ghost use Rattle.fm_slots.specs.Helds.{held};
 ghost use Rattle.fm_slots.specs.Joins.{GivesSo, HasRoomFor, LeavesRoomFor, joined};
-ghost use Rattle.fm_proc.specs.Phases.{kid_of, left_by, left_of, proc_of};
-ghost use Rattle.fm_proc.specs.Told.{is_joining, look_of};
-ghost use Rattle.fm_proc.specs.Performs.{Joins};
+ghost use Rattle.fm_events.specs.Phases.{kid_of, proc_of};
+ghost use Rattle.fm_proc.specs.Lefts.{left_by, left_of};
+ghost use Rattle.fm_events.specs.Told.{is_joining, look_of};
+ghost use Rattle.fm_events.specs.Performs.{Joins};
 ghost use Rattle.fm_proc.specs.Gains.{alone, first_kid, gained, mine_of, other_kids};
 ghost use Rattle.fm_proc.specs.Joinings.{HasJoined, HasRoomToJoin};
 ghost use Rattle.fm_proc.specs.Rooms.{body_room, left_room};
 
 use crate::dropping::drop_body;
-use crate::going::go_on;
 use crate::measuring::{joining_words, room_with};
-use crate::process::{Kid, Phase, Process};
-use crate::shedding::shed;
 use fm_base::{NoMemory, Seq};
 use fm_chan::{Channels, Port};
 use fm_code::{Back, Body, Row};
+use fm_events::{Kid, Phase, Process, go_on, shed};
 use fm_slots::{Child, Gains, Slots, give_back};
 use std::alloc::Global;
 use std::collections::VecDeque;

@@ -3,13 +3,12 @@
 ghost use Rattle.std.specs.Prelude.{◌≡◌, ◌+◌, IfOk, map};
 ghost use Rattle.fm_code.specs.Passing.{back_words};
 ghost use Rattle.fm_bodies.specs.Processes.{joining_words};
-ghost use Rattle.fm_proc.specs.Phases.{kid_of, proc_of};
+ghost use Rattle.fm_events.specs.Phases.{kid_of, proc_of};
 ghost use Rattle.fm_proc.specs.Rooms.{body_room, frame_room, frames_room, left_room, unit_room};
 
-use crate::process::{Kid, Process};
-use crate::units::ports_at;
 use fm_base::NoMemory;
 use fm_code::{Back, Body, Frame, SharedCode};
+use fm_events::{Kid, Process, ports_at};
 use fm_slots::span_words;
 
 fn back_words(backs: &[Back]) -> Result<u64, NoMemory>

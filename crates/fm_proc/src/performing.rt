@@ -4,22 +4,16 @@ ghost use Rattle.std.specs.Prelude.{◌≡◌, [], map, true, IfOk, IsOk, OnErr,
 ghost use Rattle.fm_calling.specs.declared.looking.Look.TheVariants.{Asks};
 ghost use Rattle.fm_chan.specs.Bodies.{chans_of};
 ghost use Rattle.fm_chan.specs.Woken.{WakesAll};
-ghost use Rattle.fm_proc.specs.Performs.{CanPerform, MakesNew, Performs, StaysOnWant, is_at_port};
-ghost use Rattle.fm_proc.specs.Phases.{boxed_of, proc_of};
-ghost use Rattle.fm_proc.specs.Told.{look_of};
+ghost use Rattle.fm_events.specs.Performs.{CanPerform, MakesNew, Performs, StaysOnWant, is_at_port};
+ghost use Rattle.fm_events.specs.Phases.{boxed_of, proc_of};
+ghost use Rattle.fm_events.specs.Told.{look_of};
 
 use crate::beginning::begin;
 use crate::ending::end;
-use crate::failing::fail;
-use crate::letting::let_go;
-use crate::making::{make_channel, make_merger};
-use crate::probing::probe;
-use crate::process::Process;
-use crate::receiving::receive;
-use crate::sending::send;
 use fm_base::{NoMemory, Path};
 use fm_chan::Channels;
 use fm_code::Ask;
+use fm_events::{Process, fail, let_go, make_channel, make_merger, probe, receive, send};
 use fm_instructions::Work;
 use std::alloc::Global;
 

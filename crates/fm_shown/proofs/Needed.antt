@@ -17,7 +17,7 @@ use Rattle.fm_calling.specs.Looks.{look_in}
 use Rattle.fm_bodies.specs.Frames.{Held}
 use Rattle.fm_bodies.specs.Processes.{CodeProc, Kid, Phase, Running, Joining, Ended, Faulted, asks_by, joining_by, joins_by, probes_by, receives_by, running_by, runs_by, sends_by}
 use Rattle.fm_bodies.specs.Needs.{need_in, need_of}
-use Rattle.fm_proc.specs.Told.{look_by}
+use Rattle.fm_events.specs.Told.{look_by}
 use Rattle.fm_stacks.specs.declared.entries.Entry.{Entry}
 use Rattle.fm_stacks.specs.Kept.{IsTold}
 use Rattle.fm_stacks.specs.Readings.{proc_in}

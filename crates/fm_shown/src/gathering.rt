@@ -4,7 +4,7 @@ ghost use Rattle.std.specs.Prelude.{◌≡◌, ◌++◌, ◌∷◌, Some, [], ma
 ghost use Rattle.std.specs.List.{flat_map};
 ghost use Rattle.std.specs.FinMap.{entries};
 ghost use Rattle.fm_numbered.specs.Rows.{place_at};
-ghost use Rattle.fm_proc.specs.Phases.{phase_of};
+ghost use Rattle.fm_events.specs.Phases.{phase_of};
 ghost use Rattle.fm_stacks.specs.Kept.{AreKept, HasFamily, IsTold};
 ghost use Rattle.fm_stacks.specs.Readings.{order_of, proc_in, procs_of, state_of};
 ghost use Rattle.fm_alike.specs.Shown.{lines_at, fault_at, fault_in, wait_at, outcome_by};
@@ -13,8 +13,8 @@ use crate::holders::holders_of;
 use crate::variables::shown_all;
 use crate::waits::push_wait;
 use fm_base::{NoMemory, Path, Seq};
+use fm_events::{Phase, Process};
 use fm_mean::{FaultAt, Outcome, OutputLine, Wait};
-use fm_proc::{Phase, Process};
 use fm_rules::Program;
 use fm_stacks::{Entries, Entry, Stacks};
 use std::alloc::Global;

@@ -9,16 +9,16 @@ ghost use Rattle.fm_values.specs.Values.{is_truth};
 ghost use Rattle.fm_mean.specs.Outcome.{shown_by, shown_variables};
 ghost use Rattle.fm_standing.specs.Standing.{item_in, port_by, values_in};
 ghost use Rattle.fm_bodies.specs.Slots.{no_port, port_in};
-ghost use Rattle.fm_proc.specs.Phases.{proc_of};
+ghost use Rattle.fm_events.specs.Phases.{proc_of};
 ghost use Rattle.fm_alike.specs.Shown.{body_shown, frame_shown, shown_all};
 ghost use Rattle.fm_shown.specs.Variables.{own_frame, shown_entry};
 
 use fm_base::{ChanName, NoMemory, Path, Seq};
 use fm_code::{Body, Frame};
+use fm_events::Process;
 use fm_frame::variables_of;
 use fm_maps::NameMap;
 use fm_mean::{Shown, ShownVariable};
-use fm_proc::Process;
 use fm_rules::Program;
 use fm_slots::Slots;
 use fm_symbols::Variable;

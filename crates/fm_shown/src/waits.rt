@@ -14,8 +14,8 @@ ghost use Rattle.fm_shown.specs.Waits.{received_by, joined_by, asked_by, told_by
 use fm_base::{Line, NoMemory, Path};
 use fm_calling::{Look, line_of};
 use fm_code::{Ask, Body};
+use fm_events::{Phase, Process};
 use fm_mean::{At, Wait};
-use fm_proc::{Phase, Process};
 use fm_slots::Slots;
 use fm_stacks::{Entries, Entry, number_behind};
 use std::alloc::Global;

@@ -14,7 +14,7 @@ use Rattle.fm_bodies.specs.Slots.{Slots}
 use Rattle.fm_proc.specs.declared.joining.OpenJoin.{OpenJoin}
 use Rattle.fm_proc.specs.Joinings.{HasRoomToJoin}
 use Rattle.fm_proc.specs.declared.joining.Left.{Left}
-use Rattle.fm_proc.specs.Phases.{left_by, left_of}
+use Rattle.fm_proc.specs.Lefts.{left_by, left_of}
 use Rattle.fm_proc.specs.Rooms.{left_room, lefts_room}
 use Rattle.fm_proc.proofs.Joinings.{less_room}
 use Rattle.fm_stacks.specs.declared.entries.Entries.{Entries}

@@ -20,8 +20,8 @@ use Rattle.fm_calling.specs.declared.looking.Look.TheVariants as look
 use Rattle.fm_bodies.specs.Frames.{Held}
 use Rattle.fm_bodies.specs.Slots.{Slots, in_slot}
 use Rattle.fm_bodies.specs.Processes.{CodeProc, Kid, Phase, Running, Joining, Ended, Faulted, asks, asks_by, at_the_end, child_of, children_of, joining_by, joins_by, kid_of, probes_by, received, receives_by, running_by, runs_by, sends_by}
-use Rattle.fm_proc.specs.Performs.{CanPerform, Performs, reply_of}
-use Rattle.fm_proc.specs.Told.{is_joining, is_running, look_of}
+use Rattle.fm_events.specs.Performs.{CanPerform, Performs, reply_of}
+use Rattle.fm_events.specs.Told.{is_joining, is_running, look_of}
 use Rattle.fm_stacks.specs.Readings.{code_step}
 use Rattle.fm_stacks.specs.Stepping.{joined_next}
 use Rattle.fm_stacks.specs.Waiting.{is_join, is_served}

@@ -13,7 +13,7 @@ use Rattle.fm_net.proofs.Keys.{path_order}
 use Rattle.fm_net.proofs.Orders.{starts_served}
 use Rattle.fm_net.proofs.Taken.{Starts}
 use Rattle.fm_bodies.specs.Processes.{CodeProc, asks, code_language, emptied, has_ended}
-use Rattle.fm_proc.specs.Performs.{GoesOn, Performs, reply_of}
+use Rattle.fm_events.specs.Performs.{GoesOn, Performs, reply_of}
 use Rattle.fm_stacks.specs.Readings.{code_step}
 
 -- itself first and then its children, or the other way

@@ -14,8 +14,8 @@ use Rattle.fm_code.specs.Statements.{Action, action_of}
 use Rattle.fm_calling.specs.declared.looking.Look.TheVariants as look
 use Rattle.fm_calling.specs.Looks.{look_in}
 use Rattle.fm_bodies.specs.Processes.{CodeProc, Kid, Phase, Running, Joining, Ended, Faulted, asks, asks_by, code_language, emptied, has_ended, joined, joining_by, running_by}
-use Rattle.fm_proc.specs.Told as told_of
-use Rattle.fm_proc.specs.Told.{is_joining, look_by, look_of}
+use Rattle.fm_events.specs.Told as told_of
+use Rattle.fm_events.specs.Told.{is_joining, look_by, look_of}
 use Rattle.fm_stacks.specs.Kept.{AreChildren, HasFamily}
 use Rattle.fm_stacks.specs.Readings.{code_step}
 use Rattle.fm_stacks.specs.Stepping.{JoinsAt}

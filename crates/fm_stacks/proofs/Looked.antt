@@ -12,7 +12,7 @@ use Rattle.fm_calling.specs.Looks as looks
 use Rattle.fm_calling.specs.Looks.{look_in}
 use Rattle.fm_bodies.specs.Needs.{is_empty, is_local, is_local_action, is_local_by}
 use Rattle.fm_bodies.specs.Processes.{CodeProc, Phase, Running, Joining, Ended, Faulted}
-use Rattle.fm_proc.specs.Told.{is_running, look_by, look_of, runs_by}
+use Rattle.fm_events.specs.Told.{is_running, look_by, look_of, runs_by}
 use Rattle.fm_stacks.specs.Readings.{code_step}
 use Rattle.fm_stacks.proofs.Served.{goes_served, steps_not, steps_served, stuck_served}
 

@@ -6,10 +6,10 @@ use Rattle.fm_net.specs.Machine.{Place}
 use Rattle.fm_bodies.specs.Needs.{is_local}
 use Rattle.fm_bodies.specs.Processes.{CodeProc, Phase, Running, Joining, Ended, Faulted, emptied}
 use Rattle.fm_proc.specs.declared.advancing.Advanced.{Advanced}
-use Rattle.fm_proc.specs.Performs.{Performs}
+use Rattle.fm_events.specs.Performs.{Performs}
 use Rattle.fm_proc.specs.Runs.{Runs}
 use Rattle.fm_calling.specs.declared.looking.Look.TheVariants.{Stuck}
-use Rattle.fm_proc.specs.Told.{look_by, look_of}
+use Rattle.fm_events.specs.Told.{look_by, look_of}
 use Rattle.fm_stacks.specs.declared.entries.Entries.{Entries}
 use Rattle.fm_stacks.specs.declared.entries.Entry.{Entry}
 use Rattle.fm_stacks.specs.Readings.{proc_in, procs_of}

@@ -21,9 +21,9 @@ use Rattle.fm_bodies.specs.Frames.{Held}
 use Rattle.fm_bodies.specs.Needs.{need_in, need_of}
 use Rattle.fm_bodies.specs.Processes.{CodeProc, Kid, Phase, Running, Joining, Ended, Faulted, asks, asks_by, emptied, has_ended, joining_by, joins_by, probes_by, receives_by, running_by, runs_by, sends_by}
 use Rattle.fm_bodies.specs.Slots.{in_slot}
-use Rattle.fm_proc.specs.Performs.{reply_to}
-use Rattle.fm_proc.specs.Told as told_of
-use Rattle.fm_proc.specs.Told.{is_joining, is_running, look_by, look_of}
+use Rattle.fm_events.specs.Performs.{reply_to}
+use Rattle.fm_events.specs.Told as told_of
+use Rattle.fm_events.specs.Told.{is_joining, is_running, look_by, look_of}
 use Rattle.fm_stacks.specs.Readings.{code_step}
 use Rattle.fm_stacks.specs.Waiting.{channel_needed, channel_waited, inport_in, is_join, is_served, probes_at, receives_at, sends_at, served_asked}
 use Rattle.fm_stacks.proofs.Letting.{lets_go, never_lets}

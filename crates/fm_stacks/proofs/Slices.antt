@@ -12,7 +12,7 @@ use Rattle.fm_bodies.specs.Processes.{CodeProc, Phase, code_language}
 use Rattle.fm_calling.specs.declared.looking.Look.TheVariants as look
 use Rattle.fm_proc.specs.declared.advancing.Advanced.{Advanced}
 use Rattle.fm_proc.specs.Runs.{with_ran}
-use Rattle.fm_proc.specs.Told.{is_running, look_of, runs_by}
+use Rattle.fm_events.specs.Told.{is_running, look_of, runs_by}
 use Rattle.fm_stacks.specs.declared.pieces.CodePiece.{CodePiece}
 use Rattle.fm_stacks.specs.Pieces.{IsFull, IsNewAlong, IsNewAt, IsPiece, Makes, StepsOrWaits, after_steps, is_local_at, is_local_in}
 use Rattle.fm_stacks.specs.Readings.{code_step}

@@ -6,7 +6,7 @@ use Rattle.fm_net.specs.Machine.{Place, Procs, gathered}
 use Rattle.fm_bodies.specs.Processes.{CodeProc, has_ended}
 use Rattle.fm_proc.specs.declared.joining.OpenJoin.{OpenJoin}
 use Rattle.fm_proc.specs.Joinings.{HasJoined, HasRoomToJoin}
-use Rattle.fm_proc.specs.Phases.{left_by}
+use Rattle.fm_proc.specs.Lefts.{left_by}
 use Rattle.fm_proc.specs.Rooms.{lefts_room}
 use Rattle.fm_stacks.specs.declared.entries.Entries.{Entries}
 use Rattle.fm_stacks.specs.declared.entries.Family.{Family}

@@ -5,7 +5,7 @@ use Rattle.std.specs.FinMap.{get}
 use Rattle.fm_numbered.specs.Rows.{numbered_map}
 use Rattle.fm_net.specs.Machine.{Place, child}
 use Rattle.fm_bodies.specs.Processes.{Kid, Phase, Joining}
-use Rattle.fm_proc.specs.Told.{look_of}
+use Rattle.fm_events.specs.Told.{look_of}
 use Rattle.fm_stacks.specs.declared.entries.Entry.{Entry}
 use Rattle.fm_stacks.specs.declared.entries.Entries.{Entries}
 use Rattle.fm_stacks.specs.Readings.{order_of, proc_in}

@@ -7,7 +7,7 @@ use Rattle.fm_net.specs.Machine.{Place, State, child}
 use Rattle.fm_net.specs.Starts.{child_places, starts_along, starts_at}
 use Rattle.fm_bodies.specs.Processes.{CodeProc, code_language}
 use Rattle.fm_bodies.specs.Needs.{is_local}
-use Rattle.fm_proc.specs.Performs.{MakesNew}
+use Rattle.fm_events.specs.Performs.{MakesNew}
 use Rattle.fm_stacks.specs.declared.pieces.CodePiece.{CodePiece}
 use Rattle.fm_stacks.specs.Readings.{code_step}
 

@@ -8,7 +8,7 @@ use Rattle.fm_numbered.specs.Rows.{numbered_map, place_at, places}
 use Rattle.fm_net.specs.Machine.{Place, Procs, State}
 use Rattle.fm_net.specs.Language.{language_step}
 use Rattle.fm_bodies.specs.Processes.{CodeProc, code_language}
-use Rattle.fm_proc.specs.Phases.{boxed_of}
+use Rattle.fm_events.specs.Phases.{boxed_of}
 use Rattle.fm_stacks.specs.declared.entries.Entry.{Entry}
 use Rattle.fm_stacks.specs.declared.entries.Entries.{Entries}
 use Rattle.fm_stacks.specs.declared.entries.Actor.{Actor}

@@ -9,9 +9,9 @@ use Rattle.fm_code.specs.declared.ask.Ask.TheVariants as ask
 use Rattle.fm_bodies.specs.Needs.{is_local}
 use Rattle.fm_bodies.specs.Processes.{CodeProc}
 use Rattle.fm_proc.specs.declared.advancing.Advanced.{Advanced}
-use Rattle.fm_proc.specs.Performs.{Performs, Joins}
+use Rattle.fm_events.specs.Performs.{Performs, Joins}
 use Rattle.fm_proc.specs.Runs.{Runs}
-use Rattle.fm_proc.specs.Told.{look_of}
+use Rattle.fm_events.specs.Told.{look_of}
 
 -- the statement behind a join
 abbrev pub joined_next : Ask → Option ℕ

@@ -11,9 +11,9 @@ ghost use Rattle.fm_bodies.specs.Processes.{CodeProc, emptied, has_ended as is_d
 ghost use Rattle.fm_code.specs.declared.ask.Ask.TheVariants as ask;
 ghost use Rattle.fm_calling.specs.declared.looking.Look.TheVariants as look;
 ghost use Rattle.fm_proc.specs.Joinings.{HasJoined, HasRoomToJoin};
-ghost use Rattle.fm_proc.specs.Phases.{left_by, left_of};
+ghost use Rattle.fm_proc.specs.Lefts.{left_by, left_of};
 ghost use Rattle.fm_proc.specs.Rooms.{left_room, lefts_room};
-ghost use Rattle.fm_proc.specs.Told.{is_joining, look_of};
+ghost use Rattle.fm_events.specs.Told.{is_joining, look_of};
 ghost use Rattle.fm_stacks.specs.Blocks.{HasRoomFrom, HaveEnded, OpensAt};
 ghost use Rattle.fm_stacks.specs.Kept.{AreChildren, AreFamilies, AreFamiliesBut, AreToldBut};
 ghost use Rattle.fm_stacks.specs.Readings.{IsActor, actor_place, order_of, procs_of};

@@ -6,7 +6,7 @@ ghost use Rattle.fm_chan.specs.Woken.{WakesAll};
 ghost use Rattle.fm_net.specs.Starts.{child_places};
 ghost use Rattle.fm_bodies.specs.Processes.{CodeProc};
 ghost use Rattle.fm_calling.specs.declared.looking.Look.TheVariants as look;
-ghost use Rattle.fm_proc.specs.Told.{is_running, look_of};
+ghost use Rattle.fm_events.specs.Told.{is_running, look_of};
 ghost use Rattle.fm_stacks.specs.Kept.{AreFamilies, AreKept, AreToldBut};
 ghost use Rattle.fm_stacks.specs.Pieces.{IsNewAlong, IsNewAt, IsPiece, Steps, StepsOrWaits};
 ghost use Rattle.fm_stacks.specs.Readings.{IsActor, actor_place, code_step, order_of, procs_of, state_of};

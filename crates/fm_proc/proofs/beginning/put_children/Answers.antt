@@ -5,7 +5,7 @@ use Rattle.fm_code.specs.declared.body.Start.{Start}
 use Rattle.fm_slots.specs.Rooms.{HasRoom, slots_in}
 use Rattle.fm_proc.specs.declared.beginning.Draft.{Draft}
 use Rattle.fm_proc.specs.Drafts.{IsReady, all_begun, child_in, rooms}
-use Rattle.fm_proc.specs.Phases.{boxed_of}
+use Rattle.fm_events.specs.Phases.{boxed_of}
 use Rattle.fm_proc.proofs.Beginnings.{one_begun}
 use Rattle.fm_proc.proofs.beginning.put_children.Goals as goal
 

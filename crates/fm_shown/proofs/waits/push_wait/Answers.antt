@@ -1,5 +1,5 @@
 use Rattle.std.proofs.Common.{ap, refl, sym, ◌∙◌}
-use Rattle.fm_proc.specs.declared.process.Process.{Process}
+use Rattle.fm_events.specs.declared.process.Process.{Process}
 use Rattle.fm_stacks.specs.Readings.{procs_of}
 use Rattle.fm_alike.specs.Shown.{line_in}
 use Rattle.fm_shown.proofs.Needed.{wait_more, wait_none}

@@ -1,6 +1,6 @@
 use Rattle.std.proofs.Common.{FitsSigned, w64, ap, sym, ◌∙◌, rules}
 use Rattle.std.proofs.lemmas.Int.{to_z-of_z}
-use Rattle.fm_proc.specs.Phases.{proc_of}
+use Rattle.fm_events.specs.Phases.{proc_of}
 use Rattle.fm_stacks.proofs.Served.{received, waits_receiving}
 use Rattle.fm_stacks.proofs.ready.received_channel.Goals as goal
 

@@ -1,7 +1,7 @@
 use Rattle.std.proofs.Common.{ap, sym, ◌∙◌}
-use Rattle.fm_proc.specs.declared.process.Process.{Process}
-use Rattle.fm_proc.specs.Phases.{proc_of}
-use Rattle.fm_proc.specs.Told.{is_running, look_of}
+use Rattle.fm_events.specs.declared.process.Process.{Process}
+use Rattle.fm_events.specs.Phases.{proc_of}
+use Rattle.fm_events.specs.Told.{is_running, look_of}
 use Rattle.fm_stacks.specs.Readings.{proc_in}
 use Rattle.fm_stacks.proofs.Served.{goes_waits, stuck_waits, waits_not}
 use Rattle.fm_stacks.proofs.ready.waited_channel.Goals as goal

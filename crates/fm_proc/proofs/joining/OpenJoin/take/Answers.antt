@@ -3,7 +3,7 @@ use Rattle.fm_code.specs.declared.body.Back.{Back}
 use Rattle.fm_bodies.specs.Processes.{Kid, kid_back}
 use Rattle.fm_proc.specs.Gains.{first_kid, gained, mine_of}
 use Rattle.fm_proc.specs.Joinings.{kids_of}
-use Rattle.fm_proc.specs.Phases.{left_of}
+use Rattle.fm_proc.specs.Lefts.{left_of}
 use Rattle.fm_proc.specs.Rooms.{left_room}
 use Rattle.fm_proc.proofs.Joinings.{one_joined, room_behind, room_first}
 use Rattle.fm_proc.proofs.joining.OpenJoin.take.Goals as goal

@@ -3,8 +3,8 @@ use Rattle.std.specs.Prelude.{is_some}
 use Rattle.std.specs.Box.{with_value}
 use Rattle.std.proofs.lemmas.Result.{IfOk-weaker}
 use Rattle.fm_numbered.proofs.Rows.{there as stands_there}
-use Rattle.fm_proc.specs.declared.process.Process.{Process}
-use Rattle.fm_proc.specs.Phases.{proc_of}
+use Rattle.fm_events.specs.declared.process.Process.{Process}
+use Rattle.fm_events.specs.Phases.{proc_of}
 use Rattle.fm_stacks.specs.Readings.{proc_in, actor_place, order_of}
 use Rattle.fm_stacks.proofs.Families.{families_put, family_kept}
 use Rattle.fm_stacks.proofs.Maps.{found, there, told_put}

@@ -3,9 +3,10 @@ use Rattle.std.specs.Prelude.{is_some}
 use Rattle.std.specs.Box.{with_value}
 use Rattle.fm_numbered.proofs.Rows.{there as stands_there}
 use Rattle.fm_bodies.specs.Processes.{CodeProc}
-use Rattle.fm_proc.specs.declared.process.Process.{Process}
+use Rattle.fm_events.specs.declared.process.Process.{Process}
 use Rattle.fm_proc.specs.Joinings.{HasJoined}
-use Rattle.fm_proc.specs.Phases.{left_by, proc_of}
+use Rattle.fm_events.specs.Phases.{proc_of}
+use Rattle.fm_proc.specs.Lefts.{left_by}
 use Rattle.fm_stacks.specs.Readings.{proc_in, actor_place}
 use Rattle.fm_stacks.proofs.Families.{families_put_but}
 use Rattle.fm_stacks.proofs.Maps.{found, puts_one, there, told_put}

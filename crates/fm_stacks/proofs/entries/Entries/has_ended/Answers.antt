@@ -1,7 +1,7 @@
 use Rattle.std.proofs.Common.{Some, None, ap, sym, ◌∙◌}
 use Rattle.fm_bodies.specs.Processes.{has_ended as is_done}
-use Rattle.fm_proc.specs.declared.process.Process.{Process}
-use Rattle.fm_proc.specs.Phases.{proc_of}
+use Rattle.fm_events.specs.declared.process.Process.{Process}
+use Rattle.fm_events.specs.Phases.{proc_of}
 use Rattle.fm_stacks.specs.Waiting.{ended_at}
 use Rattle.fm_stacks.proofs.Maps.{found, there}
 use Rattle.fm_stacks.proofs.entries.Entries.has_ended.Goals as goal

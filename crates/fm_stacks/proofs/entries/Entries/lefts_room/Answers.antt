@@ -1,7 +1,7 @@
 use Rattle.std.proofs.Common.{◌≡◌, ◌+◌, ◌<◌, ℕ, suc, List, map, refl, sym, ap, ap₂, ◌∙◌, arith, rules}
 use Rattle.fm_net.specs.Machine.{child, gathered}
 use Rattle.fm_bodies.specs.Processes.{CodeProc, has_ended}
-use Rattle.fm_proc.specs.Phases.{left_by}
+use Rattle.fm_proc.specs.Lefts.{left_by}
 use Rattle.fm_proc.specs.Rooms.{lefts_room}
 use Rattle.fm_stacks.specs.Readings.{order_of, procs_of}
 use Rattle.fm_stacks.proofs.Blocks.{room_more}

@@ -2,7 +2,7 @@ use Rattle.std.proofs.Common.{◌≡◌, ℕ, List, map}
 use Rattle.std.specs.Prelude.{Some}
 use Rattle.fm_net.specs.Machine.{Place, gathered}
 use Rattle.fm_bodies.specs.Processes.{CodeProc, has_ended}
-use Rattle.fm_proc.specs.Phases.{left_by}
+use Rattle.fm_proc.specs.Lefts.{left_by}
 use Rattle.fm_proc.specs.Rooms.{lefts_room}
 use Rattle.fm_stacks.specs.Kept.{AreChildren}
 use Rattle.fm_stacks.specs.Readings.{order_of, procs_of}

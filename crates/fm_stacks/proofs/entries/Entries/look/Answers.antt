@@ -1,5 +1,5 @@
 use Rattle.std.proofs.Common.{◌≡◌, Some, None, ap, sym, ◌∙◌}
-use Rattle.fm_proc.specs.Told.{look_of}
+use Rattle.fm_events.specs.Told.{look_of}
 use Rattle.fm_stacks.specs.Readings.{actor_place, proc_in}
 use Rattle.fm_stacks.proofs.Maps.{found, there, told_absent}
 use Rattle.fm_stacks.proofs.entries.Entries.look.Goals as goal

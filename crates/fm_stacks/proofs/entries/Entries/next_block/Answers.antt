@@ -1,6 +1,6 @@
 use Rattle.std.proofs.Common.{◌≡◌, Some, None, ap, sym, ◌∙◌}
 use Rattle.fm_bodies.specs.Processes.{CodeProc}
-use Rattle.fm_proc.specs.declared.process.Process.{Process}
+use Rattle.fm_events.specs.declared.process.Process.{Process}
 use Rattle.fm_stacks.specs.Readings.{proc_in}
 use Rattle.fm_stacks.proofs.Maps.{found, there}
 use Rattle.fm_stacks.proofs.entries.Entries.next_block.Goals as goal

@@ -4,9 +4,9 @@ use Rattle.std.specs.Box.{with_value}
 use Rattle.std.proofs.lemmas.Result.{IfOk-weaker}
 use Rattle.fm_numbered.proofs.Rows.{there as stands_there}
 use Rattle.fm_bodies.specs.Processes.{CodeProc}
-use Rattle.fm_proc.specs.declared.process.Process.{Process}
+use Rattle.fm_events.specs.declared.process.Process.{Process}
 use Rattle.fm_proc.specs.Joinings.{HasJoined}
-use Rattle.fm_proc.specs.Phases.{proc_of}
+use Rattle.fm_events.specs.Phases.{proc_of}
 use Rattle.fm_stacks.specs.declared.entries.Entries.{Entries}
 use Rattle.fm_stacks.specs.Readings.{order_of, proc_in, actor_place}
 use Rattle.fm_stacks.proofs.Blocks.{either_way, when_err}

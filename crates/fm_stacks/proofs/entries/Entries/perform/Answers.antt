@@ -5,9 +5,9 @@ use Rattle.std.proofs.lemmas.Result.{IfOk-weaker}
 use Rattle.fm_chan.specs.Bodies.{chans_of}
 use Rattle.fm_net.specs.Machine.{Place}
 use Rattle.fm_numbered.proofs.Rows.{there as stands_there}
-use Rattle.fm_proc.specs.declared.process.Process.{Process}
-use Rattle.fm_proc.specs.Performs.{CanPerform, MakesNew, Performs}
-use Rattle.fm_proc.specs.Phases.{boxed_of, proc_of}
+use Rattle.fm_events.specs.declared.process.Process.{Process}
+use Rattle.fm_events.specs.Performs.{CanPerform, MakesNew, Performs}
+use Rattle.fm_events.specs.Phases.{boxed_of, proc_of}
 use Rattle.fm_stacks.specs.Readings.{proc_in, actor_place}
 use Rattle.fm_stacks.proofs.Families.{families_put_but}
 use Rattle.fm_stacks.proofs.Maps.{found, there, told_put}

@@ -1,6 +1,6 @@
 use Rattle.std.proofs.Common.{Some, None, ap, sym, ◌∙◌}
-use Rattle.fm_proc.specs.declared.process.Process.{Process}
-use Rattle.fm_proc.specs.Phases.{proc_of}
+use Rattle.fm_events.specs.declared.process.Process.{Process}
+use Rattle.fm_events.specs.Phases.{proc_of}
 use Rattle.fm_stacks.proofs.Maps.{found, there}
 use Rattle.fm_stacks.proofs.entries.Entries.process.Goals as goal
 

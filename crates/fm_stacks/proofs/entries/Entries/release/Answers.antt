@@ -4,9 +4,10 @@ use Rattle.std.specs.Box.{with_value}
 use Rattle.fm_calling.specs.declared.looking.Look.TheVariants.{Stuck}
 use Rattle.fm_numbered.specs.Rows.{numbered_map, places}
 use Rattle.fm_bodies.specs.Processes.{CodeProc, emptied}
-use Rattle.fm_proc.specs.declared.process.Process.{Process}
-use Rattle.fm_proc.specs.Phases.{left_by, proc_of}
-use Rattle.fm_proc.specs.Told.{look_of}
+use Rattle.fm_events.specs.declared.process.Process.{Process}
+use Rattle.fm_events.specs.Phases.{proc_of}
+use Rattle.fm_proc.specs.Lefts.{left_by}
+use Rattle.fm_events.specs.Told.{look_of}
 use Rattle.fm_stacks.specs.declared.entries.Entry.{Entry}
 use Rattle.fm_stacks.specs.Readings.{order_of, proc_in, procs_of}
 use Rattle.fm_stacks.proofs.Families.{families_put, families_same, family_kept}

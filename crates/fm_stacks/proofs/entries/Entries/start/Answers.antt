@@ -7,9 +7,9 @@ use Rattle.fm_net.specs.Machine.{Place, child}
 use Rattle.fm_net.proofs.Children.{not_own_child}
 use Rattle.fm_net.proofs.Keys.{path_order}
 use Rattle.fm_numbered.specs.Rows.{numbered_map}
-use Rattle.fm_proc.specs.declared.process.Process.{Process}
-use Rattle.fm_proc.specs.Phases.{boxed_of, proc_of}
-use Rattle.fm_proc.specs.Told.{look_of}
+use Rattle.fm_events.specs.declared.process.Process.{Process}
+use Rattle.fm_events.specs.Phases.{boxed_of, proc_of}
+use Rattle.fm_events.specs.Told.{look_of}
 use Rattle.fm_stacks.specs.Readings.{actor_place, order_of, procs_of}
 use Rattle.fm_stacks.proofs.Families.{runs_alone}
 use Rattle.fm_stacks.proofs.entries.Entries.start.Goals as goal

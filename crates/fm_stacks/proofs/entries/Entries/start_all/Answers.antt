@@ -9,8 +9,8 @@ use Rattle.fm_net.specs.Machine.{Place, Procs, child, start_changes}
 use Rattle.fm_net.specs.Starts.{child_places}
 use Rattle.fm_net.proofs.Orders.{child_places_more}
 use Rattle.fm_bodies.specs.Processes.{CodeProc, Running}
-use Rattle.fm_proc.specs.declared.process.Process.{Process}
-use Rattle.fm_proc.specs.Phases.{boxed_of}
+use Rattle.fm_events.specs.declared.process.Process.{Process}
+use Rattle.fm_events.specs.Phases.{boxed_of}
 use Rattle.fm_stacks.specs.declared.entries.Entry.{Entry}
 use Rattle.fm_stacks.specs.Readings.{actor_place, order_of, proc_in, procs_of}
 use Rattle.fm_stacks.proofs.Families.{families_started}

@@ -8,7 +8,7 @@ use Rattle.fm_net.specs.Machine.{start_changes}
 use Rattle.fm_net.specs.Starts.{child_places}
 use Rattle.fm_numbered.specs.Rows.{numbered_map}
 use Rattle.fm_bodies.specs.Processes.{CodeProc, Running}
-use Rattle.fm_proc.specs.Phases.{boxed_of}
+use Rattle.fm_events.specs.Phases.{boxed_of}
 use Rattle.fm_stacks.specs.declared.entries.Entry.{Entry}
 use Rattle.fm_stacks.specs.Kept.{AreFamiliesBut, AreToldBut}
 use Rattle.fm_stacks.specs.Readings.{actor_place, order_of, procs_of}

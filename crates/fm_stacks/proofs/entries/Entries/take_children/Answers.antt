@@ -7,7 +7,7 @@ use Rattle.fm_net.specs.Machine.{child, child_changes, gathered}
 use Rattle.fm_bodies.specs.Processes.{emptied, has_ended}
 use Rattle.fm_bodies.specs.Slots.{Slots}
 use Rattle.fm_proc.specs.Joinings.{HasJoined, HasRoomToJoin}
-use Rattle.fm_proc.specs.Phases.{left_by, left_of}
+use Rattle.fm_proc.specs.Lefts.{left_by, left_of}
 use Rattle.fm_proc.specs.Rooms.{left_room}
 use Rattle.fm_stacks.specs.Readings.{order_of, procs_of}
 use Rattle.fm_stacks.specs.Waiting.{ended_at}

@@ -4,7 +4,7 @@ use Rattle.fm_maps.specs.Changes.{alters}
 use Rattle.fm_net.specs.Machine.{Place, child_changes, gathered}
 use Rattle.fm_bodies.specs.Processes.{CodeProc, emptied, has_ended}
 use Rattle.fm_proc.specs.Joinings.{HasJoined}
-use Rattle.fm_proc.specs.Phases.{left_by}
+use Rattle.fm_proc.specs.Lefts.{left_by}
 use Rattle.fm_stacks.specs.Blocks.{HasRoomFrom}
 use Rattle.fm_stacks.specs.Kept.{AreChildren, AreFamilies, AreToldBut}
 use Rattle.fm_stacks.specs.Readings.{order_of, procs_of}

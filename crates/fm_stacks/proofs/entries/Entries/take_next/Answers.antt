@@ -1,6 +1,6 @@
 use Rattle.std.proofs.Common.{◌≡◌, Some, None, inl, refl, ap, sym, ◌∙◌}
 use Rattle.fm_numbered.specs.Rows.{numbered_map, places}
-use Rattle.fm_proc.specs.Told.{look_of}
+use Rattle.fm_events.specs.Told.{look_of}
 use Rattle.fm_stacks.specs.Readings.{actor_place, proc_in, procs_of}
 use Rattle.fm_stacks.proofs.Families.{families_put, families_same}
 use Rattle.fm_stacks.proofs.Maps.{found, puts_same, there, told_but, told_put, told_same}

@@ -1,9 +1,9 @@
 use Rattle.std.proofs.Common.{Some, sym, ap, ◌∙◌}
 use Rattle.std.proofs.lemmas.Result.{IfOk-weaker}
 use Rattle.fm_chan.specs.Bodies.{chans_of}
-use Rattle.fm_proc.specs.declared.process.Process.{Process}
-use Rattle.fm_proc.specs.Phases.{proc_of}
-use Rattle.fm_proc.specs.Told.{is_running}
+use Rattle.fm_events.specs.declared.process.Process.{Process}
+use Rattle.fm_events.specs.Phases.{proc_of}
+use Rattle.fm_events.specs.Told.{is_running}
 use Rattle.fm_stacks.specs.Readings.{proc_in, procs_of, state_of}
 use Rattle.fm_stacks.specs.Waiting.{can_in}
 use Rattle.fm_stacks.proofs.Able.{nobody_can}

@@ -1,7 +1,7 @@
 use Rattle.std.proofs.Common.{ap, sym, ◌∙◌}
 use Rattle.fm_chan.specs.Bodies.{chans_of}
-use Rattle.fm_proc.specs.declared.process.Process.{Process}
-use Rattle.fm_proc.specs.Phases.{proc_of}
+use Rattle.fm_events.specs.declared.process.Process.{Process}
+use Rattle.fm_events.specs.Phases.{proc_of}
 use Rattle.fm_stacks.specs.Readings.{procs_of}
 use Rattle.fm_stacks.specs.Waiting.{is_served}
 use Rattle.fm_stacks.proofs.Served.{running_served}

@@ -9,7 +9,7 @@ use Rattle.fm_net.specs.Starts.{child_places}
 use Rattle.fm_net.proofs.Children.{not_own_child}
 use Rattle.fm_net.proofs.Keys.{path_order}
 use Rattle.fm_bodies.specs.Processes.{CodeProc}
-use Rattle.fm_proc.specs.Phases.{boxed_of}
+use Rattle.fm_events.specs.Phases.{boxed_of}
 use Rattle.fm_stacks.specs.Readings.{actor_place, order_of, procs_of, state_of}
 use Rattle.fm_stacks.proofs.Born.{all_run, can_perform, waits_for}
 use Rattle.fm_stacks.proofs.Doing.{performed, performed_starts}

@@ -1,0 +1,6 @@
+pub mod Doing
+pub mod Asked
+pub mod Messages
+pub mod NewChannels
+pub mod Faults
+pub mod Rooms

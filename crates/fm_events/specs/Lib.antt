@@ -1,0 +1,5 @@
+pub mod Phases
+pub mod Told
+pub mod Performs
+pub mod Events
+pub mod Makes
