@@ -1,6 +1,6 @@
 -- What is kept under the values of ports.
-use Rattle.std.proofs.Common.{◌≡◌, ◌≢◌, ℕ, Some, List, ◌∷◌, refl, sym, ap, ◌∙◌, arith}
-use Rattle.std.specs.FinMap.{get, insert, remove}
+use Rattle.std.proofs.Common.{◌≡◌, ◌≢◌, ℕ, Some, None, List, ◌∷◌, refl, sym, ap, ◌∙◌, arith}
+use Rattle.std.specs.FinMap.{empty, get, get-empty, insert, remove}
 use Rattle.fm_base.specs.declared.path.ChanName.{ChanName}
 use Rattle.fm_base.specs.declared.port.PortValue.{PortValue}
 use Rattle.fm_base.specs.declared.port.PortValue.TheVariants.{Writer, Reader}
@@ -28,6 +28,11 @@ kept_reader ports c = refl
 pub kept_writer : (ports : Ports) (c : ChanName) (w : ℕ) → kept ports (Writer c w) ≡ get (map_of outport_cmp ports.outports) (record { channel = c; number = w })
 unfolding kept
 kept_writer ports c w = refl
+
+-- where there are no ports
+pub none_kept : (ports : Ports) → map_of outport_cmp ports.outports ≡ empty → map_of channel_cmp ports.inports ≡ empty → (z : PortValue) → kept ports z ≡ None
+none_kept ports e f (Writer c w) = kept_writer ports c w ∙ (ap (λ m. get m (record { channel = c; number = w })) e ∙ get-empty outport_cmp (record { channel = c; number = w }))
+none_kept ports e f (Reader c) = kept_reader ports c ∙ (ap (λ m. get m c) f ∙ get-empty channel_cmp c)
 
 module _ (old new : Ports) where
   module _ (c : ChanName) (same : map_of outport_cmp new.outports ≡ map_of outport_cmp old.outports) where

@@ -1,6 +1,6 @@
 //! The ports that processes hold.
 
-ghost use Rattle.std.specs.Prelude.{◌≡◌, ◌≢◌, ◌≤◌, Some, OnOk};
+ghost use Rattle.std.specs.Prelude.{◌≡◌, ◌≢◌, ◌≤◌, Some, None, OnOk};
 ghost use Rattle.std.specs.Option.{option_copied};
 ghost use Rattle.fm_base.specs.declared.port.PortValue as declared;
 ghost use Rattle.fm_base.specs.declared.port.PortValue.TheVariants.{Writer, Reader};
@@ -21,7 +21,10 @@ pub struct Ports {
 
 impl Ports {
     /// No port. Takes no memory.
-    pub fn new(alloc: Global) -> Ports {
+    #[tactic(auto, using(crate::proofs::Kept::none_kept))]
+    pub fn new(alloc: Global) -> Ports
+        ensures { (z : declared.PortValue) → kept result z ≡ None }
+    {
         Ports {
             inports: Map::new(alloc),
             outports: Map::new(alloc),
