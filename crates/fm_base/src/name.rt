@@ -16,10 +16,16 @@ pub struct Line(pub u32);
 pub struct Label(pub u32);
 
 /// A symbolic name, in upper case. Contracts see it as its bytes.
-#[derive(PartialEq, Eq, PartialOrd, Ord, Drop)]
+#[derive(PartialEq, Eq, PartialOrd, Ord)]
 pub struct Name {
     /// The bytes, in upper case.
     pub bytes: Seq<u8>,
+}
+
+impl Drop for Name {
+    fn drop(self) {
+        let Name { bytes: _bytes } = self;
+    }
 }
 
 impl Model for Name {

@@ -15,10 +15,16 @@ use std::marker::Model;
 
 /// The pairs of block and index, each from 1, that lead from main to a process. Contracts see it
 /// as the list of these pairs.
-#[derive(PartialEq, Eq, PartialOrd, Ord, Drop)]
+#[derive(PartialEq, Eq, PartialOrd, Ord)]
 pub struct Path {
     /// The pairs, outermost first.
     pub pairs: Seq<(u32, u32)>,
+}
+
+impl Drop for Path {
+    fn drop(self) {
+        let Path { pairs: _pairs } = self;
+    }
 }
 
 impl Model for Path {
@@ -91,12 +97,21 @@ impl Path {
 }
 
 /// A channel: the process that made it, and its number among that process's channels, from 1.
-#[derive(PartialEq, Eq, PartialOrd, Ord, Drop)]
+#[derive(PartialEq, Eq, PartialOrd, Ord)]
 pub struct ChanName {
     /// The path of the maker.
     pub maker: Path,
     /// The number among the maker's channels, from 1.
     pub number: u32,
+}
+
+impl Drop for ChanName {
+    fn drop(self) {
+        let ChanName {
+            maker: _maker,
+            number: _number,
+        } = self;
+    }
 }
 
 impl ChanName {

@@ -8,9 +8,14 @@ use std::cmp::Ordering;
 use std::marker::Model;
 
 /// A growing list. Contracts see it as the list of its items, so records of it are plain data.
-#[derive(Drop)]
 pub struct Seq<T> {
     items: Vec<T>,
+}
+
+impl<T: Drop> Drop for Seq<T> {
+    fn drop(self) {
+        let Seq { items: _items } = self;
+    }
 }
 
 impl<T> Model for Seq<T> {

@@ -27,7 +27,6 @@ pub struct Inport {
 }
 
 /// What stands behind a channel's name.
-#[derive(Drop)]
 pub struct Body {
     /// None where the inport is gone.
     pub inport: Option<Inport>,
@@ -35,6 +34,16 @@ pub struct Body {
     pub writers: BTreeSet<u32>,
     /// The number of the process that waits for a message or the end of the channel.
     pub reader: Option<u32>,
+}
+
+impl Drop for Body {
+    fn drop(self) {
+        let Body {
+            inport: _inport,
+            writers: _writers,
+            reader: _reader,
+        } = self;
+    }
 }
 
 /// What came of a message that was put last.

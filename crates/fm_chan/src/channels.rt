@@ -24,12 +24,21 @@ use std::alloc::Global;
 /// A process that waits for a message may note its number at its inport's channel (`wait`). The call
 /// that makes a receive ready there, be it a send or whatever closes the last writer, wakes it: its
 /// number is to be taken out then (`next_woken`). Room for it was made before, so that takes no memory.
-#[derive(Drop)]
 pub struct Channels {
     alloc: Global,
     bodies: Bodies,
     woken: Vec<u32>,
     ghost room: { HasRoomToWake bodies woken },
+}
+
+impl Drop for Channels {
+    fn drop(self) {
+        let Channels {
+            alloc: _alloc,
+            bodies: _bodies,
+            woken: _woken,
+        } = self;
+    }
 }
 
 fn outports(alloc: Global, name: &ChanName, writers: u32) -> Result<Vec<Port>, NoMemory>

@@ -13,11 +13,20 @@ use std::collections::VecDeque;
 use std::mem;
 
 /// One level: the ports of the item at hand, the items of the message at hand, the messages behind it.
-#[derive(Drop)]
 pub struct Rest {
     ports: VecDeque<Option<Port>>,
     items: VecDeque<Item>,
     queue: VecDeque<Message>,
+}
+
+impl Drop for Rest {
+    fn drop(self) {
+        let Rest {
+            ports: _ports,
+            items: _items,
+            queue: _queue,
+        } = self;
+    }
 }
 
 /// The levels that were left for a deeper one, the deepest first.

@@ -9,9 +9,14 @@ use std::alloc::Global;
 use std::marker::Model;
 
 /// One end of a channel. It is made with its channel and never copied; contracts see it as a plain value.
-#[derive(Drop)]
 pub struct Port {
     value: PortValue,
+}
+
+impl Drop for Port {
+    fn drop(self) {
+        let Port { value: _value } = self;
+    }
 }
 
 impl Model for Port {

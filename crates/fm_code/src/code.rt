@@ -33,7 +33,6 @@ pub struct Entry {
 }
 
 /// The code of a unit.
-#[derive(Drop)]
 pub struct Unit {
     /// Its instructions. Their places are their addresses.
     pub code: Seq<Instr>,
@@ -51,9 +50,28 @@ pub struct Unit {
     pub extents: Seq<u32>,
 }
 
+impl Drop for Unit {
+    fn drop(self) {
+        let Unit {
+            code: _code,
+            entries: _entries,
+            words: _words,
+            ports: _ports,
+            formals: _formals,
+            loops: _loops,
+            extents: _extents,
+        } = self;
+    }
+}
+
 /// The code of a program.
-#[derive(Drop)]
 pub struct Code {
     /// The units, in the order of the source.
     pub units: Seq<Unit>,
+}
+
+impl Drop for Code {
+    fn drop(self) {
+        let Code { units: _units } = self;
+    }
 }

@@ -21,7 +21,6 @@ pub enum Place {
 }
 
 /// What a statement builds before it ends.
-#[derive(Drop)]
 pub struct Scratch {
     /// The bytes of a character constant.
     pub text: Row<u8>,
@@ -35,6 +34,19 @@ pub struct Scratch {
     pub counts: Option<Loop>,
     /// Where a process is to be put.
     pub place: Place,
+}
+
+impl Drop for Scratch {
+    fn drop(self) {
+        let Scratch {
+            text: _text,
+            line: _line,
+            operands: _operands,
+            status: _status,
+            counts: _counts,
+            place: _place,
+        } = self;
+    }
 }
 
 impl Scratch {

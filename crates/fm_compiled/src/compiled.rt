@@ -97,7 +97,7 @@ impl Net for Compiled {
     }
 
     fn into_parts(self) -> (Vec<Turn>, Vec<Arc<Path>>) {
-        (self.history, self.stacks.entries.rows.into_paths())
+        (self.history, self.stacks.into_paths())
     }
 }
 

@@ -5,12 +5,20 @@ use fm_code::{Back, Body};
 use fm_slots::Slots;
 
 /// A child that is to be joined.
-#[derive(Drop)]
 pub struct Kid {
     /// The number of the unit that it began with.
     pub unit: u32,
     /// What it gives back.
     pub backs: Seq<Back>,
+}
+
+impl Drop for Kid {
+    fn drop(self) {
+        let Kid {
+            unit: _unit,
+            backs: _backs,
+        } = self;
+    }
 }
 
 /// The phase of a process.
@@ -27,7 +35,6 @@ pub enum Phase {
 }
 
 /// A process. Contracts see it as a process of the language of stack code (`proc_of`).
-#[derive(Drop)]
 pub struct Process {
     /// Its phase.
     pub phase: Phase,
@@ -41,4 +48,17 @@ pub struct Process {
     pub next_block: u32,
     /// The number of the channel that it makes next.
     pub next_channel: u32,
+}
+
+impl Drop for Process {
+    fn drop(self) {
+        let Process {
+            phase: _phase,
+            body: _body,
+            slots: _slots,
+            lines: _lines,
+            next_block: _next_block,
+            next_channel: _next_channel,
+        } = self;
+    }
 }

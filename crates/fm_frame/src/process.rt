@@ -16,12 +16,20 @@ use fm_rules::Program;
 use std::alloc::Global;
 
 /// A child that is to be joined.
-#[derive(Drop)]
 pub struct Kid {
     /// The number of its unit.
     pub unit: u32,
     /// What it gives back.
     pub backs: Seq<Back>,
+}
+
+impl Drop for Kid {
+    fn drop(self) {
+        let Kid {
+            unit: _unit,
+            backs: _backs,
+        } = self;
+    }
 }
 
 /// Whether a process runs.
@@ -38,7 +46,6 @@ pub enum Phase {
 }
 
 /// A process. Contracts see it as the meaning's (`proc_of`).
-#[derive(Drop)]
 pub struct PlainProc {
     /// Whether it runs.
     pub phase: Phase,
@@ -56,6 +63,21 @@ pub struct PlainProc {
     pub next_block: u32,
     /// The number of the channel that it makes next.
     pub next_channel: u32,
+}
+
+impl Drop for PlainProc {
+    fn drop(self) {
+        let PlainProc {
+            phase: _phase,
+            top: _top,
+            below: _below,
+            machine: _machine,
+            node: _node,
+            lines: _lines,
+            next_block: _next_block,
+            next_channel: _next_channel,
+        } = self;
+    }
 }
 
 fn times(count: u32, extent: u32) -> Result<u32, NoMemory>

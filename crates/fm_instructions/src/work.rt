@@ -9,7 +9,6 @@ use fm_code::{Frame, Pile, Scratch, Stack};
 use std::alloc::Global;
 
 /// What a statement has at hand: its operands, what it builds, and frames to be used again.
-#[derive(Drop)]
 pub struct Work {
     /// The stack of operands.
     pub stack: Stack,
@@ -17,6 +16,16 @@ pub struct Work {
     pub scratch: Scratch,
     /// Frames that returned, to be used again: what is in them means nothing.
     pub spare: Pile<Frame>,
+}
+
+impl Drop for Work {
+    fn drop(self) {
+        let Work {
+            stack: _stack,
+            scratch: _scratch,
+            spare: _spare,
+        } = self;
+    }
 }
 
 /// How an instruction leaves its statement that may go on.

@@ -39,9 +39,14 @@ impl Key for ChanName {
 
 /// Values by keys. Contracts see the list of its entries in the order of the keys, and say what a call
 /// does to the finite map of these entries (`map_of`).
-#[derive(Drop)]
 pub struct Map<K: Key, V> {
     tree: BTreeMap<K, V>,
+}
+
+impl<K: Key + Drop, V: Drop> Drop for Map<K, V> {
+    fn drop(self) {
+        let Map { tree: _tree } = self;
+    }
 }
 
 impl<K: Key, V> Model for Map<K, V> {

@@ -12,9 +12,14 @@ use std::collections::btree_map::{IntoIter, Iter};
 use std::marker::Model;
 
 /// Values by names. Contracts see a finite map from the bytes of names.
-#[derive(Drop)]
 pub struct NameMap<V> {
     values: Map<Name, V>,
+}
+
+impl<V: Drop> Drop for NameMap<V> {
+    fn drop(self) {
+        let NameMap { values: _values } = self;
+    }
 }
 
 impl<V> Model for NameMap<V> {

@@ -3,12 +3,20 @@
 use fm_base::{ChanName, Fault, Line, Name, Path, Seq};
 
 /// A line of output, and the process that printed it.
-#[derive(Drop)]
 pub struct OutputLine {
     /// The process.
     pub path: Path,
     /// The bytes, without a line feed.
     pub bytes: Seq<u8>,
+}
+
+impl Drop for OutputLine {
+    fn drop(self) {
+        let OutputLine {
+            path: _path,
+            bytes: _bytes,
+        } = self;
+    }
 }
 
 /// What a variable of main holds in the end, element after element in column order. A scalar has one.
@@ -23,7 +31,6 @@ pub enum Shown {
 }
 
 /// A variable of main, and what it holds.
-#[derive(Drop)]
 pub struct ShownVariable {
     /// The name.
     pub name: Name,
@@ -31,8 +38,16 @@ pub struct ShownVariable {
     pub shown: Shown,
 }
 
+impl Drop for ShownVariable {
+    fn drop(self) {
+        let ShownVariable {
+            name: _name,
+            shown: _shown,
+        } = self;
+    }
+}
+
 /// A process that has faulted.
-#[derive(Drop)]
 pub struct FaultAt {
     /// The process.
     pub path: Path,
@@ -40,6 +55,16 @@ pub struct FaultAt {
     pub line: Line,
     /// The fault.
     pub fault: Fault,
+}
+
+impl Drop for FaultAt {
+    fn drop(self) {
+        let FaultAt {
+            path: _path,
+            line: _line,
+            fault: _fault,
+        } = self;
+    }
 }
 
 /// What a process waits for.
@@ -52,7 +77,6 @@ pub enum At {
 }
 
 /// A process that waits.
-#[derive(Drop)]
 pub struct Wait {
     /// The process.
     pub path: Path,
@@ -62,11 +86,20 @@ pub struct Wait {
     pub at: At,
 }
 
+impl Drop for Wait {
+    fn drop(self) {
+        let Wait {
+            path: _path,
+            line: _line,
+            at: _at,
+        } = self;
+    }
+}
+
 /// An open writer of a channel, and the process that holds it.
 ///
 /// A process holds the outports in its variables and in its starts that wait. What an ended process
 /// keeps to give back is held by the process that started it. An outport in a message is held by nobody.
-#[derive(Drop)]
 pub struct Holder {
     /// The channel.
     pub channel: ChanName,
@@ -74,6 +107,16 @@ pub struct Holder {
     pub writer: u32,
     /// The process.
     pub path: Path,
+}
+
+impl Drop for Holder {
+    fn drop(self) {
+        let Holder {
+            channel: _channel,
+            writer: _writer,
+            path: _path,
+        } = self;
+    }
 }
 
 /// What a run shows when it has ended. Lines, faults and waits stand in path order.

@@ -15,10 +15,18 @@ use std::marker::Model;
 use std::sync::Arc;
 
 /// Values at paths, by number. Contracts see the rows of place and value, in the order of the numbers.
-#[derive(Drop)]
 pub struct Numbered<T> {
     paths: Vec<Arc<Path>>,
     values: Vec<T>,
+}
+
+impl<T: Drop> Drop for Numbered<T> {
+    fn drop(self) {
+        let Numbered {
+            paths: _paths,
+            values: _values,
+        } = self;
+    }
 }
 
 impl<T> Model for Numbered<T> {

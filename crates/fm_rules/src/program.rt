@@ -12,7 +12,6 @@ use fm_tree::{Unit, UnitKind, Units};
 use std::alloc::Global;
 
 /// A program that breaks no rule: its units, its names, and what is looked up in them.
-#[derive(Drop)]
 pub struct Program {
     units: Units,
     names: Names,
@@ -25,6 +24,19 @@ pub struct Program {
     ghost links_are: { links ≡ all_links units.units },
     ghost main_is: { main ≡ main_of units.units },
     ghost race_is: { ∥ IsRaceVerdict units.units context race ∥₁ },
+}
+
+impl Drop for Program {
+    fn drop(self) {
+        let Program {
+            units: _units,
+            names: _names,
+            context: _context,
+            links: _links,
+            main: _main,
+            race: _race,
+        } = self;
+    }
 }
 
 fn is_main(unit: &Unit) -> bool

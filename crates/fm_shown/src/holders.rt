@@ -187,12 +187,7 @@ fn in_order(alloc: Global, owners: Map<Outport, Path>) -> Result<Vec<Holder>, No
 {
     let mut holders = Vec::new(alloc);
     'owners: for (outport, path) in owners {
-        let Outport { channel, number } = outport;
-        holders.push(Holder {
-            channel,
-            writer: number,
-            path,
-        })?;
+        holders.push(outport.held_by(path))?;
     }
     Ok(holders)
 }

@@ -13,11 +13,19 @@ use std::marker::Model;
 use std::mem::replace;
 
 /// The ports of a process. The number of a slot is a word of a frame. Contracts see what stands in the slots, and which are free.
-#[derive(Drop)]
 pub struct Slots {
     pub(crate) ports: Vec<Option<Port>>,
     // by how many stand before them; the one that is used next stands last
     pub(crate) free: Vec<usize>,
+}
+
+impl Drop for Slots {
+    fn drop(self) {
+        let Slots {
+            ports: _ports,
+            free: _free,
+        } = self;
+    }
 }
 
 impl Model for Slots {

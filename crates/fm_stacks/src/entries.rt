@@ -5,7 +5,7 @@ ghost use Rattle.std.specs.Arc.{arc_value};
 ghost use Rattle.std.specs.FinMap.{get, insert, empty};
 ghost use Rattle.std.specs.Option.{option_copied};
 ghost use Rattle.fm_net.specs.Machine.{Place, child, gathered};
-ghost use Rattle.fm_numbered.specs.Rows.{numbered_map, place_at};
+ghost use Rattle.fm_numbered.specs.Rows.{numbered_map, place_at, places_in};
 ghost use Rattle.fm_bodies.specs.Processes.{CodeProc, has_ended as is_done};
 ghost use Rattle.fm_events.specs.Told.{look_of};
 ghost use Rattle.fm_events.specs.Phases.{phase_of, proc_of};
@@ -23,7 +23,6 @@ use std::mem::replace;
 use std::sync::Arc;
 
 /// A process, and what is kept of it.
-#[derive(Drop)]
 pub struct Entry {
     /// The process.
     pub process: Box<Process>,
@@ -33,12 +32,37 @@ pub struct Entry {
     pub first_child: u32,
 }
 
+impl Drop for Entry {
+    fn drop(self) {
+        let Entry {
+            process: _process,
+            next: _next,
+            first_child: _first_child,
+        } = self;
+    }
+}
+
 /// The processes by their numbers, in the order of starting, also those that have ended. Contracts see a finite map by place
 /// (`procs_of`), and the places in their order (`order_of`).
-#[derive(Drop)]
 pub struct Entries {
     /// The processes, each at its path.
     pub rows: Numbered<Entry>,
+}
+
+impl Drop for Entries {
+    fn drop(self) {
+        let Entries { rows: _rows } = self;
+    }
+}
+
+impl Entries {
+    /// The paths of the processes alone, in the order of starting.
+    pub fn into_paths(self) -> Vec<Arc<Path>>
+        ensures { places_in result.items ≡ order_of self }
+    {
+        let Entries { rows } = self;
+        rows.into_paths()
+    }
 }
 
 /// A process that makes a piece, by its number and its path.

@@ -4,16 +4,18 @@ ghost use Rattle.std.specs.Prelude.{◌≡◌, []};
 ghost use Rattle.std.specs.FinMap.{empty};
 ghost use Rattle.fm_chan.specs.Bodies.{chans_of};
 ghost use Rattle.fm_chan.specs.Woken.{woken_of};
+ghost use Rattle.fm_numbered.specs.Rows.{places_in};
 ghost use Rattle.fm_stacks.specs.Kept.{AreKept};
 ghost use Rattle.fm_stacks.specs.Readings.{order_of, procs_of};
 
 use crate::entries::Entries;
+use fm_base::Path;
 use fm_chan::Channels;
 use fm_instructions::Work;
 use std::alloc::Global;
+use std::sync::Arc;
 
 /// The processes and channels of a run.
-#[derive(Drop)]
 pub struct Stacks {
     /// The processes.
     pub entries: Entries,
@@ -21,6 +23,16 @@ pub struct Stacks {
     pub channels: Channels,
     // What a statement builds before it ends, from statement to statement.
     pub(crate) work: Work,
+}
+
+impl Drop for Stacks {
+    fn drop(self) {
+        let Stacks {
+            entries: _entries,
+            channels: _channels,
+            work: _work,
+        } = self;
+    }
 }
 
 impl Stacks {
@@ -37,5 +49,17 @@ impl Stacks {
             channels: Channels::new(alloc),
             work: Work::new(alloc),
         }
+    }
+
+    /// The paths of the processes alone, in the order of starting.
+    pub fn into_paths(self) -> Vec<Arc<Path>>
+        ensures { places_in result.items ≡ order_of self.entries }
+    {
+        let Stacks {
+            entries,
+            channels: _channels,
+            work: _work,
+        } = self;
+        entries.into_paths()
     }
 }

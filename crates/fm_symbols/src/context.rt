@@ -17,7 +17,6 @@ use fm_tree::{Kind, Stmt, Unit, UnitKind, Units};
 use std::alloc::Global;
 
 /// What the names of a unit mean.
-#[derive(Drop)]
 pub struct Scope {
     pub kind: UnitKind,
     /// The constants and the variables.
@@ -28,13 +27,32 @@ pub struct Scope {
     pub result: Option<Scalar>,
 }
 
+impl Drop for Scope {
+    fn drop(self) {
+        let Scope {
+            kind: _kind,
+            symbols: _symbols,
+            formals: _formals,
+            result: _result,
+        } = self;
+    }
+}
+
 /// What the names of a program mean.
-#[derive(Drop)]
 pub struct Context {
     /// The number of the first unit with a name, from 0.
     pub units: NameMap<u32>,
     /// For each unit what its names mean.
     pub scopes: Seq<Scope>,
+}
+
+impl Drop for Context {
+    fn drop(self) {
+        let Context {
+            units: _units,
+            scopes: _scopes,
+        } = self;
+    }
 }
 
 fn value_symbol(scalar: Scalar, bounds: &[(i64, i64)], words: u32, place: u32) -> Symbol

@@ -11,7 +11,6 @@ pub enum Constant {
 }
 
 /// A variable of a unit.
-#[derive(Drop)]
 pub struct Variable {
     pub name: Name,
     /// The type of the variable, or of one element. In the type of a port no field has a name, and the bounds of an array
@@ -29,8 +28,21 @@ pub struct Variable {
     pub input: bool,
 }
 
+impl Drop for Variable {
+    fn drop(self) {
+        let Variable {
+            name: _name,
+            kind: _kind,
+            bounds: _bounds,
+            first: _first,
+            words: _words,
+            formal: _formal,
+            input: _input,
+        } = self;
+    }
+}
+
 /// The names of a unit.
-#[derive(Drop)]
 pub struct UnitNames {
     /// In the order in which the names first stand in the unit as variables, the heading first.
     pub variables: Seq<Variable>,
@@ -42,8 +54,24 @@ pub struct UnitNames {
     pub words: u32,
 }
 
+impl Drop for UnitNames {
+    fn drop(self) {
+        let UnitNames {
+            variables: _variables,
+            constants: _constants,
+            extents: _extents,
+            words: _words,
+        } = self;
+    }
+}
+
 /// The names of each unit, in the order of the source.
-#[derive(Drop)]
 pub struct Names {
     pub units: Seq<UnitNames>,
+}
+
+impl Drop for Names {
+    fn drop(self) {
+        let Names { units: _units } = self;
+    }
 }

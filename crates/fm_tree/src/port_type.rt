@@ -7,10 +7,18 @@ use fm_base::{Name, Seq};
 use std::marker::Model;
 
 /// The bounds of one dimension: `[low :] high`.
-#[derive(Drop)]
 pub struct Bound {
     pub low: Option<Expr>,
     pub high: Expr,
+}
+
+impl Drop for Bound {
+    fn drop(self) {
+        let Bound {
+            low: _low,
+            high: _high,
+        } = self;
+    }
 }
 
 /// The type of a port: what its messages hold, field after field. Contracts see it as plain data.

@@ -5,24 +5,48 @@ use crate::port_type::{Bound, PortType};
 use fm_base::{Label, Name, Seq};
 
 /// A name with the bounds of its dimensions, none where none are written.
-#[derive(Drop)]
 pub struct Decl {
     pub name: Name,
     pub bounds: Seq<Bound>,
 }
 
+impl Drop for Decl {
+    fn drop(self) {
+        let Decl {
+            name: _name,
+            bounds: _bounds,
+        } = self;
+    }
+}
+
 /// A variable or an element: no subscripts where no parentheses are written.
-#[derive(Drop)]
 pub struct Var {
     pub name: Name,
     pub subscripts: Seq<Expr>,
 }
 
+impl Drop for Var {
+    fn drop(self) {
+        let Var {
+            name: _name,
+            subscripts: _subscripts,
+        } = self;
+    }
+}
+
 /// `name = value` of a PARAMETER statement.
-#[derive(Drop)]
 pub struct Defined {
     pub name: Name,
     pub value: Expr,
+}
+
+impl Drop for Defined {
+    fn drop(self) {
+        let Defined {
+            name: _name,
+            value: _value,
+        } = self;
+    }
 }
 
 /// What INTENT says of a formal argument.
@@ -41,13 +65,24 @@ pub struct LoopLabel {
 }
 
 /// `[label [,]] variable = from , to [, step]`.
-#[derive(Drop)]
 pub struct LoopHead {
     pub label: Option<LoopLabel>,
     pub variable: Name,
     pub from: Expr,
     pub to: Expr,
     pub step: Option<Expr>,
+}
+
+impl Drop for LoopHead {
+    fn drop(self) {
+        let LoopHead {
+            label: _label,
+            variable: _variable,
+            from: _from,
+            to: _to,
+            step: _step,
+        } = self;
+    }
 }
 
 /// What PRINT and WRITE print: an expression or a character constant.
@@ -83,10 +118,18 @@ pub enum Where {
 }
 
 /// The parentheses of a PROCESSCALL, and where the process is put.
-#[derive(Drop)]
 pub struct CallPart {
     pub arguments: Seq<Expr>,
     pub place: Option<Where>,
+}
+
+impl Drop for CallPart {
+    fn drop(self) {
+        let CallPart {
+            arguments: _arguments,
+            place: _place,
+        } = self;
+    }
 }
 
 /// A statement that may stand behind a logical IF.

@@ -17,12 +17,20 @@ use std::alloc::Global;
 use std::sync::Arc;
 
 /// The processes of a run over trees, and its pieces.
-#[derive(Drop)]
 pub struct TreeNet {
     /// The processes, channels and ports.
     pub trees: Trees,
     /// The pieces.
     pub history: Vec<Turn>,
+}
+
+impl Drop for TreeNet {
+    fn drop(self) {
+        let TreeNet {
+            trees: _trees,
+            history: _history,
+        } = self;
+    }
 }
 
 impl Net for TreeNet {
@@ -98,6 +106,7 @@ impl Net for TreeNet {
     }
 
     fn into_parts(self) -> (Vec<Turn>, Vec<Arc<Path>>) {
-        (self.history, self.trees.processes.slots.into_paths())
+        let TreeNet { trees, history } = self;
+        (history, trees.processes.slots.into_paths())
     }
 }

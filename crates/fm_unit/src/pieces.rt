@@ -58,7 +58,7 @@ fn add_part(
     ensures pieces { OnOk result (pieces.new.items ≡ (if in_body then pieces.old.items ++ pieces_of placed.stmt else pieces.old.items)) }
 {
     if in_body {
-        add_pieces(placed.stmt, pieces)
+        add_pieces(placed.into_stmt(), pieces)
     } else {
         push(front, placed)
     }
