@@ -1,5 +1,5 @@
 #!/usr/bin/env python3
-"""Runs the programs of examples/ and compares what they write.
+"""Runs the programs of examples/ and its gallery and compares what they write.
 
     bench/examples.py [BINARY]
 
@@ -25,7 +25,7 @@ def read(path):
 def main():
     binary = sys.argv[1] if len(sys.argv) > 1 else os.path.join(HERE, "../crates/fmc_cli/out/fmc_cli")
     same = differ = 0
-    for source in sorted(glob.glob(os.path.join(EXAMPLES, "*.f"))):
+    for source in sorted(glob.glob(os.path.join(EXAMPLES, "**/*.f"), recursive=True)):
         for ending, word in WORDS.items():
             wanted = source[:-2] + ending
             if not os.path.exists(wanted):
@@ -35,7 +35,7 @@ def main():
                 same += 1
             else:
                 differ += 1
-                print(f"{os.path.basename(wanted)} differs")
+                print(f"{os.path.relpath(wanted, EXAMPLES)} differs")
     print(f"{same} as they should be, {differ} not")
     sys.exit(1 if differ else 0)
 

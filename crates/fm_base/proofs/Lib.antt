@@ -1,3 +1,4 @@
+mod ChainLaws
 pub mod PathLaws
 pub mod Order
 pub mod Least

@@ -8,3 +8,6 @@ pub mod Verdict
 pub mod Tokens
 pub mod Channels
 pub mod Positions
+pub mod Chains
+pub mod InStep
+pub mod PathOrderLaws

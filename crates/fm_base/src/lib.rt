@@ -2,6 +2,7 @@
 //! the verdict over a set of rules.
 #![tactic(auto)]
 
+mod chain;
 mod fault;
 mod judging;
 mod letters;

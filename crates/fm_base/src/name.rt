@@ -5,6 +5,7 @@ ghost use Rattle.std.specs.Prelude.{◌≡◌, IfOk};
 use crate::memory::NoMemory;
 use crate::seq::Seq;
 use std::alloc::Global;
+use std::hash::Hash;
 use std::marker::Model;
 
 /// The number of a line of the source, from 1.
@@ -16,7 +17,7 @@ pub struct Line(pub u32);
 pub struct Label(pub u32);
 
 /// A symbolic name, in upper case. Contracts see it as its bytes.
-#[derive(PartialEq, Eq, PartialOrd, Ord)]
+#[derive(PartialEq, Eq, PartialOrd, Ord, Hash)]
 pub struct Name {
     /// The bytes, in upper case.
     pub bytes: Seq<u8>,

@@ -1,40 +1,38 @@
 //! Where a process stands in the tree of processes, and the names of channels.
 
-ghost use Rattle.std.specs.Prelude.{◌≡◌, [], ◌∷◌, ◌++◌, IfOk, OnOk};
+ghost use Rattle.std.specs.Prelude.{◌≡◌, [], ◌∷◌, ◌++◌, ◌-◌, length, take, IfOk, OnOk};
 ghost use Rattle.std.specs.Cmp.{IsTotalOrder};
 ghost use Rattle.std.specs.Fmt.{decimal};
 ghost use Rattle.std.specs.FinMap.{IsAntisymmetric};
 ghost use Rattle.fm_base.specs.Texts.{path_text, child_text, channel_text};
 ghost use Rattle.fm_base.specs.PathOrder.{path_cmp, channel_cmp};
 
+use crate::chain::{Chain, let_go, longer, order_of_chains, pairs, share, starter};
 use crate::memory::NoMemory;
-use crate::seq::Seq;
 use std::alloc::Global;
 use std::cmp::Ordering;
 use std::marker::Model;
 
 /// The pairs of block and index, each from 1, that lead from main to a process. Contracts see it
-/// as the list of these pairs.
-#[derive(PartialEq, Eq, PartialOrd, Ord)]
+/// as the list of these pairs. Paths share the pairs that they have in common by their making.
 pub struct Path {
-    /// The pairs, outermost first.
-    pub pairs: Seq<(u32, u32)>,
+    chain: Chain,
 }
 
 impl Drop for Path {
     fn drop(self) {
-        let Path { pairs: _pairs } = self;
+        let Path { chain } = self;
+        let_go(chain);
     }
 }
 
 impl Model for Path {
     ghost use Rattle.std.specs.Prelude.{List, ℕ};
+    ghost use Rattle.fm_base.specs.Chains.{pairs_of};
 
     ghost Value = { List (ℕ × ℕ) };
 
-    ghost view = { λ p. p.pairs };
-
-    ghost inverse = { λ pairs. record { pairs = pairs } };
+    ghost view = { λ p. pairs_of p.chain };
 }
 
 // Adds a mark and a number in decimal.
@@ -55,31 +53,36 @@ fn push_child(alloc: Global, out: &mut Vec<u8>, pair: (u32, u32)) -> Result<(), 
 
 impl Path {
     /// The path of main. Takes no memory.
-    pub fn main(alloc: Global) -> Path
+    pub fn main(_alloc: Global) -> Path
         ensures { result ≡ [] }
     {
-        Path {
-            pairs: Seq::new(alloc),
-        }
+        Path { chain: None }
     }
 
     /// The path with one more pair: the child of this index in this block.
     pub fn child(&self, alloc: Global, block: u32, index: u32) -> Result<Path, NoMemory>
         ensures { IfOk result (λ p. p ≡ self.now ++ (block, index) ∷ []) }
     {
-        let mut pairs = Vec::from_slice(alloc, self.pairs.as_slice())?;
-        pairs.push((block, index))?;
         Ok(Path {
-            pairs: Seq::from_vec(pairs),
+            chain: longer(alloc, &self.chain, (block, index))?,
         })
     }
 
-    /// The same path once more.
-    pub fn copy(&self, alloc: Global) -> Result<Path, NoMemory>
+    /// The path of the process that started the one here; that of main is its own.
+    pub fn starter(&self) -> Result<Path, NoMemory>
+        ensures { IfOk result (λ p. p ≡ take (length self.now - 1) self.now) }
+    {
+        Ok(Path {
+            chain: starter(&self.chain)?,
+        })
+    }
+
+    /// The same path once more. Takes no memory but a count, which can't be full on any machine.
+    pub fn copy(&self, _alloc: Global) -> Result<Path, NoMemory>
         ensures { IfOk result (λ p. p ≡ self.now) }
     {
         Ok(Path {
-            pairs: Seq::from_slice(alloc, self.pairs.as_slice())?,
+            chain: share(&self.chain)?,
         })
     }
 
@@ -88,11 +91,63 @@ impl Path {
         ensures { IfOk result (λ v. v.items ≡ path_text self.now) }
     {
         let mut out = Vec::from_slice(alloc, b"main")?;
-        let pairs = self.pairs.as_slice();
-        for pair in pairs {
+        let pairs = pairs(alloc, &self.chain)?;
+        'pairs: for pair in &pairs {
             push_child(alloc, &mut out, *pair)?;
         }
         Ok(out)
+    }
+}
+
+impl PartialEq for Path {
+    ghost use Rattle.std.specs.Cmp.{partial_equiv_from_equiv};
+    ghost use Rattle.fm_base.specs.PathOrder.{path_eq};
+    ghost use Rattle.fm_base.specs.PathOrderLaws.{path_equiv};
+
+    ghost eq = { path_eq };
+
+    ghost laws = { partial_equiv_from_equiv path_equiv };
+
+    fn eq(&self, other: &Path) -> bool {
+        order_of_chains(&self.chain, &other.chain).is_eq()
+    }
+}
+
+impl Eq for Path {
+    ghost use Rattle.fm_base.specs.PathOrderLaws.{path_equiv};
+
+    ghost laws = { path_equiv };
+}
+
+impl PartialOrd for Path {
+    ghost use Rattle.std.specs.Prelude.{Some};
+    ghost use Rattle.fm_base.specs.PathOrder.{path_cmp};
+    ghost use Rattle.fm_base.specs.PathOrderLaws.{path_po};
+
+    ghost partial_cmp = { λ x y. Some (path_cmp x y) };
+
+    ghost laws = { path_po };
+
+    fn partial_cmp(&self, other: &Path) -> Option<Ordering> {
+        Some(self.cmp(other))
+    }
+}
+
+impl Ord for Path {
+    ghost use Rattle.std.specs.Prelude.{refl};
+    ghost use Rattle.fm_base.specs.PathOrder.{path_cmp};
+    ghost use Rattle.fm_base.specs.PathOrderLaws.{path_total, path_ties};
+
+    ghost cmp = { path_cmp };
+
+    ghost total = { path_total };
+
+    ghost matches_partial_cmp = { λ x y. refl };
+
+    ghost matches_eq = { path_ties };
+
+    fn cmp(&self, other: &Path) -> Ordering {
+        order_of_chains(&self.chain, &other.chain)
     }
 }
 

@@ -7,14 +7,14 @@ use Rattle.fm_base.specs.declared.path.ChanName.{ChanName}
 use Rattle.fm_base.specs.declared.port.PortValue.{PortValue}
 use Rattle.fm_base.specs.PathOrder.{channel_cmp}
 use Rattle.fm_base.specs.Channels.{Chan, channel_of, discarded, freed, shut, shut_at}
-use Rattle.fm_maps.specs.Changes.{adjust}
-use Rattle.fm_maps.specs.Map.{map_of, map_values}
-use Rattle.fm_maps.specs.Sums.{total, value_or_zero}
-use Rattle.fm_maps.proofs.Keys.{channel_order, decide}
-use Rattle.fm_maps.proofs.Adjusts.{adjust_absent}
-use Rattle.fm_maps.proofs.Inserts.{insert_here, insert_there}
-use Rattle.fm_maps.proofs.Maps.{get-map_values, map_values-empty, map_values-insert, map_values-adjust, map_values-same}
-use Rattle.fm_maps.proofs.Sums.{total-insert, total-empty, total-le, total-ones}
+use Rattle.fm_finmap.specs.Changes.{adjust}
+use Rattle.fm_finmap.specs.Map.{map_of, map_values}
+use Rattle.fm_finmap.specs.Sums.{total, value_or_zero}
+use Rattle.fm_finmap.proofs.Keys.{channel_order, decide}
+use Rattle.fm_finmap.proofs.Adjusts.{adjust_absent}
+use Rattle.fm_finmap.proofs.Inserts.{insert_here, insert_there}
+use Rattle.fm_finmap.proofs.Maps.{get-map_values, map_values-empty, map_values-insert, map_values-adjust, map_values-same}
+use Rattle.fm_finmap.proofs.Sums.{total-insert, total-empty, total-le, total-ones}
 use Rattle.fm_chan.specs.declared.body.Body.{Body}
 use Rattle.fm_chan.specs.Kept.{Named, chan_of, chans_in}
 use Rattle.fm_chan.specs.Rooms.{IsRoomy, RoomAt, HasRoomIn, KeepsRoomIn, KeepsOthersRoomIn}

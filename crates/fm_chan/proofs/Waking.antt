@@ -7,8 +7,8 @@ use Rattle.fm_base.specs.declared.path.ChanName.{ChanName}
 use Rattle.fm_base.specs.declared.port.PortValue.{PortValue}
 use Rattle.fm_base.specs.declared.port.PortValue.TheVariants.{Writer, Reader}
 use Rattle.fm_base.specs.Channels.{Message, message_ports, Chan, Chans, channel_of, without, discarded, freed, shut, shut_at, shed, weight, all_shed}
-use Rattle.fm_maps.proofs.Keys.{channel_order, decide}
-use Rattle.fm_maps.proofs.Inserts.{insert_here, insert_there}
+use Rattle.fm_finmap.proofs.Keys.{channel_order, decide}
+use Rattle.fm_finmap.proofs.Inserts.{insert_here, insert_there}
 use Rattle.fm_discards.proofs.Shedding.{all_shed-nil}
 use Rattle.std.specs.Option.{option_map}
 use Rattle.fm_chan.specs.declared.body.Body.{Body}

@@ -6,7 +6,7 @@ use Rattle.fm_base.specs.declared.path.ChanName.{ChanName}
 use Rattle.fm_base.specs.declared.port.PortValue.{PortValue}
 use Rattle.fm_base.specs.declared.port.PortValue.TheVariants.{Writer, Reader}
 use Rattle.fm_base.specs.Channels.{Message, message_ports, Chan, Chans, ChannelOp, Push, channel_of, changed, spills_at, all_shed, numbers_from}
-use Rattle.fm_maps.specs.Changes.{adjust}
+use Rattle.fm_finmap.specs.Changes.{adjust}
 use Rattle.fm_chan.specs.declared.body.Put.{Put}
 use Rattle.fm_chan.specs.declared.body.Put.TheVariants.{Done, Spilt}
 

@@ -8,8 +8,8 @@ use Rattle.std.specs.Global.{Vec}
 use Rattle.fm_base.specs.declared.path.ChanName.{ChanName}
 use Rattle.fm_base.specs.PathOrder.{channel_cmp}
 use Rattle.fm_base.specs.Channels.{Chan, can_pop}
-use Rattle.fm_maps.specs.Map.{map_of}
-use Rattle.fm_maps.specs.Sums.{total}
+use Rattle.fm_finmap.specs.Map.{map_of}
+use Rattle.fm_finmap.specs.Sums.{total}
 use Rattle.fm_chan.specs.declared.body.Body.{Body}
 use Rattle.fm_chan.specs.declared.body.Put.{Put}
 use Rattle.fm_chan.specs.declared.body.Put.TheVariants.{Done, Spilt}

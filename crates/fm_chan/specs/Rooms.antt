@@ -4,7 +4,7 @@ use Rattle.std.specs.Prelude.{◌≢◌, ◌<◌, Option, Some, None}
 use Rattle.std.specs.FinMap as map
 use Rattle.fm_base.specs.declared.path.ChanName.{ChanName}
 use Rattle.fm_base.specs.PathOrder.{channel_cmp}
-use Rattle.fm_maps.specs.Map.{map_of}
+use Rattle.fm_finmap.specs.Map.{map_of}
 use Rattle.fm_chan.specs.declared.body.Body.{Body}
 use Rattle.fm_chan.specs.declared.body.Inport.{Inport}
 use Rattle.fm_chan.specs.declared.channels.Channels.{Channels}

@@ -4,7 +4,7 @@ ghost use Rattle.std.specs.Prelude.{◌≡◌, ◌≢◌, ◌+◌, true, false, 
 ghost use Rattle.std.specs.FinMap as map;
 ghost use Rattle.fm_base.specs.declared.path.ChanName as declared;
 ghost use Rattle.fm_base.specs.Channels.{Push, Pop, changed, freed, shut, spills_at};
-ghost use Rattle.fm_maps.specs.Changes.{adjust};
+ghost use Rattle.fm_finmap.specs.Changes.{adjust};
 ghost use Rattle.fm_chan.specs.Kept.{chans_in};
 ghost use Rattle.fm_chan.specs.Readers.{IsReadyAt, IsClosedAt, WakesOne, count_of, noted_in, reader_at, woken_by};
 ghost use Rattle.fm_chan.specs.Rooms.{HasRoomIn, KeepsRoomIn, KeepsOthersRoomIn};
@@ -17,7 +17,7 @@ use crate::discarding::Discarding;
 use crate::message::{Got, Message};
 use crate::port::Port;
 use fm_base::{ChanName, NoMemory};
-use fm_maps::Map;
+use fm_finmap::Map;
 
 /// What stands behind the channels' names.
 pub type Bodies = Map<ChanName, Body>;

@@ -11,7 +11,7 @@ use crate::discarding::Discarding;
 use crate::message::{Got, Message};
 use crate::port::Port;
 use fm_base::{ChanName, NoMemory, PortValue};
-use fm_maps::Map;
+use fm_finmap::Map;
 use std::alloc::Global;
 
 /// The channels, by their names. Contracts see a finite map of them (`chans_of`), and beside it which
@@ -306,15 +306,6 @@ impl Channels {
         let mut discarding = Discarding::new(self.alloc);
         self.shut(port, &mut discarding);
         self.discard_all(discarding);
-    }
-
-    /// Discards the ports of a message. Takes no memory.
-    pub fn discard_message(&mut self, message: Message)
-        ensures channels { chans_of self.new ≡ all_shed (message_ports message) (chans_of self.old) }
-        ensures room { KeepsRoom self.old self.new }
-        ensures waking { Wakes self.old self.new }
-    {
-        self.discard_all(Discarding::of_message(self.alloc, message));
     }
 
     /// The name of the port's channel.

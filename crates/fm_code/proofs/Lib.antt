@@ -1,2 +1,2 @@
-pub mod FusedLaws
+mod FusedLaws
 pub mod StackLaws

@@ -16,7 +16,7 @@ mod scratch;
 mod stack;
 
 pub use ask::{Ask, Operand};
-pub use body::{Back, Body, Frame, SharedCode, Start, Turns};
+pub use body::{Back, Body, Frame, SharedCode, Start, Trips};
 pub use code::{Code, Entry, Formal, Span, Unit};
 pub use copying::copy_body;
 pub use fused::Fused;

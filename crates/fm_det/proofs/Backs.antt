@@ -14,11 +14,11 @@ use Rattle.fm_graph.specs.Graph.{IsComponents, IsEdge, IsWalk, Reaches, edges_of
 use Rattle.fm_graph.proofs.Reach.{reach_edge}
 use Rattle.fm_tree.specs.declared.program_unit.Unit.{Unit}
 use Rattle.fm_symbols.specs.declared.context.Context.{Context}
-use Rattle.fm_det.specs.declared.calls.Call.{Call}
-use Rattle.fm_det.specs.Calls.{all_calls, call_graph, graph_of, target_of}
-use Rattle.fm_det.specs.Recursion.{IsRecursion}
+use Rattle.fm_rules.specs.declared.calls.Call.{Call}
+use Rattle.fm_rules.specs.Calls.{all_calls, call_graph, graph_of, target_of}
+use Rattle.fm_rules.specs.Recursion.{IsRecursion}
 use Rattle.fm_det.specs.Search.{all_back_calls, back_calls, is_back, same_name}
-use Rattle.fm_det.proofs.Lists.{at_head, behind_head, head_or_behind, in_map, not_in_none}
+use Rattle.fm_rules.proofs.Lists.{at_head, behind_head, head_or_behind, in_map, not_in_none}
 
 -- one unit more
 pub all_back_more : (names : List ℕ) (css : List (List Call)) (unit : ℕ) (cs : List Call) (best next : Option Refusal) → unit < length css → cs ≡ get_or css unit cs → next ≡ least_from best (back_calls names unit cs)

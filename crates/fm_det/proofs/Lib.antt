@@ -1,3 +1,2 @@
-pub mod Lists
 pub mod Backs
 pub mod Races

@@ -10,11 +10,11 @@ use Rattle.fm_graph.specs.Graph.{IsReached, Reaches}
 use Rattle.fm_tree.specs.declared.program_unit.Entry.{Entry}
 use Rattle.fm_tree.specs.declared.program_unit.Unit.{Unit}
 use Rattle.fm_symbols.specs.declared.context.Context.{Context}
-use Rattle.fm_det.specs.declared.calls.Call.{Call}
-use Rattle.fm_det.specs.Calls.{all_calls, call_graph, calls_of, graph_of, target_of}
-use Rattle.fm_det.specs.Race.{IsRace, IsRaceVerdict, is_racy, main_of}
+use Rattle.fm_rules.specs.declared.calls.Call.{Call}
+use Rattle.fm_rules.specs.Calls.{all_calls, call_graph, calls_of, graph_of, target_of}
+use Rattle.fm_rules.specs.Race.{IsRace, IsRaceVerdict, is_racy, main_of}
 use Rattle.fm_det.specs.Search.{lower, lower_if, racy_from, racy_in, racy_in_unit}
-use Rattle.fm_det.proofs.Lists.{at_head, behind_head, head_or_behind, not_in_none, some_same}
+use Rattle.fm_rules.proofs.Lists.{at_head, behind_head, head_or_behind, not_in_none, some_same}
 
 pub record IsLow (P : ℕ → Type 0) (line : Line) : Type 0 where
   pub here : P line.0
@@ -105,7 +105,7 @@ lowest_from P flags from best (u ∷ us) h =
 
 module _ (us : List Unit) (c : Context) (main : ℕ) (starts : main_of c ≡ Some main) (flags : List Bool) (reached : IsReached (call_graph true us c) main flags) where
   long : length (call_graph true us c) ≡ length us
-  long = length-map (all_calls true us c) (map target_of) ∙ length-map us (calls_of true c.units)
+  long = length-map (all_calls true us c) (map target_of) ∙ length-map us (calls_of true c)
 
   is_race : (k : ℕ) → InUnits flags 0 us k → IsRace us c k
   is_race k (in_units at number u e f g i) = of i

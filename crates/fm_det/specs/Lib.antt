@@ -1,4 +1,1 @@
-pub mod Calls
-pub mod Race
-pub mod Recursion
 pub mod Search

@@ -6,8 +6,8 @@ use Rattle.fm_base.specs.declared.rule.Rule.TheVariants.{E45}
 use Rattle.fm_base.specs.Verdict.{place, when}
 use Rattle.fm_tree.specs.declared.program_unit.Entry.{Entry}
 use Rattle.fm_tree.specs.declared.program_unit.Unit.{Unit}
-use Rattle.fm_det.specs.declared.calls.Call.{Call}
-use Rattle.fm_det.specs.Race.{is_racy}
+use Rattle.fm_rules.specs.declared.calls.Call.{Call}
+use Rattle.fm_rules.specs.Race.{is_racy}
 
 -- both in one component
 abbrev pub same_name : Option ℕ → Option ℕ → Bool

@@ -3,35 +3,28 @@
 ghost use Rattle.std.specs.Prelude.{◌≡◌, ◌++◌, map, slice_get, OnOk, IfOk};
 ghost use Rattle.std.specs.List.{flat_map};
 ghost use Rattle.std.specs.Option.{option_map};
-ghost use Rattle.fm_applied.specs.Applied.{applied_names};
-ghost use Rattle.fm_det.specs.Calls.{all_calls, call_by, call_to, called, calls_in, calls_of, graph_of, process_call, process_called, referring, target_of};
+ghost use Rattle.fm_rules.specs.Applied.{applied_names};
+ghost use Rattle.fm_rules.specs.Calls.{all_calls, call_by, call_statement, call_to, called, calls_in, calls_of, counts_call, graph_of, is_subroutine, is_subroutine_scope, is_subroutine_unit, names_subroutine, process_call, process_called, referring, target_of};
 
-use fm_applied::applied_names;
 use fm_base::{Line, Name, NoMemory, Seq};
-use fm_maps::NameMap;
+use fm_finmap::NameMap;
+use fm_rules::Call;
 use fm_symbols::Context;
-use fm_tree::{Entry, Simple, Stmt, Unit};
+use fm_tree::{Entry, Simple, Stmt, Unit, UnitKind};
+use fm_tree_walk::applied_names;
 use std::alloc::Global;
 
-/// A call of a unit: the number of the unit that is called, and the line of the call.
-#[derive(Clone, Copy)]
-pub struct Call {
-    pub target: usize,
-    pub line: Line,
-}
-
-#[tactic(auto, unfolding(crate::specs::Calls::called))]
+#[tactic(auto, unfolding(fm_rules::specs::Calls::called))]
 fn called(stmt: &Stmt) -> Option<&Name>
     ensures { option_map (λ n. n.now) result ≡ called stmt.now }
 {
     match stmt {
         Stmt::Simple(Simple::Call(name, _)) => Some(name),
-        Stmt::LogicalIf(_, Simple::Call(name, _)) => Some(name),
         _ => None,
     }
 }
 
-#[tactic(auto, unfolding(crate::specs::Calls::process_called))]
+#[tactic(auto, unfolding(fm_rules::specs::Calls::process_called))]
 fn process_called(stmt: &Stmt) -> Option<&Name>
     ensures { option_map (λ n. n.now) result ≡ process_called stmt.now }
 {
@@ -85,6 +78,66 @@ fn add_references(
     Ok(())
 }
 
+fn is_subroutine(kind: UnitKind) -> bool
+    ensures { result ≡ is_subroutine kind }
+{
+    match kind {
+        UnitKind::Program => false,
+        UnitKind::Process => false,
+        UnitKind::Subroutine => true,
+        UnitKind::Function => false,
+    }
+}
+
+fn is_subroutine_scope(context: &Context, number: u32) -> bool
+    ensures { result ≡ is_subroutine_scope (slice_get context.now.scopes number) }
+{
+    match context.scopes.as_slice().get(number as usize) {
+        None => false,
+        Some(scope) => is_subroutine(scope.kind),
+    }
+}
+
+fn is_subroutine_unit(context: &Context, number: Option<u32>) -> bool
+    ensures { result ≡ is_subroutine_unit context.now number }
+{
+    match number {
+        None => false,
+        Some(number) => is_subroutine_scope(context, number),
+    }
+}
+
+fn names_subroutine(context: &Context, name: Option<&Name>) -> bool
+    ensures { result ≡ names_subroutine context.now (option_map (λ n. n.now) name.entry) }
+{
+    match name {
+        None => false,
+        Some(name) => is_subroutine_unit(context, context.units.get(name).copied()),
+    }
+}
+
+fn counts_call(processes: bool, context: &Context, name: Option<&Name>) -> bool
+    ensures { result ≡ counts_call processes context.now (option_map (λ n. n.now) name.entry) }
+{
+    processes || names_subroutine(context, name)
+}
+
+/// Adds the call by CALL, where it counts.
+fn add_call_statement(
+    processes: bool,
+    context: &Context,
+    entry: &Entry,
+    calls: &mut Seq<Call>,
+) -> Result<(), NoMemory>
+    ensures { OnOk result (calls.new ≡ calls.old ++ call_statement processes context.now entry.now) }
+{
+    let name = called(&entry.stmt);
+    if counts_call(processes, context, name) {
+        add_named(&context.units, name, entry.line, calls)?;
+    }
+    Ok(())
+}
+
 /// Adds the call by PROCESSCALL, where processes count.
 fn add_process(
     processes: bool,
@@ -104,17 +157,17 @@ fn add_process(
 fn add_calls(
     alloc: Global,
     processes: bool,
-    units: &NameMap<u32>,
+    context: &Context,
     entry: &Entry,
     calls: &mut Seq<Call>,
 ) -> Result<(), NoMemory>
-    ensures { OnOk result (calls.new ≡ calls.old ++ calls_in processes units.now entry.now) }
+    ensures { OnOk result (calls.new ≡ calls.old ++ calls_in processes context.now entry.now) }
 {
     let names = applied_names(alloc, &entry.stmt)?;
-    add_named(units, called(&entry.stmt), entry.line, calls)?;
-    add_process(processes, units, entry, calls)?;
+    add_call_statement(processes, context, entry, calls)?;
+    add_process(processes, &context.units, entry, calls)?;
     add_references(
-        units,
+        &context.units,
         names.as_slice(),
         entry.refs.as_slice(),
         entry.line,
@@ -126,14 +179,14 @@ fn add_calls(
 fn calls_of(
     alloc: Global,
     processes: bool,
-    units: &NameMap<u32>,
+    context: &Context,
     unit: &Unit,
 ) -> Result<Seq<Call>, NoMemory>
-    ensures { IfOk result (λ calls. calls ≡ calls_of processes units.now unit.now) }
+    ensures { IfOk result (λ calls. calls ≡ calls_of processes context.now unit.now) }
 {
     let mut calls = Seq::new(alloc);
     'entries: for entry in unit.body.as_slice() {
-        add_calls(alloc, processes, units, entry, &mut calls)?;
+        add_calls(alloc, processes, context, entry, &mut calls)?;
     }
     Ok(calls)
 }
@@ -149,7 +202,7 @@ pub(crate) fn all_calls(
 {
     let mut all = Seq::new(alloc);
     'units: for unit in units {
-        all.push(calls_of(alloc, processes, &context.units, unit)?)?;
+        all.push(calls_of(alloc, processes, context, unit)?)?;
     }
     Ok(all)
 }

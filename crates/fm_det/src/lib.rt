@@ -5,6 +5,5 @@ mod calls;
 mod racing;
 mod recursive;
 
-pub use calls::Call;
 pub use racing::race;
 pub use recursive::recursion;

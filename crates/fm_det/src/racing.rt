@@ -1,7 +1,7 @@
 //! Races.
 
 ghost use Rattle.std.specs.Prelude.{◌≡◌, false, None, slice_index_or, IfOk};
-ghost use Rattle.fm_det.specs.Race.{is_main, is_program, is_racy, main_of, IsRaceVerdict};
+ghost use Rattle.fm_rules.specs.Race.{is_main, is_program, is_racy, main_of, IsRaceVerdict};
 ghost use Rattle.fm_det.specs.Search.{lower, lower_if, racy_from, racy_in, racy_in_unit};
 
 use crate::calls::{all_calls, graph_of};
@@ -11,15 +11,13 @@ use fm_symbols::{Context, Scope};
 use fm_tree::{Entry, Simple, Stmt, Unit, UnitKind, Units};
 use std::alloc::Global;
 
-#[tactic(auto, unfolding(crate::specs::Race::is_racy))]
+#[tactic(auto, unfolding(fm_rules::specs::Race::is_racy))]
 fn is_racy(stmt: &Stmt) -> bool
     ensures { result ≡ is_racy stmt.now }
 {
     match stmt {
         Stmt::Simple(Simple::Merger(_, _)) => true,
         Stmt::Simple(Simple::Probe { .. }) => true,
-        Stmt::LogicalIf(_, Simple::Merger(_, _)) => true,
-        Stmt::LogicalIf(_, Simple::Probe { .. }) => true,
         _ => false,
     }
 }

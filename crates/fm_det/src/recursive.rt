@@ -3,12 +3,13 @@
 ghost use Rattle.std.specs.Prelude.{◌≡◌, None, IfOk};
 ghost use Rattle.fm_base.specs.declared.rule.Rule.TheVariants.{E45};
 ghost use Rattle.fm_base.specs.Verdict.{IsVerdict, least_from, place, when};
-ghost use Rattle.fm_det.specs.Recursion.{IsRecursion};
+ghost use Rattle.fm_rules.specs.Recursion.{IsRecursion};
 ghost use Rattle.fm_det.specs.Search.{all_back_calls, back_calls, is_back, same_name};
 
-use crate::calls::{Call, all_calls, graph_of};
+use crate::calls::{all_calls, graph_of};
 use fm_base::{NoMemory, Refusal, Rule, Seq, keep_earlier};
 use fm_graph::components;
+use fm_rules::Call;
 use fm_symbols::Context;
 use fm_tree::Units;
 use std::alloc::Global;

@@ -6,10 +6,10 @@ use Rattle.fm_base.specs.declared.path.ChanName.{ChanName}
 use Rattle.fm_base.specs.declared.port.PortValue.{PortValue}
 use Rattle.fm_base.specs.declared.port.PortValue.TheVariants.{Writer, Reader}
 use Rattle.fm_base.specs.Channels.{Chan, Chans, channel_of, without, discarded, freed, shut, shut_at, shed, weight, all_shed}
-use Rattle.fm_maps.specs.Sums.{total}
-use Rattle.fm_maps.specs.Changes.{adjust, adjust_found}
-use Rattle.fm_maps.proofs.Keys.{decide, nat_order, channel_order}
-use Rattle.fm_maps.proofs.Adjusts.{adjust_swap, adjust_here, adjust_there}
+use Rattle.fm_finmap.specs.Sums.{total}
+use Rattle.fm_finmap.specs.Changes.{adjust, adjust_found}
+use Rattle.fm_finmap.proofs.Keys.{decide, nat_order, channel_order}
+use Rattle.fm_finmap.proofs.Adjusts.{adjust_swap, adjust_here, adjust_there}
 use Rattle.fm_discards.proofs.Shedding.{queued, weight-total, weight-cons, all_shed-nil, all_shed-cons}
 
 -- the port's channel, if it is there

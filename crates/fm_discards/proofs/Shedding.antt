@@ -6,9 +6,9 @@ use Rattle.fm_base.specs.declared.path.ChanName.{ChanName}
 use Rattle.fm_base.specs.declared.port.PortValue.{PortValue}
 use Rattle.fm_base.specs.declared.port.PortValue.TheVariants.{Writer, Reader}
 use Rattle.fm_base.specs.Channels.{Chan, Chans, queue_ports, channel_of, discarded, freed, shut, shut_at, shed, weight, all_shed}
-use Rattle.fm_maps.specs.Sums.{sum_values, total, value_or_zero}
-use Rattle.fm_maps.proofs.Keys.{channel_order}
-use Rattle.fm_maps.proofs.Sums.{total-insert}
+use Rattle.fm_finmap.specs.Sums.{sum_values, total, value_or_zero}
+use Rattle.fm_finmap.proofs.Keys.{channel_order}
+use Rattle.fm_finmap.proofs.Sums.{total-insert}
 
 -- how many ports wait in a channel
 abbrev pub queued : Chan → ℕ

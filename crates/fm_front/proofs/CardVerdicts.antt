@@ -1,22 +1,19 @@
 -- The verdict on cards, one after the other.
-use Rattle.std.proofs.Common.{◌≡◌, inl, inr, ⊎_elim, ℕ, List, [], ◌∷◌, ◌++◌, subst, arith}
+use Rattle.std.proofs.Common.{◌≡◌, inl, inr, ⊎_elim, ℕ, List, [], ◌∷◌, ◌++◌, subst}
 use Rattle.std.specs.Prelude.{Option, Some, None}
 use Rattle.fm_base.specs.declared.rule.CheckFail.{CheckFail}
-use Rattle.fm_base.specs.declared.rule.CheckFail.TheVariants.{Refused, NoMemory}
 use Rattle.fm_base.specs.declared.rule.Refusal.{Refusal}
-use Rattle.fm_base.specs.Verdict.{Either, IsClean, IsLeast, IsVerdict, IsRefusal, IsOfPhase, IsBeforePhase, earliest, first_of, or_next}
+use Rattle.fm_base.specs.Verdict.{Either, IsClean, IsLeast, IsVerdict, IsRefusal, earliest, first_of}
 use Rattle.fm_base.proofs.Least.{verdict_same}
-use Rattle.fm_base.proofs.Phases.{verdict_join, phase_join}
+use Rattle.fm_base.proofs.Phases.{verdict_join}
 use Rattle.fm_cards.specs.Broken as cards
 use Rattle.fm_cards.specs.Cards.{cards_of}
 use Rattle.fm_cards.specs.declared.card.Card.{Card}
-use Rattle.fm_cards.proofs.PhaseZero.{all_of_phase_zero}
 use Rattle.fm_stmt.specs.Checked as card
 use Rattle.fm_stmt.specs.Checked.{IsStatementOf}
-use Rattle.fm_stmt.proofs.CardLaws as laws
 use Rattle.fm_tree.specs.declared.program_unit.Placed.{Placed}
 use Rattle.fm_rules.specs.Program.{AreShaped}
-use Rattle.fm_rules.proofs.Phases.{then_first, then_next}
+use Rattle.fm_front.proofs.Phases.{refused_first, then_next}
 use Rattle.fm_front.specs.Verdict.{AreStatementsOf, IsBroken, IsBrokenCard, IsBrokenForm, IsBrokenLater, IsVerdictOn, HasRead}
 
 split : (cs : List Card) (c : Card) (q : Refusal) → IsBrokenCard (cs ++ c ∷ []) q → Either (IsBrokenCard cs) (card.IsBroken c) q
@@ -66,40 +63,26 @@ refused_one cs ps best c q h k = record {
 
 -- The phases.
 
-cards_phase : (cs : List Card) → IsOfPhase 1 (IsBrokenCard cs)
-cards_phase [] q b = absurd b
-cards_phase (c ∷ cs) q (inl b) = laws.all_of_phase_one_law c q b
-cards_phase (c ∷ cs) q (inr b) = cards_phase cs q b
-
-form_zero : (source : List ℕ) → IsBeforePhase 1 (cards.IsBroken source)
-form_zero source q b = omega (arith, all_of_phase_zero source q b)
-
--- what the form of a text and the cards break
-pub form_verdict : (source : List ℕ) (a b : Option Refusal) → IsVerdict (cards.IsBroken source) a → (a ≡ None → IsVerdict (IsBrokenCard (cards_of source)) b) → IsVerdict (IsBrokenForm source) (or_next a b)
-form_verdict source a b v w = phase_join (cards.IsBroken source) (IsBrokenCard (cards_of source)) 1 a b (form_zero source) (cards_phase (cards_of source)) v w
-
 pub form_refused : (source : List ℕ) (e : CheckFail) → IsRefusal (cards.IsBroken source) e → IsRefusal (IsBrokenForm source) e
-form_refused source (Refused q) h = form_verdict source (Some q) None h (λ e. absurd (cc e))
-form_refused source NoMemory h = tt
-
-pub form_first : (source : List ℕ) (q : Refusal) → IsLeast (IsBrokenForm source) q → IsVerdictOn source (Some q)
-form_first source q h = then_first (IsBrokenForm source) (IsBrokenLater source) q h
+form_refused source e h = refused_first (cards.IsBroken source) (IsBrokenCard (cards_of source)) e h
 
 pub later_next : (source : List ℕ) (b : Option Refusal) → IsClean (IsBrokenForm source) → IsVerdict (IsBrokenLater source) b → IsVerdictOn source b
 later_next source b clean v = then_next (IsBrokenForm source) (IsBrokenLater source) b clean v
 
 -- what is broken in the form or on a card is broken in the source
 pub refused_form : (source : List ℕ) (e : CheckFail) → IsRefusal (IsBrokenForm source) e → IsRefusal (IsBroken source) e
-refused_form source (Refused q) h = form_first source q h
-refused_form source NoMemory h = tt
+refused_form source e h = refused_first (IsBrokenForm source) (IsBrokenLater source) e h
+
+-- the verdict on the cards that were read, where the form breaks nothing
+cards_verdict : (source : List ℕ) (cs : List Card) (ps : List Placed) (best v : Option Refusal) → cs ≡ cards_of source → IsClean (cards.IsBroken source) → HasRead cs ps best → best ≡ v → IsVerdict (IsBrokenForm source) v
+cards_verdict source cs ps best v e clean h is =
+    then_next (cards.IsBroken source) (IsBrokenCard (cards_of source)) v clean (subst (λ (l : List Card). IsVerdict (IsBrokenCard l) v) e (subst (IsVerdict (IsBrokenCard cs)) is h.verdict))
 
 pub cards_refused : (source : List ℕ) (cs : List Card) (ps : List Placed) (best : Option Refusal) (q : Refusal) → cs ≡ cards_of source → IsClean (cards.IsBroken source) → HasRead cs ps best → best ≡ Some q → IsLeast (IsBrokenForm source) q
-cards_refused source cs ps best q e clean h is =
-    form_verdict source None (Some q) clean (λ _. subst (λ (l : List Card). IsLeast (IsBrokenCard l) q) e (subst (IsVerdict (IsBrokenCard cs)) is h.verdict))
+cards_refused source cs ps best q e clean h is = cards_verdict source cs ps best (Some q) e clean h is
 
 pub cards_clean : (source : List ℕ) (cs : List Card) (ps : List Placed) (best : Option Refusal) → cs ≡ cards_of source → IsClean (cards.IsBroken source) → HasRead cs ps best → best ≡ None → IsClean (IsBrokenForm source)
-cards_clean source cs ps best e clean h is =
-    form_verdict source None None clean (λ _. subst (λ (l : List Card). IsClean (IsBrokenCard l)) e (subst (IsVerdict (IsBrokenCard cs)) is h.verdict))
+cards_clean source cs ps best e clean h is = cards_verdict source cs ps best None e clean h is
 
 -- statements of cards have a form of the grammar
 pub are_shaped : (cs : List Card) (ps : List Placed) → AreStatementsOf cs ps → AreShaped ps

@@ -1,3 +1,4 @@
 pub mod CardVerdicts
 pub mod OnePrograms
 pub mod Uniques
+pub mod Phases

@@ -6,8 +6,8 @@ use native.Mathlib.Nat.{ℕ_set}
 use Rattle.std.proofs.Common.{◌≡◌, ℕ, List, refl, sym, ap, subst₂, ◌∙◌, arith}
 use Rattle.std.specs.Prelude.{Option, Some, None}
 use Rattle.fm_base.specs.declared.name.Line.{Line}
-use Rattle.fm_det.specs.Race.{IsRaceVerdict, IsDeterministic, IsFirstRace}
-use Rattle.fm_links.specs.declared.entry_links.EntryLinks.{EntryLinks}
+use Rattle.fm_rules.specs.Race.{IsRaceVerdict, IsDeterministic, IsFirstRace}
+use Rattle.fm_rules.specs.declared.entry_links.EntryLinks.{EntryLinks}
 use Rattle.fm_symbols.specs.Context.{context_of}
 use Rattle.fm_symbols.specs.declared.context.Context.{Context}
 use Rattle.fm_symbols.specs.declared.names.Names.{Names}

@@ -15,8 +15,8 @@ use Rattle.fm_tree.specs.declared.program_unit.Unit.{Unit}
 use Rattle.fm_tree.specs.declared.program_unit.Units.{Units}
 use Rattle.fm_symbols.specs.declared.names.Names.{Names}
 use Rattle.fm_symbols.specs.declared.names.UnitNames.{UnitNames}
-use Rattle.fm_unit.specs.Units.{units_of}
-use Rattle.fm_names.specs.Names.{names_of}
+use Rattle.fm_rules.specs.Units.{units_of}
+use Rattle.fm_rules.specs.Names.{names_of}
 use Rattle.fm_rules.specs.declared.program.Program.{Program}
 use Rattle.fm_rules.specs.Broken.{IsBrokenStatement}
 use Rattle.fm_rules.specs.Program.{IsChecked}

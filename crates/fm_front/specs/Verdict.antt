@@ -23,15 +23,15 @@ abbrev pub IsBrokenCard : List Card → Refusal → Type 0
 IsBrokenCard [] q = ⊥
 IsBrokenCard (c ∷ cs) q = Either (card.IsBroken c) (IsBrokenCard cs) q
 
--- broken by the form of the text, or on a card
+-- by the form of the text, or on a card where the form breaks nothing
 abbrev pub IsBrokenForm : List ℕ → Refusal → Type 0
-IsBrokenForm source = Either (cards.IsBroken source) (IsBrokenCard (cards_of source))
+IsBrokenForm source = Then (cards.IsBroken source) (IsBrokenCard (cards_of source))
 
 -- broken by the statements of a source, in its structure, its names or their use
 abbrev pub IsBrokenLater : List ℕ → Refusal → Type 0
 IsBrokenLater source q = (ps : List Placed) × AreStatementsOf (cards_of source) ps × IsBrokenStatement ps q
 
--- by the form, or by the statements where the form breaks nothing
+-- by the form and the cards, or by the statements where those break nothing
 abbrev pub IsBroken : List ℕ → Refusal → Type 0
 IsBroken source = Then (IsBrokenForm source) (IsBrokenLater source)
 

@@ -1,6 +1,7 @@
 //! The program of a source, or why the source is refused.
 #![tactic(auto)]
 
+mod checking;
 mod reading;
 mod source;
 

@@ -8,9 +8,10 @@ ghost use Rattle.fm_front.specs.Laws.{OneProgram, OneVerdict, ProgramIsClean, Pr
 ghost use Rattle.fm_front.specs.Program.{IsCheckedOf};
 ghost use Rattle.fm_front.specs.Verdict.{AreStatementsOf, IsBroken, IsBrokenForm};
 
+use crate::checking::check;
 use crate::reading::statements;
 use fm_base::CheckFail;
-use fm_rules::{Program, check};
+use fm_rules::Program;
 use fm_stmt::one_statement;
 use fm_tree::Placed;
 use std::alloc::Global;

@@ -27,24 +27,24 @@ use Rattle.fm_code.specs.declared.body.Frame.{Frame}
 use Rattle.fm_code.specs.declared.instr.Instr.{Instr}
 use Rattle.fm_code.specs.declared.instr.Instr.TheVariants as instr
 use Rattle.fm_code.specs.declared.instr.Meet.TheVariants as meet
-use Rattle.fm_code.specs.Acts.{Turn, Goes, Prints, Calls, Refers, Returns, ReturnsValue, Starts, Closes, Moves, Fails, Asks, Stuck, statement, work, nothing}
+use Rattle.fm_code.specs.Acts.{StatementEnd, Goes, Prints, Calls, Refers, Returns, ReturnsValue, Starts, Closes, Moves, Fails, Asks, Stuck, statement, work, nothing}
 use Rattle.fm_code.specs.Passing.{live}
 use Rattle.fm_code.specs.Statements as code_actions
-use Rattle.fm_code.specs.Statements.{action_by, at_statement, with_frame, with_words, code_in, entries_of, line_at, turn_of, moved, word_at}
-use Rattle.fm_checked.specs.Sound.{IsSoundUnit, words_among}
-use Rattle.fm_standing.specs.Standing.{Slots, values_in, IsFrame}
-use Rattle.fm_standing.specs.Operands.{IsActual, word_number}
-use Rattle.fm_standing.specs.Frames.{Stands, StartsStand, ResultsFit}
-use Rattle.fm_standing.specs.Laws.{OpensAlike}
-use Rattle.fm_standing.proofs.PortWords.{empty_alike, close_alike, move_alike, move_lets_go}
+use Rattle.fm_code.specs.Statements.{action_by, at_statement, with_frame, with_words, code_in, entries_of, line_at, statement_end_of, moved, word_at}
+use Rattle.fm_gen_relation.specs.Sound.{IsSoundUnit, words_among}
+use Rattle.fm_gen_relation.specs.Standing.{Slots, values_in, IsFrame}
+use Rattle.fm_gen_relation.specs.Operands.{IsActual, word_number}
+use Rattle.fm_gen_relation.specs.Frames.{Stands, StartsStand, ResultsFit}
+use Rattle.fm_gen_relation.specs.Laws.{OpensAlike}
+use Rattle.fm_gen_relation.proofs.PortWords.{empty_alike, close_alike, move_alike, move_lets_go}
 use Rattle.fm_gen.specs.Entries.{address_of, statement_address, join_address, unit_code}
 use Rattle.fm_gen.specs.Units.{unit_of_code}
 use Rattle.fm_gen.specs.Programs.{code_of}
-use Rattle.fm_executable.specs.Steps.{LeavesFrame, LeavesCode, Site, Passes, ClosesAlike, MovesAlike, Agree, AsksAlike}
+use Rattle.fm_gen_statements.specs.Steps.{LeavesFrame, LeavesCode, Site, Passes, ClosesAlike, MovesAlike, Agree, AsksAlike}
 use Rattle.fm_gen.specs.Kept.{site_at}
 use Rattle.fm_gen.specs.Bodies.{next_address, IsAlive, StandsFor, StepsAlike, MeetsAlike, DoesAlike, KeepsProgram}
-use Rattle.fm_checked.proofs.Units.{sound_unit}
-use Rattle.fm_standing.proofs.Passing.{opens_alike}
+use Rattle.fm_gen_relation.proofs.Units.{sound_unit}
+use Rattle.fm_gen_relation.proofs.Passing.{opens_alike}
 use Rattle.fm_gen.proofs.KeptUnits.{keeps_unit}
 use Rattle.fm_gen.proofs.LineLaws.{tells_lines}
 use Rattle.fm_gen.proofs.Standings.{join_stands}
@@ -209,8 +209,8 @@ module _ (p : Program) (types : Types) (slots : Slots) (x : Proc) (fine : IsFine
     starts_there : b.frame.address ≡ address
     starts_there = begins p (code_of p) slots x b s phase
 
-    turn : turn_of b ≡ statement (unit_code p unit) address b.frame
-    turn = λ i. statement (code_in (found i)) (starts_there i) b.frame
+    end_is : statement_end_of b ≡ statement (unit_code p unit) address b.frame
+    end_is = λ i. statement (code_in (found i)) (starts_there i) b.frame
 
     line : code_actions.line_of b ≡ names.line_of e
     line = (λ i. line_at (entries_of (found i)) (starts_there i)) ∙ (tells_lines p s.first.unit).statements s.frame.entry e at (length s.frame.results)
@@ -244,7 +244,7 @@ module _ (p : Program) (types : Types) (slots : Slots) (x : Proc) (fine : IsFine
     asks_alike (ask.Join next) a h = absurd h
     asks_alike ask.End a h = h
 
-    alike : (t : Turn) (a : Action) → Agree spot t a → DoesAlike p (code_of p) slots x b s e (action_by b t) a
+    alike : (t : StatementEnd) (a : Action) → Agree spot t a → DoesAlike p (code_of p) slots x b s e (action_by b t) a
     alike (Goes to m) a h = stepped p slots x b s phase e h.frame h.entry m to [] [] 1 a h.leads h.stands h.leaves h.leaves_code h.does
     alike (Prints to printed) a h =
         stepped p slots x b s phase e s.frame e.entry.after b.frame to _ [] _ a h.leads s.first.stands (record { unit = refl; starts = refl; backs = refl }) (record { unit = refl; count = refl; starts = refl; backs = refl })
@@ -263,7 +263,7 @@ module _ (p : Program) (types : Types) (slots : Slots) (x : Proc) (fine : IsFine
     runs_alike : DoesAlike p (code_of p) slots x b s e (code_actions.action_of b) (mean_actions.action_of p x)
     runs_alike =
         subst (λ a. DoesAlike p (code_of p) slots x b s e (code_actions.action_of b) a) (sym does)
-        (subst (λ t. DoesAlike p (code_of p) slots x b s e (action_by b t) now) (sym turn) (alike (statement (unit_code p unit) address b.frame) now agree))
+        (subst (λ t. DoesAlike p (code_of p) slots x b s e (action_by b t) now) (sym end_is) (alike (statement (unit_code p unit) address b.frame) now agree))
 
   -- A process that joins.
 
@@ -277,8 +277,8 @@ module _ (p : Program) (types : Types) (slots : Slots) (x : Proc) (fine : IsFine
     join : (rest : List Instr) × (drop (join_address p unit s.frame.entry) (unit_code p unit) ≡ instr.Meet (meet.Join (address_of p unit e.entry.after)) ∷ rest)
     join = join_stands p s.first.unit s.frame.entry e at ends
 
-    join_turn : turn_of b ≡ Asks (ask.Join (address_of p unit e.entry.after))
-    join_turn =
+    join_end : statement_end_of b ≡ Asks (ask.Join (address_of p unit e.entry.after))
+    join_end =
         (λ i. statement (code_in (found i)) ((s.first.address ∙ ap (λ h. next_address p h s.frame s.first.unit) phase) i) b.frame)
         ∙ ap (λ c. work c [] nothing b.frame) join.1
 
@@ -290,7 +290,7 @@ module _ (p : Program) (types : Types) (slots : Slots) (x : Proc) (fine : IsFine
         ∙ ap (λ o. Meets (Join block kids (after_in o))) at
 
     joins_alike : DoesAlike p (code_of p) slots x b s e (code_actions.action_of b) (mean_actions.action_of p x)
-    joins_alike = subst (λ t. DoesAlike p (code_of p) slots x b s e (action_by b t) (mean_actions.action_of p x)) (sym join_turn) (record {
+    joins_alike = subst (λ t. DoesAlike p (code_of p) slots x b s e (action_by b t) (mean_actions.action_of p x)) (sym join_end) (record {
       block = block;
       kids = kids;
       entry = e.entry.after;

@@ -30,15 +30,15 @@ use Rattle.fm_code.specs.declared.scratch.Place.TheVariants.{Here, Location, Sub
 use Rattle.fm_code.specs.Passing.{Passed}
 use Rattle.fm_code.specs.Statements as code_actions
 use Rattle.fm_code.specs.Statements.{CodeUnit, Own, Stuck, at_statement, opened, extents_of, fitted_in, seat_of, starts_at, pended}
-use Rattle.fm_checked.specs.Sound.{names_in}
-use Rattle.fm_standing.specs.Standing.{Slots, values_in}
-use Rattle.fm_standing.specs.Operands.{MeanBack, BacksStand}
-use Rattle.fm_standing.specs.Frames.{IsReferred, evaluates, Where, FrameStands}
-use Rattle.fm_standing.specs.Laws.{passed_words, OpensAlike}
+use Rattle.fm_gen_relation.specs.Sound.{names_in}
+use Rattle.fm_gen_relation.specs.Standing.{Slots, values_in}
+use Rattle.fm_gen_relation.specs.Operands.{MeanBack, BacksStand}
+use Rattle.fm_gen_relation.specs.Frames.{IsReferred, evaluates, Where, FrameStands}
+use Rattle.fm_gen_relation.specs.Laws.{passed_words, OpensAlike}
 use Rattle.fm_gen.specs.Entries.{address_of, statement_address}
 use Rattle.fm_gen.specs.Units.{unit_of_code}
 use Rattle.fm_gen.specs.Programs.{code_of}
-use Rattle.fm_executable.specs.Steps.{Site, Passes, CallsAlike, RefersAlike, StartsAlike, seat_by}
+use Rattle.fm_gen_statements.specs.Steps.{Site, Passes, CallsAlike, RefersAlike, StartsAlike, seat_by}
 use Rattle.fm_gen.specs.Kept.{site_at}
 use Rattle.fm_gen.specs.Bodies.{StandsFor, StepsAlike, DoesAlike}
 use Rattle.fm_gen.proofs.StandLaws.{statement_begins, unit_found, no_results, evaluates_by, backs_by, same_below, none_begun, begun, one_more, stands_after}

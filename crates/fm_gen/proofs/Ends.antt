@@ -7,7 +7,7 @@ use Rattle.fm_base.specs.declared.fault.Fault.TheVariants.{NullPort}
 use Rattle.fm_values.specs.Values.{sum}
 use Rattle.fm_values.specs.Trips.{trips_behind}
 use Rattle.fm_code.specs.declared.body.Frame.{Frame}
-use Rattle.fm_code.specs.declared.body.Turns.{Turns}
+use Rattle.fm_code.specs.declared.body.Trips.{Trips}
 use Rattle.fm_code.specs.declared.instr.End.TheVariants as end
 use Rattle.fm_code.specs.declared.instr.Meet.{Meet}
 use Rattle.fm_code.specs.declared.instr.Meet.TheVariants as meet
@@ -17,13 +17,13 @@ use Rattle.fm_code.specs.declared.instr.Instr.TheVariants as instr
 use Rattle.fm_code.specs.declared.ask.Ask.TheVariants as ask
 use Rattle.fm_code.specs.declared.scratch.Scratch.{Scratch}
 use Rattle.fm_code.specs.Acts as acts
-use Rattle.fm_code.specs.Acts.{Turn, Act, On, Over, found, gives, number_in, numbered, at_word, stored, counted, led, fewer, enters, turns, by_port, at_port, asks, closes, receives, meets, act, then_work, work}
+use Rattle.fm_code.specs.Acts.{StatementEnd, Act, On, Over, found, gives, number_in, numbered, at_word, stored, counted, led, fewer, enters, ends_trip, by_port, at_port, asks, closes, receives, meets, act, then_work, work}
 
 -- an act with which its statement ends
 abbrev Ends : Act → Type 0
-Ends a = (k j : List ℤ → Scratch → Turn) → then_work a k ≡ then_work a j
+Ends a = (k j : List ℤ → Scratch → StatementEnd) → then_work a k ≡ then_work a j
 
-ends_over : (c : Bool) (t o : Turn) → Ends (cond c (Over t) (Over o))
+ends_over : (c : Bool) (t o : StatementEnd) → Ends (cond c (Over t) (Over o))
 ends_over true t o k j = refl
 ends_over false t o k j = refl
 
@@ -38,14 +38,14 @@ ends_gives (Err fault) f h k j = refl
 ends_stored : (to n : ℕ) (x : ℤ) (m : Frame) → Ends (stored to n x m)
 ends_stored to n x m = ends_over (nat_lt n (length m.words)) (acts.Goes to (record m { words = slice_set m.words n x })) acts.Stuck
 
-ends_counted : (l : Loop) (body behind : ℕ) (t : Turns) (x : ℤ) (m : Frame) → Ends (counted l body behind t x m)
+ends_counted : (l : Loop) (body behind : ℕ) (t : Trips) (x : ℤ) (m : Frame) → Ends (counted l body behind t x m)
 ends_counted l body behind t x m =
     ends_over (nat_lt l.number (length m.loops) && nat_lt l.word (length m.words))
     (acts.Goes (led body behind t.behind) (record m { words = slice_set m.words l.word x; loops = slice_set m.loops l.number (Some t) })) acts.Stuck
 
-ends_turns : (l : Loop) (body behind : ℕ) (o : Option Turns) (m : Frame) → Ends (turns l body behind o m)
-ends_turns l body behind None m k j = refl
-ends_turns l body behind (Some t) m k j =
+ends_of_trip : (l : Loop) (body behind : ℕ) (o : Option Trips) (m : Frame) → Ends (ends_trip l body behind o m)
+ends_of_trip l body behind None m k j = refl
+ends_of_trip l body behind (Some t) m k j =
     ends_found (slice_get m.words l.word) (λ x. gives (sum x t.by) (λ v. counted l body behind (record { behind = fewer t.behind; by = t.by }) v m))
     (λ x. ends_gives (sum x t.by) (λ v. counted l body behind (record { behind = fewer t.behind; by = t.by }) v m) (λ v. ends_counted l body behind (record { behind = fewer t.behind; by = t.by }) v m)) k j
 
@@ -63,13 +63,13 @@ ends_at_word m x f h = ends_found (numbered m (number_in x)) f h
 ends_at_port : (m : Frame) (x : ℤ) (f : ℤ → Act) → ((v : ℤ) → Ends (f v)) → Ends (at_port m x f)
 ends_at_port m x f h = ends_at_word m x (λ n. by_port m n f) (λ n. ends_by_port m n f h)
 
-ends_over_word : (m : Frame) (x : ℤ) (f : ℕ → Turn) → Ends (at_word m x (λ n. Over (f n)))
+ends_over_word : (m : Frame) (x : ℤ) (f : ℕ → StatementEnd) → Ends (at_word m x (λ n. Over (f n)))
 ends_over_word m x f = ends_at_word m x (λ n. Over (f n)) (λ n k j. refl)
 
-ends_over_port : (m : Frame) (x : ℤ) (f : ℤ → Turn) → Ends (at_port m x (λ v. Over (f v)))
+ends_over_port : (m : Frame) (x : ℤ) (f : ℤ → StatementEnd) → Ends (at_port m x (λ v. Over (f v)))
 ends_over_port m x f = ends_at_port m x (λ v. Over (f v)) (λ v k j. refl)
 
-ends_over_words : (m : Frame) (x y : ℤ) (f : ℕ → ℕ → Turn) → Ends (at_word m x (λ n. at_word m y (λ i. Over (f n i))))
+ends_over_words : (m : Frame) (x y : ℤ) (f : ℕ → ℕ → StatementEnd) → Ends (at_word m x (λ n. at_word m y (λ i. Over (f n i))))
 ends_over_words m x y f = ends_at_word m x (λ n. at_word m y (λ i. Over (f n i))) (λ n. ends_over_word m y (f n))
 
 -- the instructions with which statements end
@@ -133,8 +133,8 @@ act_ends i (Enters body behind) (z ∷ y ∷ x ∷ s) b m k j =
     ends_found b.counts (λ l. enters l body behind x y z m)
     (λ l. ends_gives (trips_behind x y z) (λ n. counted l body behind (record { behind = n; by = z }) x m) (λ n. ends_counted l body behind (record { behind = n; by = z }) x m)) k j
 act_ends i (EndsTrip body behind) s b m k j =
-    ends_found b.counts (λ l. found (slice_get m.loops l.number) (λ t. turns l body behind t m))
-    (λ l. ends_found (slice_get m.loops l.number) (λ t. turns l body behind t m) (λ o. ends_turns l body behind o m)) k j
+    ends_found b.counts (λ l. found (slice_get m.loops l.number) (λ t. ends_trip l body behind t m))
+    (λ l. ends_found (slice_get m.loops l.number) (λ t. ends_trip l body behind t m) (λ o. ends_of_trip l body behind o m)) k j
 act_ends i (Prints to) s b m k j = refl
 act_ends i (Calls n to) s b m k j = refl
 act_ends i (Refers n to) s b m k j = refl
@@ -143,7 +143,7 @@ act_ends i (ReturnsValue n) s b m k j = ends_found (slice_get m.words n) (λ v. 
 act_ends i (Starts n to) s b m k j = refl
 act_ends i (Meets q) s b m k j = meet_ends q s b m k j
 
-then_same : (a : Act) (k j : List ℤ → Scratch → Turn) → ((s : List ℤ) (b : Scratch) → k s b ≡ j s b) → then_work a k ≡ then_work a j
+then_same : (a : Act) (k j : List ℤ → Scratch → StatementEnd) → ((s : List ℤ) (b : Scratch) → k s b ≡ j s b) → then_work a k ≡ then_work a j
 then_same (On s b) k j h = h s b
 then_same (Over t) k j h = refl
 

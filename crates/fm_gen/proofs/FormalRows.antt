@@ -4,7 +4,7 @@ use Rattle.std.specs.Prelude.{slice_get}
 use Rattle.fm_symbols.specs.declared.names.Variable.{Variable}
 use Rattle.fm_mean.specs.Names.{formal_from}
 use Rattle.fm_code.specs.declared.code.Formal.{Formal}
-use Rattle.fm_standing.specs.Formals.{formal_if, formals_from}
+use Rattle.fm_gen_relation.specs.Formals.{formal_if, formals_from}
 
 -- where some are left, the next one is added
 pub next_formal : (vs : List Variable) (n i k m : ℕ) (old new : List Formal) → k ≡ suc m → i ≡ n + 1 → new ≡ old ++ formal_if (slice_get vs (formal_from 0 n vs))

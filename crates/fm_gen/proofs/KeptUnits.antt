@@ -3,7 +3,7 @@ use Rattle.std.proofs.Common.{◌≡◌, ℕ, zero, suc, ◌+◌, ◌≤◌, Opt
 use Rattle.std.specs.Prelude.{slice_get, option_and_then}
 use Rattle.std.specs.Option.{option_map}
 use Rattle.std.proofs.lemmas.Option.{slice_get-map}
-use Rattle.fm_links.specs.Links.{links_of}
+use Rattle.fm_rules.specs.Links.{links_of}
 use Rattle.fm_tree.specs.Tree.{Tree, Trees}
 use Rattle.fm_tree.specs.References.{applied_in, reference_at}
 use Rattle.fm_tree.specs.declared.program_unit.Entry.{Entry}
@@ -14,25 +14,25 @@ use Rattle.fm_mean.specs.Process.{Execution}
 use Rattle.fm_mean.specs.Actions.{action_by, next_reference}
 use Rattle.fm_code.specs.declared.body.Frame.{Frame}
 use Rattle.fm_code.specs.Acts.{work, nothing, statement}
-use Rattle.fm_checked.specs.Sound.{calls_among, IsSoundEntry}
-use Rattle.fm_standing.specs.Standing.{Slots, IsFrame}
-use Rattle.fm_standing.specs.Frames.{Stands, AreResults}
-use Rattle.fm_standing.proofs.Done.{all_done}
-use Rattle.fm_operands.specs.Places.{arguments_code}
-use Rattle.fm_operands.specs.Keeps.{KeepsActuals}
-use Rattle.fm_executable.specs.Statements.{statement_code, reference_operands, reference_end}
+use Rattle.fm_gen_relation.specs.Sound.{calls_among, IsSoundEntry}
+use Rattle.fm_gen_relation.specs.Standing.{Slots, IsFrame}
+use Rattle.fm_gen_relation.specs.Frames.{Stands, AreResults}
+use Rattle.fm_gen_relation.proofs.Done.{all_done}
+use Rattle.fm_gen_operands.specs.Places.{arguments_code}
+use Rattle.fm_gen_operands.specs.Keeps.{KeepsActuals}
+use Rattle.fm_gen_statements.specs.Statements.{statement_code, reference_operands, reference_end}
 use Rattle.fm_gen.specs.Entries.{reference_code, references_code, address_of, statement_in, statement_address, join_in, join_address, unit_code}
-use Rattle.fm_executable.specs.Steps.{Site, Agree}
+use Rattle.fm_gen_statements.specs.Steps.{Site, Agree}
 use Rattle.fm_gen.specs.Kept.{site_at, KeepsUnit}
 use Rattle.fm_gen.proofs.Ends.{whole_alone}
-use Rattle.fm_checked.proofs.Units.{sound_unit}
-use Rattle.fm_checked.proofs.Entries.{sound_entry}
-use Rattle.fm_operands.proofs.ActualLaws.{keeps_actuals}
-use Rattle.fm_executable.proofs.CallStatements.{reference_follows}
+use Rattle.fm_gen_relation.proofs.Units.{sound_unit}
+use Rattle.fm_gen_relation.proofs.Entries.{sound_entry}
+use Rattle.fm_gen_operands.proofs.ActualLaws.{keeps_actuals}
+use Rattle.fm_gen_statements.proofs.CallStatements.{reference_follows}
 use Rattle.fm_gen.proofs.ReferenceLaws.{reference_ended}
 use Rattle.fm_gen.proofs.UnitLaws.{entry_there, statement_ended}
 use Rattle.fm_gen.proofs.Standings.{reference_stands, reference_next, statement_stands}
-use Rattle.fm_executable.proofs.StatementLaws.{statement_follows}
+use Rattle.fm_gen_statements.proofs.StatementLaws.{statement_follows}
 
 -- Places of references.
 
@@ -103,12 +103,12 @@ module _ (p : Program) (number : ℕ) (u : ProgramUnit) (here : unit_at p number
         let code : reference_code p u s start count r ≡ operands ++ last =
         ap (λ o. reference_operands p u count o ++ reference_end p u o (start + suc (length (reference_operands p u count o))) ∷ []) t.1 in
         let leads : address ≡ statement_address p u f.entry (suc count) = omega (arith, reference_next p u f.entry e at count r is, ap length code, length-append operands last) in
-        let turn : statement (unit_code p u) start m ≡ work (operands ++ last) [] nothing m =
+        let end_is : statement (unit_code p u) start m ≡ work (operands ++ last) [] nothing m =
         ap (λ c. work c [] nothing m) found.1
         ∙ whole_alone (reference_code p u s start count r) (reference_ended p u s start count r) found.0 [] nothing m
         ∙ ap (λ c. work c [] nothing m) code in
         subst (λ o. Agree site (statement (unit_code p u) start m) (action_by p w u e f below o)) (sym next)
-        (subst (λ t'. Agree site t' (action_by p w u e f below (Some t.0))) (sym turn)
+        (subst (λ t'. Agree site t' (action_by p w u e f below (Some t.0))) (sym end_is)
         (reference_follows p number u here slots m frame w e f below (address_of p u) (statement_address p u f.entry (suc count)) (join_address p u f.entry) stands passes sound results t.0 next address leads))
 
     -- where all have their results
@@ -117,11 +117,11 @@ module _ (p : Program) (number : ℕ) (u : ProgramUnit) (here : unit_at p number
         let s = e.entry.stmt in
         let none : next_reference e.entry count ≡ None = ap (option_and_then (reference_at s)) is in
         let found = statement_stands p u f.entry e at count (none_behind e.entry.refs count is) in
-        let turn : statement (unit_code p u) start m ≡ work (statement_code p u (address_of p u) start f.entry e s) [] nothing m =
+        let end_is : statement (unit_code p u) start m ≡ work (statement_code p u (address_of p u) start f.entry e s) [] nothing m =
         ap (λ c. work c [] nothing m) found.1
         ∙ whole_alone (statement_code p u (address_of p u) start f.entry e s) (statement_ended p u (address_of p u) e start f.entry s) found.0 [] nothing m in
         subst (λ o. Agree site (statement (unit_code p u) start m) (action_by p w u e f below o)) (sym none)
-        (subst (λ t. Agree site t (action_by p w u e f below None)) (sym turn)
+        (subst (λ t. Agree site t (action_by p w u e f below None)) (sym end_is)
         (statement_follows p number u here slots m frame w e f below (address_of p u) (statement_address p u f.entry (suc count)) (join_address p u f.entry) stands
         sound (all_done p u e.entry sound.references f.results results none) start
         (join_behind p u (address_of p u f.entry) count e (point_at u f.entry) at is) (entry_there (slice_get u.tree.body f.entry) (slice_get (links_of u.tree.body) f.entry) e at)))

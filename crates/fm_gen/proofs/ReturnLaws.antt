@@ -23,18 +23,18 @@ use Rattle.fm_code.specs.declared.body.Frame.{Frame}
 use Rattle.fm_code.specs.Passing.{Given, backs_fit, give_all, back_words, ports_in}
 use Rattle.fm_code.specs.Statements as code_actions
 use Rattle.fm_code.specs.Statements.{Action, Own, Stuck, start_ports, left_ports}
-use Rattle.fm_checked.specs.Sound.{IsSoundUnit, names_in}
-use Rattle.fm_standing.specs.Standing.{Slots, IsResultOf, values_in}
-use Rattle.fm_standing.specs.Operands.{MeanBack, BacksStand, code_back}
-use Rattle.fm_standing.specs.Formals.{ports_of}
-use Rattle.fm_standing.specs.Frames.{AreResults, ResultsFit, IsResultBy, IsResultAt, evaluates, IsReferred, Where, BelowStand}
-use Rattle.fm_standing.specs.Laws.{given_words, GivesAlike}
-use Rattle.fm_standing.proofs.Giving.{gives_alike}
-use Rattle.fm_standing.proofs.Held.{held_alike, started_alike}
+use Rattle.fm_gen_relation.specs.Sound.{IsSoundUnit, names_in}
+use Rattle.fm_gen_relation.specs.Standing.{Slots, IsResultOf, values_in}
+use Rattle.fm_gen_relation.specs.Operands.{MeanBack, BacksStand, code_back}
+use Rattle.fm_gen_relation.specs.Formals.{ports_of}
+use Rattle.fm_gen_relation.specs.Frames.{AreResults, ResultsFit, IsResultBy, IsResultAt, evaluates, IsReferred, Where, BelowStand}
+use Rattle.fm_gen_relation.specs.Laws.{given_words, GivesAlike}
+use Rattle.fm_gen_relation.proofs.Giving.{gives_alike}
+use Rattle.fm_gen_relation.proofs.Held.{held_alike, started_alike}
 use Rattle.fm_gen.specs.Entries.{statement_address}
 use Rattle.fm_gen.specs.Units.{unit_of_code}
 use Rattle.fm_gen.specs.Programs.{code_of}
-use Rattle.fm_executable.specs.Steps.{ReturnsAlike, ResultsAlike}
+use Rattle.fm_gen_statements.specs.Steps.{ReturnsAlike, ResultsAlike}
 use Rattle.fm_gen.specs.Kept.{site_at}
 use Rattle.fm_gen.specs.Bodies.{StandsFor, DoesAlike}
 use Rattle.fm_gen.proofs.StandLaws.{unit_found, evaluates_by, backs_of_units, same_below, stands_after}

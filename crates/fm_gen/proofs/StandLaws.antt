@@ -22,9 +22,9 @@ use Rattle.fm_code.specs.declared.body.Frame.{Frame}
 use Rattle.fm_code.specs.declared.body.Start.{Start}
 use Rattle.fm_code.specs.declared.code.Code.{Code}
 use Rattle.fm_code.specs.Statements as code_actions
-use Rattle.fm_standing.specs.Standing.{Slots}
-use Rattle.fm_standing.specs.Operands.{MeanBack, BacksStand}
-use Rattle.fm_standing.specs.Frames.{opens_counted, loop_number, turns_read, LoopsStand, ResultsFit, Stands, StartStands, StartsStand, FrameStands, is_function_unit, evaluates, IsReferred, Where, BelowStand}
+use Rattle.fm_gen_relation.specs.Standing.{Slots}
+use Rattle.fm_gen_relation.specs.Operands.{MeanBack, BacksStand}
+use Rattle.fm_gen_relation.specs.Frames.{opens_counted, loop_number, trips_read, LoopsStand, ResultsFit, Stands, StartStands, StartsStand, FrameStands, is_function_unit, evaluates, IsReferred, Where, BelowStand}
 use Rattle.fm_gen.specs.Entries.{address_of, statement_in, statement_address}
 use Rattle.fm_gen.specs.Units.{loop_count, unit_of_code}
 use Rattle.fm_gen.specs.Programs.{code_of}
@@ -118,7 +118,7 @@ one_of (suc n) (suc k) x less = one_of n k x (omega (arith, less))
 
 -- no loop is begun
 pub none_begun : (body : List Entry) → LoopsStand body finite.empty (replicate (loop_count body) None)
-none_begun body k l = ap (option_map turns_read) (one_of (loop_count body) (loop_number body k) None (number_less body k l.entry l.at l.counted)) ∙ ap Some (sym (get-empty nat_cmp k))
+none_begun body k l = ap (option_map trips_read) (one_of (loop_count body) (loop_number body k) None (number_less body k l.entry l.at l.counted)) ∙ ap Some (sym (get-empty nat_cmp k))
 
 -- at the first statement of a unit
 pub begun : (p : Program) (slots : Slots) (n : ℕ) (u : ProgramUnit) → unit_at p n ≡ Some u → (f : mean.Frame) (m : Frame) → f.unit ≡ n → f.entry ≡ 0 → f.results ≡ [] → m.unit ≡ n → m.address ≡ 0

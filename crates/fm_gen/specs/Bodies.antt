@@ -14,10 +14,10 @@ use Rattle.fm_code.specs.declared.ask.Ask.TheVariants as ask
 use Rattle.fm_code.specs.declared.body.Body.{Body}
 use Rattle.fm_code.specs.declared.code.Code.{Code}
 use Rattle.fm_code.specs.Statements as code_actions
-use Rattle.fm_standing.specs.Standing.{Slots}
-use Rattle.fm_standing.specs.Frames.{FrameStands, BelowStand}
+use Rattle.fm_gen_relation.specs.Standing.{Slots}
+use Rattle.fm_gen_relation.specs.Frames.{FrameStands, BelowStand}
 use Rattle.fm_gen.specs.Entries.{address_of, statement_address, join_address}
-use Rattle.fm_executable.specs.Steps.{AsksAlike}
+use Rattle.fm_gen_statements.specs.Steps.{AsksAlike}
 use Rattle.fm_gen.specs.Kept.{site_at}
 
 -- where the next statement of a process is: at its entry, or at the join of its block

@@ -9,9 +9,9 @@ use Rattle.fm_mean.specs.Actions.{point_action}
 use Rattle.fm_code.specs.declared.body.Frame.{Frame}
 use Rattle.fm_code.specs.declared.instr.Instr.{Instr}
 use Rattle.fm_code.specs.Acts.{statement}
-use Rattle.fm_standing.specs.Standing.{Slots, IsFrame}
-use Rattle.fm_standing.specs.Frames.{Stands, ResultsFit}
-use Rattle.fm_executable.specs.Steps.{Site, Agree}
+use Rattle.fm_gen_relation.specs.Standing.{Slots, IsFrame}
+use Rattle.fm_gen_relation.specs.Frames.{Stands, ResultsFit}
+use Rattle.fm_gen_statements.specs.Steps.{Site, Agree}
 use Rattle.fm_gen.specs.Entries.{address_of, statement_address, join_address}
 
 -- a site at an entry of a unit, in the code of a program

@@ -1,7 +1,7 @@
 //! What is generated, and what it keeps.
 
 ghost use Rattle.std.specs.Prelude.{◌≡◌, ℕ, Some, slice_get, IfOk};
-ghost use Rattle.fm_frame.specs.Units.{unit_of};
+ghost use Rattle.fm_plain_frame.specs.Units.{unit_of};
 ghost use Rattle.fm_mean.specs.Names.{ProgramUnit, unit_at};
 ghost use Rattle.fm_gen.specs.Bodies.{KeepsProgram};
 ghost use Rattle.fm_gen.specs.Programs.{code_of};
@@ -11,8 +11,8 @@ ghost use Rattle.fm_gen.specs.Units.{AddressesRise, TellsLines, unit_of_code};
 use crate::units::unit_of_code;
 use fm_base::{NoMemory, Seq};
 use fm_code::{Code, Unit};
-use fm_frame::UnitView;
-use fm_operands::operand;
+use fm_gen_operands::operand;
+use fm_plain_frame::UnitView;
 use fm_rules::Program;
 use std::alloc::Global;
 

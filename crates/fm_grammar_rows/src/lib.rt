@@ -1,11 +1,9 @@
-//! Cards, tokens, long expressions, statements read by the whole grammar and spelled again, copies of
-//! trees. This crate has tests alone.
+//! Cards, tokens, long expressions, statements read by the whole grammar and spelled again. This crate
+//! has tests alone.
 #![tactic(auto)]
 
 #[cfg(test)]
 mod cards_and_tokens;
-#[cfg(test)]
-mod copies;
 #[cfg(test)]
 mod expressions;
 #[cfg(test)]

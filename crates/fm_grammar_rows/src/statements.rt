@@ -2,8 +2,8 @@
 
 use fm_base::{CheckFail, Rule};
 use fm_cards::{Card, cards};
-use fm_spell::spell_text;
 use fm_stmt::statement;
+use fm_tree_spell::spell_text;
 use std::alloc::Global;
 use std::test::Fail;
 

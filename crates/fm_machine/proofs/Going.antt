@@ -9,8 +9,8 @@ use Rattle.fm_code.specs.declared.instr.Instr.{Instr}
 use Rattle.fm_code.specs.Fused.{AreFused}
 use Rattle.fm_code.specs.Acts.{statement}
 use Rattle.fm_machine.specs.Finished.{RunsFrame}
-use Rattle.fm_code.specs.Statements.{Action, Own, Ran, CodeUnit, ran, unit_at, code_in, action_by, action_of, turn_of, with_frame, run, not_moved, grown, one_more}
-use Rattle.fm_fused.specs.Onward.{gone, Gone}
+use Rattle.fm_code.specs.Statements.{Action, Own, Ran, CodeUnit, ran, unit_at, code_in, action_by, action_of, statement_end_of, with_frame, run, not_moved, grown, one_more}
+use Rattle.fm_machine_fused.specs.Onward.{gone, Gone}
 use Rattle.fm_machine.proofs.Slices.{one_step, some_ran}
 
 grown_none : (r : Ran) → grown r (not_moved r.body) ≡ r
@@ -40,7 +40,7 @@ many_steps k n start body body' ls c c' e f g =
     run_many n k start before e ∙ (ap (option_map (grown before)) f
     ∙ (ap (λ l. some_ran (record { body = body'; lines = l; cost = c + n })) (append-nil ls) ∙ ap (λ m. some_ran (record { body = body'; lines = ls; cost = m })) (sym g)))
 
-gone_action : (t : acts.Turn) (b : Body) (m : Frame) → gone t ≡ Some m → action_by b t ≡ Own (with_frame b m) [] [] 1
+gone_action : (t : acts.StatementEnd) (b : Body) (m : Frame) → gone t ≡ Some m → action_by b t ≡ Own (with_frame b m) [] [] 1
 gone_action (acts.Goes to m') b m e = ap (λ o. owns o b) e where
   owns : Option Frame → Body → Action
   owns None b = action_by b (acts.Goes to m')
@@ -58,9 +58,9 @@ gone_action (acts.Asks a) b m e = absurd (cc)
 gone_action acts.Stuck b m e = absurd (cc)
 
 -- one statement more that changes nothing but its frame
-gone_step : (k : ℕ) (start body : Body) (m : Frame) → run k start ≡ Some (record { body = body; lines = []; cost = k }) → gone (turn_of body) ≡ Some m → run (k + 1) start ≡ Some (record { body = with_frame body m; lines = []; cost = k + 1 })
+gone_step : (k : ℕ) (start body : Body) (m : Frame) → run k start ≡ Some (record { body = body; lines = []; cost = k }) → gone (statement_end_of body) ≡ Some m → run (k + 1) start ≡ Some (record { body = with_frame body m; lines = []; cost = k + 1 })
 gone_step k start body m e f =
-    one_step k start body (with_frame body m) [] [] [] k (k + 1) 1 e (sym (ap ran (gone_action (turn_of body) body m f))) refl refl
+    one_step k start body (with_frame body m) [] [] [] k (k + 1) 1 e (sym (ap ran (gone_action (statement_end_of body) body m f))) refl refl
 
 -- so many statements of a frame over fused instructions
 abbrev pub RunsFused : List Fused → ℕ → (old new : Frame) → Type 0

@@ -5,8 +5,8 @@ use Rattle.fm_code.specs.declared.body.Frame.{Frame}
 use Rattle.fm_code.specs.Passing.{backs_fit, back_words}
 use Rattle.fm_code.specs.Statements.{Action, Own, Meets, is_stuck_in, given, gives_back, left_ports, ran, results_in}
 use Rattle.fm_code.specs.Statements as statements
-use Rattle.fm_calling.specs.declared.looking.Look.TheVariants as look
-use Rattle.fm_calling.specs.Looks.{look_by, look_in}
+use Rattle.fm_machine_calls.specs.declared.looking.Look.TheVariants as look
+use Rattle.fm_machine_calls.specs.Looks.{look_by, look_in}
 use Rattle.fm_machine.specs.Finished.{drops_in}
 use Rattle.fm_machine.proofs.Telling.{goes_run}
 

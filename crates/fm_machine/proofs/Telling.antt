@@ -4,8 +4,8 @@ use Rattle.fm_code.specs.declared.ask.Ask.{Ask}
 use Rattle.fm_code.specs.declared.body.Body.{Body}
 use Rattle.fm_code.specs.Statements as statements
 use Rattle.fm_code.specs.Statements.{Action, Own, Meets, ran, ask_in}
-use Rattle.fm_calling.specs.declared.looking.Look.TheVariants as look
-use Rattle.fm_calling.specs.Looks.{look_in}
+use Rattle.fm_machine_calls.specs.declared.looking.Look.TheVariants as look
+use Rattle.fm_machine_calls.specs.Looks.{look_in}
 use Rattle.fm_machine.specs.Finished.{asked_in, drops_in}
 
 pub asked_look : (a : Action) → asked_in (look_in a) ≡ ask_in a

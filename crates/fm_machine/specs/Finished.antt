@@ -9,8 +9,8 @@ use Rattle.fm_code.specs.declared.body.Frame.{Frame}
 use Rattle.fm_code.specs.declared.instr.Instr.{Instr}
 use Rattle.fm_code.specs.Statements as statements
 use Rattle.fm_code.specs.Statements.{Action, Own, Meets, Ran, CodeUnit, unit_at, code_in, with_frame, run, calls, refers, starts_at}
-use Rattle.fm_calling.specs.declared.looking.Look.{Look}
-use Rattle.fm_calling.specs.declared.looking.Look.TheVariants as look
+use Rattle.fm_machine_calls.specs.declared.looking.Look.{Look}
+use Rattle.fm_machine_calls.specs.declared.looking.Look.TheVariants as look
 use Rattle.fm_machine.specs.declared.performing.Finish.{Finish}
 use Rattle.fm_machine.specs.declared.performing.Finish.TheVariants as finish
 

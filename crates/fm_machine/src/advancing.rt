@@ -5,9 +5,9 @@ ghost use Rattle.fm_code.specs.declared.ask.Ask.TheVariants as ask;
 ghost use Rattle.fm_code.specs.declared.instr.Instr.{Instr};
 ghost use Rattle.fm_code.specs.Fused.{AreFused};
 ghost use Rattle.fm_code.specs.Statements as statements;
-ghost use Rattle.fm_code.specs.Statements.{Own, run, ran, action_of, ask_of, turn_of, code_in};
-ghost use Rattle.fm_instructions.specs.Told.{turned};
-ghost use Rattle.fm_calling.specs.Looks.{look_in};
+ghost use Rattle.fm_code.specs.Statements.{Own, run, ran, action_of, ask_of, statement_end_of, code_in};
+ghost use Rattle.fm_machine_instr.specs.Told.{told_end};
+ghost use Rattle.fm_machine_calls.specs.Looks.{look_in};
 ghost use Rattle.fm_machine.specs.Finished.{went, told, Stays, RunsFrame};
 
 use crate::done::{Done, Made};
@@ -16,10 +16,10 @@ use crate::performing::{
     Finish, let_go_at_ending, look, perform, return_plainly, return_value_plainly,
 };
 use fm_base::{NoMemory, Seq};
-use fm_calling::{Look, unit_at};
 use fm_code::{Body, Frame, Fused, Instr, Stack, copy_body};
-use fm_fused::go_on;
-use fm_instructions::{Passing, Turn, Work, statement, tell_passing};
+use fm_machine_calls::{Look, unit_at};
+use fm_machine_fused::run_in_place;
+use fm_machine_instr::{Passing, StatementEnd, Work, statement, tell_passing};
 use std::alloc::Global;
 use std::sync::Arc;
 
@@ -34,8 +34,8 @@ fn code_of(body: &Body) -> &[Instr]
 }
 
 /// How the next statement ends.
-fn next_turn(alloc: Global, work: &mut Work, body: &Body) -> Result<Turn, NoMemory>
-    ensures { IfOk result (λ t. turned t work.new.scratch body.now.frame ≡ turn_of body.now) }
+fn next_end(alloc: Global, work: &mut Work, body: &Body) -> Result<StatementEnd, NoMemory>
+    ensures { IfOk result (λ t. told_end t work.new.scratch body.now.frame ≡ statement_end_of body.now) }
 {
     let address = body.frame.address as usize;
     statement(alloc, code_of(body), address, work, &body.frame)
@@ -43,7 +43,11 @@ fn next_turn(alloc: Global, work: &mut Work, body: &Body) -> Result<Turn, NoMemo
 
 /// Does the next statement where it calls with words of the frame alone, or returns and leaves no port. The cost; none, and no
 /// change, where it does something else.
-fn pass(alloc: Global, work: &mut Work, body: &mut Body) -> Result<Option<u64>, NoMemory>
+fn pass_frame_words(
+    alloc: Global,
+    work: &mut Work,
+    body: &mut Body,
+) -> Result<Option<u64>, NoMemory>
     ensures ran { IfOk result (λ c. IfSome c (λ cost. ran (action_of body.old) ≡ Some (record { body = body.new; lines = []; cost = cost }))) }
     ensures stays { IfOk result (λ c. c ≡ None → body.new ≡ body.old) }
 {
@@ -68,19 +72,19 @@ fn step(alloc: Global, work: &mut Work, body: &mut Body) -> Result<Finish, NoMem
     ensures tells { IfOk result (λ f. told f ≡ look_in (action_of body.old)) }
     ensures stays { IfOk result (λ f. Stays f body.old body.new) }
 {
-    if let Some(cost) = pass(alloc, work, body)? {
+    if let Some(cost) = pass_frame_words(alloc, work, body)? {
         return Ok(Finish::Went(None, cost));
     }
-    let turn = next_turn(alloc, work, body)?;
-    perform(alloc, turn, &work.scratch, &mut work.spare, body)
+    let statement_end = next_end(alloc, work, body)?;
+    perform(alloc, statement_end, &work.scratch, &mut work.spare, body)
 }
 
 /// What the next statement of a body does, without doing it.
 pub fn next_look(alloc: Global, work: &mut Work, body: &Body) -> Result<Look, NoMemory>
     ensures { IfOk result (λ l. l ≡ look_in (action_of body.now)) }
 {
-    let turn = next_turn(alloc, work, body)?;
-    look(alloc, turn, &work.scratch, body)
+    let statement_end = next_end(alloc, work, body)?;
+    look(alloc, statement_end, &work.scratch, body)
 }
 
 /// Does the next statement of a body, which asks that these ports be let go. The cost. That the ports go is
@@ -94,12 +98,13 @@ pub fn let_go(
     requires { ask_of body.old ≡ Some (ask.LetGo slots.now) }
     ensures { IfOk result (λ cost. action_of body.old ≡ Own body.new [] slots.now cost) }
 {
-    match next_turn(alloc, work, body)? {
-        Turn::Over(ending) => let_go_at_ending(alloc, ending, &mut work.spare, body),
+    match next_end(alloc, work, body)? {
+        StatementEnd::Over(ending) => let_go_at_ending(alloc, ending, &mut work.spare, body),
         // These let no port go.
-        Turn::Prints(_) | Turn::Calls(_, _) | Turn::Refers(_, _) | Turn::Starts(_, _) => {
-            Err(NoMemory)
-        }
+        StatementEnd::Prints(_)
+        | StatementEnd::Calls(_, _)
+        | StatementEnd::Refers(_, _)
+        | StatementEnd::Starts(_, _) => { Err(NoMemory) }
     }
 }
 
@@ -121,12 +126,12 @@ fn both(first: u64, second: u64) -> Result<u64, NoMemory>
 
 /// Does statements that change nothing but their frame, as many as `slice` at most. How many: each costs 1.
 #[inline(never)]
-fn go_on_many(fused: &[Fused], stack: &mut Stack, frame: &mut Frame, slice: u32) -> u32
+fn run_many_in_place(fused: &[Fused], stack: &mut Stack, frame: &mut Frame, slice: u32) -> u32
     ensures ran { (code : List Instr) → AreFused fused.now code → RunsFrame code result frame.old frame.new }
     ensures within { result ≤ slice }
 {
     'steps: for steps in 0..slice {
-        if !go_on(fused, stack, frame) {
+        if !run_in_place(fused, stack, frame) {
             return steps;
         }
     }
@@ -135,13 +140,13 @@ fn go_on_many(fused: &[Fused], stack: &mut Stack, frame: &mut Frame, slice: u32)
 
 /// Does statements of a body that change nothing but its innermost frame, as many as `slice` at most. How
 /// many: each costs 1.
-fn go_on_alone(stack: &mut Stack, body: &mut Body, slice: u32) -> u32
+fn run_body_in_place(stack: &mut Stack, body: &mut Body, slice: u32) -> u32
     ensures ran { run result body.old ≡ Some (record { body = body.new; lines = []; cost = result }) }
     ensures within { result ≤ slice }
 {
     let number = body.frame.unit;
     match unit_at(&body.code, number) {
-        Some(_) => go_on_many(body.code.fused(number), stack, &mut body.frame, slice),
+        Some(_) => run_many_in_place(body.code.fused(number), stack, &mut body.frame, slice),
         None => 0,
     }
 }
@@ -163,7 +168,7 @@ pub fn proceed(
     let mut cost: u64 = 0;
     let mut steps: u32 = 0;
     'steps: while steps < slice {
-        let alone = go_on_alone(&mut work.stack, body, slice - steps);
+        let alone = run_body_in_place(&mut work.stack, body, slice - steps);
         cost = both(cost, u64::from(alone))?;
         steps += alone;
         if steps == slice {

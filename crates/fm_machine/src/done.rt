@@ -3,12 +3,12 @@
 ghost use Rattle.std.specs.Prelude.{◌≡◌, ◌≤◌, Some, None, false};
 ghost use Rattle.std.specs.Option.{option_map};
 ghost use Rattle.fm_code.specs.Statements.{run, action_of, ask_of, is_stuck};
-ghost use Rattle.fm_calling.specs.Looks.{look_in};
+ghost use Rattle.fm_machine_calls.specs.Looks.{look_in};
 ghost use Rattle.fm_machine.specs.Finished.{asked_in};
 
 use fm_base::Seq;
-use fm_calling::Look;
 use fm_code::{Ask, Body};
+use fm_machine_calls::Look;
 use std::sync::Arc;
 
 /// What was made of a slice.
@@ -143,23 +143,5 @@ impl Done {
         ensures { option_map (λ a. a.now) result ≡ self.now.ask }
     {
         self.ask.as_ref()
-    }
-
-    /// The end, the lines, and what the next statement asks for.
-    pub fn unpack(self) -> (Arc<Body>, Seq<Seq<u8>>, Option<Ask>)
-        ensures end { result.0 ≡ self.end }
-        ensures lines { result.1 ≡ self.lines }
-        ensures ask { result.2 ≡ self.ask }
-    {
-        let Done {
-            process: _process,
-            steps: _steps,
-            cost: _cost,
-            start: _start,
-            end,
-            lines,
-            ask,
-        } = self;
-        (end, lines, ask)
     }
 }

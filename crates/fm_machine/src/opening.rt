@@ -3,15 +3,15 @@
 ghost use Rattle.std.specs.Prelude.{◌≡◌, pos, [], IfOk, OnOk, Some, None, replicate};
 ghost use Rattle.fm_code.specs.Statements.{unit_at, new_frame, ran, starts};
 ghost use Rattle.fm_code.specs.Passing.{all_fit};
-ghost use Rattle.fm_calling.specs.Looks.{look_in};
+ghost use Rattle.fm_machine_calls.specs.Looks.{look_in};
 ghost use Rattle.fm_machine.specs.Finished.{opened_by, opening, starting, went, told, Stays};
 
 use crate::performing::Finish;
 use crate::spares::{clear_backs, spare_frame};
 use fm_base::{Machine, NoMemory, Seq};
-use fm_calling::{Look, all_fit, enter, fail, nulls, seat_for, unit_at};
 use fm_code::{Body, Frame, Operand, Pile, Place, Start, Unit};
-use fm_instructions::go_to;
+use fm_machine_calls::{Look, all_fit, enter, fail, nulls, seat_for, unit_at};
+use fm_machine_instr::go_to;
 use std::alloc::Global;
 use std::mem::replace;
 

@@ -4,19 +4,19 @@ ghost use Rattle.std.specs.Prelude.{◌≡◌, [], ◌∷◌, false, Some, None,
 ghost use Rattle.fm_code.specs.Acts.{Prints};
 ghost use Rattle.fm_code.specs.Passing.{back_words};
 ghost use Rattle.fm_code.specs.Statements.{Own, action_by, gives_back, results_in, closes, moves, ran, is_stuck_in};
-ghost use Rattle.fm_instructions.specs.Told.{ended, turned};
-ghost use Rattle.fm_calling.specs.Looks.{look_in};
+ghost use Rattle.fm_machine_instr.specs.Told.{ended, told_end};
+ghost use Rattle.fm_machine_calls.specs.Looks.{look_in};
 ghost use Rattle.fm_machine.specs.Finished.{went, told, drops_in, Stays, opening};
 
 use crate::opening::{look_open, look_start, open, start};
 use crate::spares::keep;
 use fm_base::{NoMemory, Printed, Seq, output_line};
-use fm_calling::{
+use fm_code::{Ask, Back, Body, Frame, Operand, Pile, Row, Scratch};
+use fm_machine_calls::{
     Look, fail, give_all, give_plain, leaves_no_port, look_back, look_close, look_move,
     look_plainly, look_value, word_at,
 };
-use fm_code::{Ask, Back, Body, Frame, Operand, Pile, Row, Scratch};
-use fm_instructions::{Ending, Turn, change, go_to, write};
+use fm_machine_instr::{Ending, StatementEnd, change, go_to, write};
 use std::alloc::Global;
 use std::mem::replace;
 
@@ -296,25 +296,25 @@ fn finish_open(
 /// something other than a step the body is as it was.
 pub(crate) fn perform(
     alloc: Global,
-    turn: Turn,
+    statement_end: StatementEnd,
     scratch: &Scratch,
     spare: &mut Pile<Frame>,
     body: &mut Body,
 ) -> Result<Finish, NoMemory>
-    ensures ran { IfOk result (λ f. went f body.new ≡ ran (action_by body.old (turned turn scratch.now body.old.frame))) }
-    ensures tells { IfOk result (λ f. told f ≡ look_in (action_by body.old (turned turn scratch.now body.old.frame))) }
+    ensures ran { IfOk result (λ f. went f body.new ≡ ran (action_by body.old (told_end statement_end scratch.now body.old.frame))) }
+    ensures tells { IfOk result (λ f. told f ≡ look_in (action_by body.old (told_end statement_end scratch.now body.old.frame))) }
     ensures stays { IfOk result (λ f. Stays f body.old body.new) }
 {
     let operands = scratch.operands.as_slice();
-    match turn {
-        Turn::Prints(to) => {
+    match statement_end {
+        StatementEnd::Prints(to) => {
             let (text, cost) = print(alloc, to, scratch.line.as_slice(), body)?;
             Ok(Finish::Went(Some(text), cost))
         }
-        Turn::Calls(unit, to) => finish_open(alloc, unit, to, false, operands, spare, body),
-        Turn::Refers(unit, to) => finish_open(alloc, unit, to, true, operands, spare, body),
-        Turn::Starts(unit, to) => start(alloc, unit, to, operands, &scratch.place, body),
-        Turn::Over(ending) => finish_ending(alloc, ending, spare, body),
+        StatementEnd::Calls(unit, to) => finish_open(alloc, unit, to, false, operands, spare, body),
+        StatementEnd::Refers(unit, to) => finish_open(alloc, unit, to, true, operands, spare, body),
+        StatementEnd::Starts(unit, to) => start(alloc, unit, to, operands, &scratch.place, body),
+        StatementEnd::Over(ending) => finish_ending(alloc, ending, spare, body),
     }
 }
 
@@ -336,18 +336,18 @@ fn look_at_ending(alloc: Global, ending: Ending, body: &Body) -> Result<Look, No
 /// What a statement does that ends so and built this, told without doing it.
 pub(crate) fn look(
     alloc: Global,
-    turn: Turn,
+    statement_end: StatementEnd,
     scratch: &Scratch,
     body: &Body,
 ) -> Result<Look, NoMemory>
-    ensures { IfOk result (λ l. l ≡ look_in (action_by body.now (turned turn scratch.now body.now.frame))) }
+    ensures { IfOk result (λ l. l ≡ look_in (action_by body.now (told_end statement_end scratch.now body.now.frame))) }
 {
     let operands = scratch.operands.as_slice();
-    match turn {
-        Turn::Prints(_) => Ok(Look::Goes),
-        Turn::Calls(unit, to) => Ok(look_open(unit, to, false, operands, body)),
-        Turn::Refers(unit, to) => Ok(look_open(unit, to, true, operands, body)),
-        Turn::Starts(unit, to) => look_start(unit, to, operands, &scratch.place, body),
-        Turn::Over(ending) => look_at_ending(alloc, ending, body),
+    match statement_end {
+        StatementEnd::Prints(_) => Ok(Look::Goes),
+        StatementEnd::Calls(unit, to) => Ok(look_open(unit, to, false, operands, body)),
+        StatementEnd::Refers(unit, to) => Ok(look_open(unit, to, true, operands, body)),
+        StatementEnd::Starts(unit, to) => look_start(unit, to, operands, &scratch.place, body),
+        StatementEnd::Over(ending) => look_at_ending(alloc, ending, body),
     }
 }

@@ -7,19 +7,26 @@ use Rattle.fm_tree.specs.declared.statement.Simple.TheVariants as simple
 use Rattle.fm_tree.specs.declared.statement.Stmt.{Stmt}
 use Rattle.fm_tree.specs.declared.statement.Stmt.TheVariants as stmt
 use Rattle.fm_rules.specs.declared.program.Program.{Program}
-use Rattle.fm_sched.specs.Schedule.{Throughout}
+use Rattle.fm_sched.specs.Schedule.{Can, next, Throughout}
+use Rattle.fm_net.specs.Machine.{Place, State}
+use Rattle.fm_net.specs.Owned.{IsOwned}
 use Rattle.fm_net.specs.Typed.{IsTyped}
+use Rattle.fm_net.proofs.Typed.{step_keeps_types}
 use Rattle.fm_mean.specs.Names.{ProgramUnit, unit_at, unit_named}
 use Rattle.fm_mean.specs.Evaluate.{Scope}
 use Rattle.fm_mean.specs.Actions.{trees_in, arguments_in, next_reference}
 use Rattle.fm_mean.specs.Fits.{Types, ValuesFit, Fits, IsFine}
+use Rattle.fm_mean.specs.Process.{Proc}
 use Rattle.fm_mean.specs.Steps.{first, language, step}
 use Rattle.fm_mean.specs.ValueTypes.{AreSized}
 use Rattle.fm_mean.specs.TypedTrees.{IsIn, StatementHasTypes}
 use Rattle.fm_mean.specs.CallsOpen.{OpensWhole, ReferenceOpensWhole}
 use Rattle.fm_mean.proofs.Sizes.{variables_sized}
 use Rattle.fm_mean.proofs.ProgramMeanings.{program_has_types}
+use Rattle.fm_mean.proofs.Lawful.{lawful}
 use Rattle.fm_mean.proofs.Laws.{opening_along, typed_along}
+use Rattle.fm_mean.proofs.TypedLanguage.{typed_language}
+use Rattle.fm_mean.proofs.TypedTrees.{typed_program}
 
 module _ (p : Program) (n : ℕ) (u : ProgramUnit) (i : ℕ) (e : Entry) (at : unit_at p n ≡ Some u) (here : slice_get u.tree.body i ≡ Some e) where
   statement_types : (t : Stmt) → e.stmt ≡ t → StatementHasTypes p u t
@@ -46,3 +53,7 @@ module _ (p : Program) (n : ℕ) (u : ProgramUnit) (i : ℕ) (e : Entry) (at : u
 -- along every schedule ports and messages keep to their types
 pub always_typed : (p : Program) → Throughout (step p) (IsTyped (language p) (IsFine p) Fits) (first p)
 always_typed p = typed_along p (program_has_types p)
+
+-- each step keeps them, from any state
+pub types_kept : (p : Program) (s : State Proc) (q : Place) → IsOwned (language p) s → IsTyped (language p) (IsFine p) Fits s → Can (step p) s q → IsTyped (language p) (IsFine p) Fits (next (step p) s q)
+types_kept p s q owned typed can = step_keeps_types (language p) (IsFine p) Fits (typed_language p (typed_program p (program_has_types p))) (lawful p) s q owned typed can

@@ -12,11 +12,11 @@ use Rattle.fm_tree.specs.declared.statement.Stmt.{Stmt}
 use Rattle.fm_tree.specs.declared.statement.Stmt.TheVariants as stmt
 use Rattle.fm_symbols.specs.ByName.{ByName}
 use Rattle.fm_symbols.specs.Headings.{heading_formals, heading_kind, heading_name, is_function}
-use Rattle.fm_constants.specs.Parts.{definitions_in}
-use Rattle.fm_facts.specs.declared.aspect.Aspect.{Aspect}
-use Rattle.fm_facts.specs.declared.aspect.Aspect.TheVariants as aspect
-use Rattle.fm_facts.specs.Facts.{Fact, fact, constant_fact, name_facts, facts_by, facts_in, facts_of, same_aspect, says, said, clashes, takes_function, clashes_behind, declared_twice_in, repeated_processors}
-use Rattle.fm_facts.specs.Titles.{is_other_function}
+use Rattle.fm_rules.specs.ConstantParts.{definitions_in}
+use Rattle.fm_rules.specs.declared.sheet.Aspect.{Aspect}
+use Rattle.fm_rules.specs.declared.sheet.Aspect.TheVariants as aspect
+use Rattle.fm_rules.specs.Declarations.{Fact, fact, constant_fact, name_facts, facts_by, facts_in, facts_of, same_aspect, says, said, clashes, takes_function, clashes_behind, declared_twice_in, repeated_processors}
+use Rattle.fm_rules.specs.FunctionTitles.{is_other_function}
 use Rattle.fm_mean.proofs.Unbroken.{left_empty, right_empty, not_when, or_left, or_right}
 use Rattle.fm_mean.specs.Names.{same_name}
 use Rattle.fm_mean.proofs.Members.{In, in_left, in_map, in_flat, got_in, passes, same_names}

@@ -30,24 +30,25 @@ use Rattle.fm_tree.specs.declared.statement.Simple.{Simple}
 use Rattle.fm_tree.specs.declared.statement.Simple.TheVariants as simple
 use Rattle.fm_tree.specs.declared.statement.Stmt.{Stmt}
 use Rattle.fm_tree.specs.declared.statement.Stmt.TheVariants as stmt
-use Rattle.fm_links.specs.declared.entry_links.EntryLinks.{EntryLinks}
-use Rattle.fm_links.specs.Links.{links_of}
+use Rattle.fm_rules.specs.declared.entry_links.EntryLinks.{EntryLinks}
+use Rattle.fm_rules.specs.Links.{links_of}
 use Rattle.fm_symbols.specs.Headings.{is_function}
 use Rattle.fm_symbols.specs.ByName.{ByName}
 use Rattle.fm_symbols.specs.Context.{unit_numbers}
+use Rattle.fm_symbols.specs.declared.context.Context.{Context}
 use Rattle.fm_symbols.specs.declared.names.Variable.{Variable}
 use Rattle.fm_symbols.specs.declared.names.UnitNames.{UnitNames}
-use Rattle.fm_applied.specs.Applied.{applied_names}
+use Rattle.fm_rules.specs.Applied.{applied_names}
 use Rattle.fm_graph.specs.Graph.{IsEdge, IsWalk}
-use Rattle.fm_det.specs.declared.calls.Call as graph
-use Rattle.fm_det.specs.Calls.{called, process_called, call_to, call_by, referring, process_call, calls_in, calls_of}
-use Rattle.fm_det.specs.Calls as edge
-use Rattle.fm_det.specs.Race.{is_racy}
-use Rattle.fm_det.proofs.Lists.{at_head, behind_head, in_map, some_same}
+use Rattle.fm_rules.specs.declared.calls.Call as graph
+use Rattle.fm_rules.specs.Calls.{called, process_called, call_to, call_by, referring, process_call, calls_in, calls_of}
+use Rattle.fm_rules.specs.Calls as edge
+use Rattle.fm_rules.specs.Race.{is_racy}
+use Rattle.fm_rules.proofs.Lists.{at_head, behind_head, in_map, some_same}
 use Rattle.fm_net.specs.Typed.{AllIn}
 use Rattle.fm_net.specs.Plain.{IsPlainAsk, KeepsPlain}
 use Rattle.fm_rules.specs.declared.program.Program.{Program}
-use Rattle.fm_mean.specs.Names.{ProgramUnit, Point, unit_with, unit_at, numbered, unit_named, kind_of, variable_of, point_with, point_at, line_of}
+use Rattle.fm_mean.specs.Names.{ProgramUnit, Point, context, unit_with, unit_at, numbered, unit_named, kind_of, variable_of, point_with, point_at, line_of}
 use Rattle.fm_mean.specs.declared.place.Actual.{Actual}
 use Rattle.fm_mean.specs.declared.place.Span.{Span}
 use Rattle.fm_mean.specs.Places.{word_at, port_at, emptied_place}
@@ -130,11 +131,11 @@ in_flat f [] i x y e h = absurd (cc)
 in_flat f (z ∷ zs) zero x y e h = Contains-append_left (f z) (flat_map f zs) y (subst (λ w. Contains (f w) y) (sym (some_same z x e)) h)
 in_flat f (z ∷ zs) (suc i) x y e h = Contains-append_right (f z) (flat_map f zs) y (in_flat f zs i x y e h)
 
-edges_are : (ns : ByName ℕ) (us : List tree.Unit) (k : ℕ) (u : tree.Unit) → slice_get us k ≡ Some u
-    → slice_index_or (map (map edge.target_of) (map (calls_of true ns) us)) k [] ≡ map edge.target_of (calls_of true ns u)
-edges_are ns [] k u e = absurd (cc)
-edges_are ns (t ∷ us) zero u e = ap (λ w. map edge.target_of (calls_of true ns w)) (some_same t u e)
-edges_are ns (t ∷ us) (suc k) u e = edges_are ns us k u e
+edges_are : (c : Context) (us : List tree.Unit) (k : ℕ) (u : tree.Unit) → slice_get us k ≡ Some u
+    → slice_index_or (map (map edge.target_of) (map (calls_of true c) us)) k [] ≡ map edge.target_of (calls_of true c u)
+edges_are c [] k u e = absurd (cc)
+edges_are c (t ∷ us) zero u e = ap (λ w. map edge.target_of (calls_of true c w)) (some_same t u e)
+edges_are c (t ∷ us) (suc k) u e = edges_are c us k u e
 
 call_there : (ns : ByName ℕ) (line : Line) (o : Option (List ℕ)) (name : List ℕ) (m : ℕ) → o ≡ Some name → finite.get ns name ≡ Some m → Contains (call_by ns line o) (record { target = m; line = line })
 call_there ns line o name m is found =
@@ -153,32 +154,32 @@ data EntryCalls (e : Entry) (name : List ℕ) : Type 0 where
   by_process_call : process_called e.stmt ≡ Some name → EntryCalls e name
   by_reference : (n place : ℕ) → slice_get e.refs n ≡ Some place → slice_get (applied_names e.stmt) place ≡ Some name → EntryCalls e name
 
-call_in : (ns : ByName ℕ) (e : Entry) (name : List ℕ) (m : ℕ) → finite.get ns name ≡ Some m → EntryCalls e name → Contains (calls_in true ns e) (record { target = m; line = e.line })
-call_in ns e name m found (by_call is) =
-    let a = call_by ns e.line (called e.stmt) in
-    let b = process_call true ns e in
-    let c = referring ns e.line (applied_names e.stmt) e.refs in
+call_in : (ctx : Context) (e : Entry) (name : List ℕ) (m : ℕ) → finite.get ctx.units name ≡ Some m → EntryCalls e name → Contains (calls_in true ctx e) (record { target = m; line = e.line })
+call_in ctx e name m found (by_call is) =
+    let a = call_by ctx.units e.line (called e.stmt) in
+    let b = process_call true ctx.units e in
+    let c = referring ctx.units e.line (applied_names e.stmt) e.refs in
     let x : graph.Call = record { target = m; line = e.line } in
-    Contains-append_left (a ++ b) c x (Contains-append_left a b x (call_there ns e.line (called e.stmt) name m is found))
-call_in ns e name m found (by_process_call is) =
-    let a = call_by ns e.line (called e.stmt) in
-    let b = process_call true ns e in
-    let c = referring ns e.line (applied_names e.stmt) e.refs in
+    Contains-append_left (a ++ b) c x (Contains-append_left a b x (call_there ctx.units e.line (called e.stmt) name m is found))
+call_in ctx e name m found (by_process_call is) =
+    let a = call_by ctx.units e.line (called e.stmt) in
+    let b = process_call true ctx.units e in
+    let c = referring ctx.units e.line (applied_names e.stmt) e.refs in
     let x : graph.Call = record { target = m; line = e.line } in
-    Contains-append_left (a ++ b) c x (Contains-append_right a b x (call_there ns e.line (process_called e.stmt) name m is found))
-call_in ns e name m found (by_reference n place is named) =
-    let a = call_by ns e.line (called e.stmt) in
-    let b = process_call true ns e in
-    let c = referring ns e.line (applied_names e.stmt) e.refs in
+    Contains-append_left (a ++ b) c x (Contains-append_right a b x (call_there ctx.units e.line (process_called e.stmt) name m is found))
+call_in ctx e name m found (by_reference n place is named) =
+    let a = call_by ctx.units e.line (called e.stmt) in
+    let b = process_call true ctx.units e in
+    let c = referring ctx.units e.line (applied_names e.stmt) e.refs in
     let x : graph.Call = record { target = m; line = e.line } in
-    Contains-append_right (a ++ b) c x (in_referring ns e.line (applied_names e.stmt) e.refs n place x is (call_there ns e.line (slice_get (applied_names e.stmt) place) name m named found))
+    Contains-append_right (a ++ b) c x (in_referring ctx.units e.line (applied_names e.stmt) e.refs n place x is (call_there ctx.units e.line (slice_get (applied_names e.stmt) place) name m named found))
 
 edge_to : (p : Program) (k i : ℕ) (u : tree.Unit) (e : Entry) (name : List ℕ) (m : ℕ) → slice_get p.units.units k ≡ Some u → slice_get u.body i ≡ Some e → EntryCalls e name
     → finite.get (unit_numbers p.units.units) name ≡ Some m → IsEdge (calls_among p) k m
 edge_to p k i u e name m is there how found =
-    let ns = unit_numbers p.units.units in
+    let ctx = context p in
     let c : graph.Call = record { target = m; line = e.line } in
-    subst (λ xs. Contains xs m) (sym (edges_are ns p.units.units k u is)) (in_map edge.target_of c (calls_of true ns u) (in_flat (calls_in true ns) u.body i e c there (call_in ns e name m found how)))
+    subst (λ xs. Contains xs m) (sym (edges_are ctx p.units.units k u is)) (in_map edge.target_of c (calls_of true ctx u) (in_flat (calls_in true ctx) u.body i e c there (call_in ctx e name m found how)))
 
 walk_on : (g : List (List ℕ)) (n : ℕ) (a b c : ℕ) → IsWalk g n a b → IsEdge g b c → IsWalk g (suc n) a c
 walk_on g zero a b c walk step = (c, subst (λ x. IsEdge g x c) (sym walk) step, refl)
@@ -256,12 +257,12 @@ module _ (p : Program) (det : IsDeterministic p) (x : Proc) (plain : IsWithin p 
     adds e opener body s count by (Err fault) = fails (line_of e) fault
     adds e opener body s count by (Ok n) = lone _ [] [] 1 (top, rest)
 
-    turns : (e : Point) (opener body : ℕ) (s : Span) (l : Option (ℕ × ℤ)) → PlainOf p x (action.loop_turns x.execution e f below opener body s l)
-    turns e opener body s None = goes e.entry.after
-    turns e opener body s (Some l) = adds e opener body s l.0 l.1 (sum (word_at f.values s) l.1)
+    trips_end : (e : Point) (opener body : ℕ) (s : Span) (l : Option (ℕ × ℤ)) → PlainOf p x (action.loop_trips x.execution e f below opener body s l)
+    trips_end e opener body s None = goes e.entry.after
+    trips_end e opener body s (Some l) = adds e opener body s l.0 l.1 (sum (word_at f.values s) l.1)
 
     ends_loop : (u : ProgramUnit) (e : Point) (opener body : ℕ) (l : Loop) → PlainOf p x (action.ends_loop x.execution u e f below opener body l)
-    ends_loop u e opener body (Counted name) = turns e opener body (scalar_place (variable_of u name)) (finite.get f.loops opener)
+    ends_loop u e opener body (Counted name) = trips_end e opener body (scalar_place (variable_of u name)) (finite.get f.loops opener)
     ends_loop u e opener body While = goes opener
     ends_loop u e opener body NoLoop = tt
 

@@ -4,7 +4,7 @@ use Rattle.std.specs.Prelude.{if◌then◌else◌, is_some}
 use Rattle.std.specs.FinMap.{empty, get, insert, get-insert, get-empty}
 use Rattle.std.specs.Ordering.{nat_cmp}
 use Rattle.std.specs.Cmp.Lexicographic.{slice_cmp}
-use Rattle.fm_maps.proofs.Keys.{nat_list_order, tie}
+use Rattle.fm_finmap.proofs.Keys.{nat_list_order, tie}
 use Rattle.fm_mean.specs.Names.{same_name}
 use Rattle.fm_symbols.specs.ByName.{ByName, with_new, with_all, first_of_each}
 

@@ -1,10 +1,10 @@
 -- An argument or an item of a message that is judged has, in the meaning, the type and the size that it is judged to have.
-use Rattle.std.proofs.Common.{◌≡◌, ℕ, ℤ, Bool, true, false, cond, ◌&&◌, ◌||◌, Option, Some, None, List, [], ◌∷◌, slice_get, refl, sym, ap, ◌∙◌, subst}
-use Rattle.std.specs.Prelude.{if◌then◌else◌, nat_eq, length, codes}
+use Rattle.std.proofs.Common.{◌≡◌, ℕ, ℤ, Bool, true, false, cond, Option, Some, None, List, [], ◌∷◌, slice_get, refl, sym, ap, ◌∙◌, subst}
+use Rattle.std.specs.Prelude.{if◌then◌else◌}
 use Rattle.std.specs.FinMap.{get}
-use Rattle.std.specs.Str.{bytes_eq}
 use Rattle.fm_base.specs.declared.token.Op.{Op}
 use Rattle.fm_base.specs.declared.token.Op.TheVariants as op
+use Rattle.fm_values.specs.declared.intrinsic.Intrinsic.{Intrinsic}
 use Rattle.fm_values.specs.Intrinsics.{intrinsic_named}
 use Rattle.fm_values.specs.Operations.{is_arithmetic}
 use Rattle.fm_values.specs.Places.{size}
@@ -23,15 +23,15 @@ use Rattle.fm_symbols.specs.declared.symbol.Scalar.{Scalar}
 use Rattle.fm_symbols.specs.declared.symbol.Scalar.TheVariants as scalar
 use Rattle.fm_symbols.specs.declared.symbol.Symbol.{Symbol}
 use Rattle.fm_symbols.specs.declared.symbol.Symbol.TheVariants as symbol
-use Rattle.fm_typing.specs.declared.flags.Flags.{Flags}
-use Rattle.fm_typing.specs.declared.typing.ExprType.{ExprType}
-use Rattle.fm_typing.specs.declared.typing.ExprType.TheVariants.{Value, Array, Port, Ports, Function, Nothing}
-use Rattle.fm_typing.specs.declared.typing.Judgement.{Judgement}
-use Rattle.fm_typing.specs.declared.expressions.Referent.{Referent}
-use Rattle.fm_typing.specs.declared.expressions.Referent.TheVariants as referent
-use Rattle.fm_typing.specs.declared.expressions.Arguments.{Arguments}
-use Rattle.fm_typing.specs.Typing.{symbol_type, result_in, value_type, operator_kind}
-use Rattle.fm_typing.specs.Expressions.{array_or, arguments_judged, element_judged, function_referent, in_parentheses, intrinsic_or, judged, no_arguments, operated, reference_judged, referent_of}
+use Rattle.fm_rules.specs.declared.flags.Flags.{Flags}
+use Rattle.fm_rules.specs.declared.typing.ExprType.{ExprType}
+use Rattle.fm_rules.specs.declared.typing.ExprType.TheVariants.{Value, Array, Port, Ports, Function, Nothing}
+use Rattle.fm_rules.specs.declared.typing.Judgement.{Judgement}
+use Rattle.fm_rules.specs.declared.typing.Referent.{Referent}
+use Rattle.fm_rules.specs.declared.typing.Referent.TheVariants as referent
+use Rattle.fm_rules.specs.declared.typing.Arguments.{Arguments}
+use Rattle.fm_rules.specs.Typing.{symbol_type, result_in, value_type, operator_kind}
+use Rattle.fm_rules.specs.Expressions.{array_or, arguments_judged, function_referent, in_parentheses, intrinsic_or, judged, no_arguments, operated, reference_judged, referent_of}
 use Rattle.fm_rules.specs.declared.program.Program.{Program}
 use Rattle.fm_mean.specs.Names.{ProgramUnit, context, variable_of, unit_named}
 use Rattle.fm_mean.specs.Evaluate.{Scope, Reference, Element, Call, Built, Unknown, function_by, is_array, reference_of}
@@ -40,7 +40,7 @@ use Rattle.fm_mean.specs.Fits.{sort_of_variable}
 use Rattle.fm_mean.specs.ValueTypes.{word_type, constant_type, ref_type, type_of, given_by, alone, named_arg, ref_arg, arg_type}
 use Rattle.fm_mean.proofs.NamedTypes.{field_kind}
 use Rattle.fm_mean.proofs.Unflagged.{IsUnflagged}
-use Rattle.fm_mean.proofs.JudgedValues.{HaveNoOwnConstants, Stands, stands_none, stands_constant, stands_variable, stands, fit_value, in_parentheses_unflagged, named_agrees, value_typed}
+use Rattle.fm_mean.proofs.JudgedValues.{HaveNoOwnConstants, Stands, stands_none, stands_constant, stands_variable, stands, in_parentheses_unflagged, named_agrees, value_typed}
 
 -- what a type that is judged says of the type and the size in the meaning
 abbrev pub ArgIs : ProgramUnit → ExprType → Option (FieldKind × ℕ) → Type 0
@@ -111,9 +111,8 @@ name_is s c name sizes = go (stands s.unit name)
 abbrev AgreesPort : ProgramUnit → Context → Arguments → Referent → Reference → Type 0
 AgreesPort u c a r m = (k : ℕ) → IsUnflagged (reference_judged c r a).flags → (reference_judged c r a).expr_type ≡ Port k → (v : Variable) × (slice_get u.names.variables k ≡ Some v) × (ref_arg m ≡ Some (sort_of_variable v, 1))
 
-no_value_port : (b : Bool) (q : Scalar) (f : Flags) (k : ℕ) → (element_judged b (Value q) f).expr_type ≡ Port k → ⊥
-no_value_port true q f k e = absurd (cc)
-no_value_port false q f k e = absurd (cc)
+no_value_port : (q : Scalar) (k : ℕ) → Value q ≡ Port k → ⊥
+no_value_port q k e = absurd (cc)
 
 no_result_port : (c : Context) (o : Option symbols.Scope) (k : ℕ) → result_in o ≡ Port k → ⊥
 no_result_port c None k e = absurd (cc)
@@ -126,12 +125,10 @@ no_result_port c (Some s) k e = go s.result e
 the_place : (a b : ℕ) → Port a ≡ Port b → a ≡ b
 the_place a b e = cc
 
-element_is : (u : ProgramUnit) (a : Arguments) (n j : ℕ) (v : Variable) (m : Reference) (b : ℤ × ℤ) (bs : List (ℤ × ℤ)) → slice_get u.names.variables j ≡ Some v → v.bounds ≡ b ∷ bs
-    → (k : ℕ) → IsUnflagged (element_judged (a.fit && nat_eq a.count n) (Port j) a.flags).flags → (element_judged (a.fit && nat_eq a.count n) (Port j) a.flags).expr_type ≡ Port k
-    → (w : Variable) × (slice_get u.names.variables k ≡ Some w) × (ref_arg (mean.array_or (Some (j, v)) m) ≡ Some (sort_of_variable w, 1))
-element_is u a n j v m b bs is eb k h e =
-    let same : j ≡ k = the_place j k (sym (fit_value (a.fit && nat_eq a.count n) (Port j) a.flags h) ∙ e) in
-    (v, subst (λ k. slice_get u.names.variables k ≡ Some v) same is, ap (λ bs. ref_arg (cond (is_array bs) (Element j v) m)) eb)
+element_is : (u : ProgramUnit) (j : ℕ) (v : Variable) (m : Reference) (b : ℤ × ℤ) (bs : List (ℤ × ℤ)) → slice_get u.names.variables j ≡ Some v → v.bounds ≡ b ∷ bs
+    → (k : ℕ) → Port j ≡ Port k → (w : Variable) × (slice_get u.names.variables k ≡ Some w) × (ref_arg (mean.array_or (Some (j, v)) m) ≡ Some (sort_of_variable w, 1))
+element_is u j v m b bs is eb k e =
+    (v, subst (λ k. slice_get u.names.variables k ≡ Some v) (the_place j k e) is, ap (λ bs. ref_arg (cond (is_array bs) (Element j v) m)) eb)
 
 array_ports : (u : ProgramUnit) (c : Context) (a : Arguments) (j : ℕ) (v : Variable) (kd : Kind) (bs : List (ℤ × ℤ)) (words : ℕ) (r : Referent) (m : Reference) → slice_get u.names.variables j ≡ Some v → v.bounds ≡ bs
     → AgreesPort u c a r m → AgreesPort u c a (array_or (Some (symbol_by kd bs words j)) r) (mean.array_or (Some (j, v)) m)
@@ -139,10 +136,10 @@ array_ports u c a j v kind.Integer [] words r m is eb rest k h e = let x = rest 
 array_ports u c a j v kind.Logical [] words r m is eb rest k h e = let x = rest k h e in (x.0, x.1, ap (λ bs. ref_arg (cond (is_array bs) (Element j v) m)) eb ∙ x.2)
 array_ports u c a j v (kind.In t) [] words r m is eb rest k h e = let x = rest k h e in (x.0, x.1, ap (λ bs. ref_arg (cond (is_array bs) (Element j v) m)) eb ∙ x.2)
 array_ports u c a j v (kind.Out t) [] words r m is eb rest k h e = let x = rest k h e in (x.0, x.1, ap (λ bs. ref_arg (cond (is_array bs) (Element j v) m)) eb ∙ x.2)
-array_ports u c a j v kind.Integer (b ∷ bs) words r m is eb rest k h e = absurd (no_value_port (a.fit && nat_eq a.count (length (b ∷ bs))) scalar.Integer a.flags k e)
-array_ports u c a j v kind.Logical (b ∷ bs) words r m is eb rest k h e = absurd (no_value_port (a.fit && nat_eq a.count (length (b ∷ bs))) scalar.Logical a.flags k e)
-array_ports u c a j v (kind.In t) (b ∷ bs) words r m is eb rest k h e = element_is u a (length (b ∷ bs)) j v m b bs is eb k h e
-array_ports u c a j v (kind.Out t) (b ∷ bs) words r m is eb rest k h e = element_is u a (length (b ∷ bs)) j v m b bs is eb k h e
+array_ports u c a j v kind.Integer (b ∷ bs) words r m is eb rest k h e = absurd (no_value_port scalar.Integer k e)
+array_ports u c a j v kind.Logical (b ∷ bs) words r m is eb rest k h e = absurd (no_value_port scalar.Logical k e)
+array_ports u c a j v (kind.In t) (b ∷ bs) words r m is eb rest k h e = element_is u j v m b bs is eb k e
+array_ports u c a j v (kind.Out t) (b ∷ bs) words r m is eb rest k h e = element_is u j v m b bs is eb k e
 
 constant_ports : (u : ProgramUnit) (c : Context) (a : Arguments) (x : Constant) (r : Referent) (m : Reference) → AgreesPort u c a r m → AgreesPort u c a (array_or (Some (constant_symbol x)) r) m
 constant_ports u c a (constant.Integer n) r m rest = rest
@@ -161,29 +158,23 @@ function_no_port c a (Some (symbol.Port d place)) k e = absurd (cc)
 function_no_port c a (Some (symbol.Ports d place x)) k e = absurd (cc)
 function_no_port c a (Some (symbol.Function n)) k e = no_result_port c (slice_get c.scopes n) k e
 
-intrinsic_no_port : (c : Context) (a : Arguments) (r : Referent) (t0 t1 t2 : Bool) → NoPort c a r
-    → NoPort c a (if t0 then referent.Intrinsic 1 false else if t1 then referent.Intrinsic 2 false else if t2 then referent.Intrinsic 2 true else r)
-intrinsic_no_port c a r true t1 t2 rest k e = absurd (cc)
-intrinsic_no_port c a r false true t2 rest k e = absurd (cc)
-intrinsic_no_port c a r false false true rest k e = absurd (cc)
-intrinsic_no_port c a r false false false rest k e = rest k e
+intrinsic_no_port : (c : Context) (a : Arguments) (r : Referent) (f : Option Intrinsic) → NoPort c a r → NoPort c a (intrinsic_or f r)
+intrinsic_no_port c a r None rest k e = rest k e
+intrinsic_no_port c a r (Some f) rest k e = absurd (cc)
 
 module _ (p : Program) (own : HaveNoOwnConstants p) (s : Scope) (same : s.program ≡ p) (sizes : HaveSizes s.unit) where
   abbrev sc : symbols.Scope
   sc = scope_of s.unit.tree s.unit.names
 
   abbrev ref_rest : List ℕ → Referent
-  ref_rest name = intrinsic_or name (function_referent (function_named (context p) name))
+  ref_rest name = intrinsic_or (intrinsic_named name) (function_referent (function_named (context p) name))
 
   abbrev mean_rest : List ℕ → Reference
   mean_rest name = mean.intrinsic_or (intrinsic_named name) (function_by (unit_named s.program name))
 
   rest_no_port : (a : Arguments) (name : List ℕ) → NoPort (context p) a (ref_rest name)
   rest_no_port a name =
-      let r = function_referent (function_named (context p) name) in
-      intrinsic_no_port (context p) a r (bytes_eq name (codes "ABS") || bytes_eq name (codes "IABS"))
-      (bytes_eq name (codes "MOD") || bytes_eq name (codes "SIGN") || bytes_eq name (codes "ISIGN") || bytes_eq name (codes "DIM") || bytes_eq name (codes "IDIM"))
-      (bytes_eq name (codes "MAX") || bytes_eq name (codes "MAX0") || bytes_eq name (codes "MIN") || bytes_eq name (codes "MIN0")) (function_no_port (context p) a (function_named (context p) name))
+      intrinsic_no_port (context p) a (function_referent (function_named (context p) name)) (intrinsic_named name) (function_no_port (context p) a (function_named (context p) name))
 
   rest_ports : (a : Arguments) (name : List ℕ) → AgreesPort s.unit (context p) a (ref_rest name) (mean_rest name)
   rest_ports a name k h e = absurd (rest_no_port a name k e)
@@ -228,10 +219,6 @@ module _ (p : Program) (own : HaveNoOwnConstants p) (s : Scope) (same : s.progra
   IsPlain Function = ⊥
   IsPlain Nothing = Unit {0}
 
-  element_plain : (b : Bool) (t : ExprType) (f : Flags) → IsPlain t → IsPlain (element_judged b t f).expr_type
-  element_plain true t f h = h
-  element_plain false t f h = tt
-
   value_plain : (r : Option Scalar) → IsPlain (value_type r)
   value_plain None = tt
   value_plain (Some q) = tt
@@ -241,9 +228,9 @@ module _ (p : Program) (own : HaveNoOwnConstants p) (s : Scope) (same : s.progra
   result_plain (Some s) = value_plain s.result
 
   reference_plain : (c : Context) (r : Referent) (a : Arguments) → IsPlain (reference_judged c r a).expr_type
-  reference_plain c (referent.Element q n) a = element_plain (a.fit && nat_eq a.count n) (Value q) a.flags tt
-  reference_plain c (referent.PortElement k n) a = element_plain (a.fit && nat_eq a.count n) (Port k) a.flags tt
-  reference_plain c (referent.Intrinsic n more) a = tt
+  reference_plain c (referent.Element q n) a = tt
+  reference_plain c (referent.PortElement k n) a = tt
+  reference_plain c (referent.Intrinsic f) a = tt
   reference_plain c (referent.Unit k) a = result_plain (slice_get c.scopes k)
   reference_plain c referent.Unknown a = tt
 

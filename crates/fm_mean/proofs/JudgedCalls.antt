@@ -22,18 +22,18 @@ use Rattle.fm_symbols.specs.declared.symbol.Formal.TheVariants as formal
 use Rattle.fm_symbols.specs.declared.symbol.Scalar.{Scalar}
 use Rattle.fm_symbols.specs.declared.symbol.Scalar.TheVariants as scalar
 use Rattle.fm_symbols.specs.declared.symbol.Symbol.{Symbol}
-use Rattle.fm_typing.specs.declared.typing.ExprType.{ExprType}
-use Rattle.fm_typing.specs.declared.typing.ExprType.TheVariants.{Value, Array, Port, Ports, Function, Nothing}
-use Rattle.fm_typing.specs.declared.expressions.Referent.{Referent}
-use Rattle.fm_typing.specs.declared.expressions.Referent.TheVariants as referent
-use Rattle.fm_typing.specs.declared.expressions.Arguments.{Arguments}
-use Rattle.fm_typing.specs.Flags.{both, e42, e50}
-use Rattle.fm_typing.specs.Typing.{fits, is_port, same_scalar}
-use Rattle.fm_typing.specs.Expressions as typing
-use Rattle.fm_typing.specs.Expressions.{arguments_judged, fits_wanted, formals_in, is_stray_port, judged, no_arguments, reference_judged, wanted, with_argument}
-use Rattle.fm_ports.specs.Judged as ports
-use Rattle.fm_ports.specs.Fitting.{is_whole, is_as_long, is_kind_of, fits_formal, breaks_variable, breaks_formal, break_formals}
-use Rattle.fm_ports.specs.Rules.{actuals_break, breaks_unit}
+use Rattle.fm_rules.specs.declared.typing.ExprType.{ExprType}
+use Rattle.fm_rules.specs.declared.typing.ExprType.TheVariants.{Value, Array, Port, Ports, Function, Nothing}
+use Rattle.fm_rules.specs.declared.typing.Referent.{Referent}
+use Rattle.fm_rules.specs.declared.typing.Referent.TheVariants as referent
+use Rattle.fm_rules.specs.declared.typing.Arguments.{Arguments}
+use Rattle.fm_rules.specs.Flags.{both, e42, e50}
+use Rattle.fm_rules.specs.Typing.{fits, is_port, same_scalar}
+use Rattle.fm_rules.specs.Expressions as typing
+use Rattle.fm_rules.specs.Expressions.{arguments_judged, fits_wanted, formals_in, is_stray_port, judged, no_arguments, reference_judged, wanted, with_argument}
+use Rattle.fm_rules.specs.JudgedStatements as ports
+use Rattle.fm_rules.specs.PortFitting.{is_whole, is_as_long, is_kind_of, fits_formal, breaks_variable, breaks_formal, break_formals}
+use Rattle.fm_rules.specs.PortRules.{actuals_break, breaks_unit}
 use Rattle.fm_rules.specs.declared.program.Program.{Program}
 use Rattle.fm_mean.specs.Names.{ProgramUnit, unit_at, context, place_in, formal_place}
 use Rattle.fm_mean.specs.Evaluate.{Scope}

@@ -20,15 +20,15 @@ use Rattle.fm_symbols.specs.declared.names.Variable.{Variable}
 use Rattle.fm_symbols.specs.declared.symbol.Direction.TheVariants as direction
 use Rattle.fm_symbols.specs.declared.symbol.Scalar.{Scalar}
 use Rattle.fm_symbols.specs.declared.symbol.Scalar.TheVariants as scalar
-use Rattle.fm_typing.specs.declared.flags.Flags.{Flags}
-use Rattle.fm_typing.specs.Flags.{both, no_flags}
-use Rattle.fm_typing.specs.declared.typing.ExprType.{ExprType}
-use Rattle.fm_typing.specs.declared.typing.ExprType.TheVariants.{Value, Array, Port, Ports, Function, Nothing}
-use Rattle.fm_typing.specs.Expressions.{judged}
-use Rattle.fm_typing.specs.Variables.{target_judged, variable_judged}
-use Rattle.fm_types.specs.Statements.{any_from, in_any}
-use Rattle.fm_ports.specs.Judged as ports
-use Rattle.fm_ports.specs.Fitting.{goes, is_port_to, lacks_port, lacks_ports, message_in, message_of, port_variable, messages_differ, ports_differ, is_one_port, is_scalar_kind, is_scalar, number_in, has_elements, is_kind_of, is_array_in, fits_field, fit_fields}
+use Rattle.fm_rules.specs.declared.flags.Flags.{Flags}
+use Rattle.fm_rules.specs.Flags.{both, no_flags}
+use Rattle.fm_rules.specs.declared.typing.ExprType.{ExprType}
+use Rattle.fm_rules.specs.declared.typing.ExprType.TheVariants.{Value, Array, Port, Ports, Function, Nothing}
+use Rattle.fm_rules.specs.Expressions.{judged}
+use Rattle.fm_rules.specs.VariableTypes.{target_judged, variable_judged}
+use Rattle.fm_rules.specs.TypeStatements.{any_from, in_any}
+use Rattle.fm_rules.specs.JudgedStatements as ports
+use Rattle.fm_rules.specs.PortFitting.{goes, is_port_to, lacks_port, lacks_ports, message_in, message_of, port_variable, messages_differ, ports_differ, is_one_port, is_scalar_kind, is_scalar, number_in, has_elements, is_kind_of, is_array_in, fits_field, fit_fields}
 use Rattle.fm_net.specs.Typed.{AllIn}
 use Rattle.fm_mean.specs.Names.{ProgramUnit}
 use Rattle.fm_mean.specs.Evaluate.{Scope}

@@ -1,6 +1,6 @@
 -- A variable or an element that is judged has, in the meaning, the sort that it is judged to have.
-use Rattle.std.proofs.Common.{◌≡◌, ℕ, ℤ, Bool, true, false, ◌&&◌, Option, Some, None, option_map, List, [], ◌∷◌, slice_get, refl, sym, ap, ◌∙◌, subst}
-use Rattle.std.specs.Prelude.{if◌then◌else◌, nat_eq, length}
+use Rattle.std.proofs.Common.{◌≡◌, ℕ, ℤ, Bool, true, false, Option, Some, None, option_map, List, [], ◌∷◌, slice_get, refl, sym, ap, ◌∙◌, subst}
+use Rattle.std.specs.Prelude.{if◌then◌else◌}
 use Rattle.std.specs.FinMap.{get}
 use Rattle.fm_tree.specs.Tree.{trees_from}
 use Rattle.fm_tree.specs.PortReading as reading
@@ -13,25 +13,24 @@ use Rattle.fm_symbols.specs.declared.context.Scope as symbols
 use Rattle.fm_symbols.specs.declared.names.Constant.{Constant}
 use Rattle.fm_symbols.specs.declared.names.Constant.TheVariants as constant
 use Rattle.fm_symbols.specs.declared.names.Variable.{Variable}
-use Rattle.fm_symbols.specs.declared.symbol.Scalar.TheVariants as scalar
 use Rattle.fm_symbols.specs.declared.symbol.Symbol.{Symbol}
 use Rattle.fm_symbols.specs.declared.symbol.Symbol.TheVariants as symbol
-use Rattle.fm_typing.specs.declared.typing.ExprType.{ExprType}
-use Rattle.fm_typing.specs.declared.typing.ExprType.TheVariants.{Value, Array, Port, Ports, Function, Nothing}
-use Rattle.fm_typing.specs.declared.typing.Judgement.{Judgement}
-use Rattle.fm_typing.specs.declared.expressions.Referent.{Referent}
-use Rattle.fm_typing.specs.declared.expressions.Referent.TheVariants as referent
-use Rattle.fm_typing.specs.declared.expressions.Arguments.{Arguments}
-use Rattle.fm_typing.specs.Flags.{e41}
-use Rattle.fm_typing.specs.Typing.{symbol_type, plain}
-use Rattle.fm_typing.specs.Expressions.{array_or, arguments_judged, no_arguments}
-use Rattle.fm_typing.specs.Variables.{element_of, is_bare, is_fixed, subscripted, target_judged, target_named, target_type, variable_judged}
+use Rattle.fm_rules.specs.declared.typing.ExprType.{ExprType}
+use Rattle.fm_rules.specs.declared.typing.ExprType.TheVariants.{Value, Array, Port, Ports, Function, Nothing}
+use Rattle.fm_rules.specs.declared.typing.Judgement.{Judgement}
+use Rattle.fm_rules.specs.declared.typing.Referent.{Referent}
+use Rattle.fm_rules.specs.declared.typing.Referent.TheVariants as referent
+use Rattle.fm_rules.specs.declared.typing.Arguments.{Arguments}
+use Rattle.fm_rules.specs.Flags.{e41}
+use Rattle.fm_rules.specs.Typing.{symbol_type, plain}
+use Rattle.fm_rules.specs.Expressions.{array_or, arguments_judged, no_arguments}
+use Rattle.fm_rules.specs.VariableTypes.{element_of, is_bare, is_fixed, subscripted, target_judged, target_named, target_type, variable_judged}
 use Rattle.fm_mean.specs.Names.{ProgramUnit, variable_of}
 use Rattle.fm_mean.specs.Fits.{sort_of_variable}
 use Rattle.fm_mean.specs.Typing.{sort_of}
 use Rattle.fm_mean.proofs.NamedTypes.{field_kind}
 use Rattle.fm_mean.proofs.Unflagged.{IsUnflagged, right_unflagged}
-use Rattle.fm_mean.proofs.JudgedValues.{Stands, stands_none, stands_constant, stands_variable, stands, fit_value}
+use Rattle.fm_mean.proofs.JudgedValues.{Stands, stands_none, stands_constant, stands_variable, stands}
 
 -- what a type that is judged says of a variable
 abbrev pub PlaceIs : ProgramUnit → List ℕ → ExprType → Type 0
@@ -145,14 +144,10 @@ element_place u c name k v kind.Integer [] words a is sort ek h = tt
 element_place u c name k v kind.Logical [] words a is sort ek h = tt
 element_place u c name k v (kind.In t) [] words a is sort ek h = tt
 element_place u c name k v (kind.Out t) [] words a is sort ek h = tt
-element_place u c name k v kind.Integer (b ∷ bs) words a is sort ek h =
-    subst (PlaceIs u name) (sym (fit_value (a.fit && nat_eq a.count (length (b ∷ bs))) (Value scalar.Integer) a.flags h)) (sort_by u name v kind.Integer sort ek)
-element_place u c name k v kind.Logical (b ∷ bs) words a is sort ek h =
-    subst (PlaceIs u name) (sym (fit_value (a.fit && nat_eq a.count (length (b ∷ bs))) (Value scalar.Logical) a.flags h)) (sort_by u name v kind.Logical sort ek)
-element_place u c name k v (kind.In t) (b ∷ bs) words a is sort ek h =
-    subst (PlaceIs u name) (sym (fit_value (a.fit && nat_eq a.count (length (b ∷ bs))) (Port k) a.flags h)) (v, is, sort)
-element_place u c name k v (kind.Out t) (b ∷ bs) words a is sort ek h =
-    subst (PlaceIs u name) (sym (fit_value (a.fit && nat_eq a.count (length (b ∷ bs))) (Port k) a.flags h)) (v, is, sort)
+element_place u c name k v kind.Integer (b ∷ bs) words a is sort ek h = sort_by u name v kind.Integer sort ek
+element_place u c name k v kind.Logical (b ∷ bs) words a is sort ek h = sort_by u name v kind.Logical sort ek
+element_place u c name k v (kind.In t) (b ∷ bs) words a is sort ek h = (v, is, sort)
+element_place u c name k v (kind.Out t) (b ∷ bs) words a is sort ek h = (v, is, sort)
 
 constant_element : (u : ProgramUnit) (c : Context) (name : List ℕ) (x : Constant) (a : Arguments) → PlaceIs u name (subscripted c (array_or (Some (constant_symbol x)) referent.Unknown) a).expr_type
 constant_element u c name (constant.Integer n) a = tt
@@ -237,15 +232,15 @@ module _ (u : ProgramUnit) (c : Context) where
   typed_target (Some (symbol.Function k)) some free e = absurd (never free)
 
   typed_subscripted : (r : Referent) (a : Arguments) → IsUnflagged (subscripted c r a).flags → (subscripted c r a).expr_type ≡ Nothing → ⊥
-  typed_subscripted (referent.Element q n) a h e = absurd (no (sym (fit_value (a.fit && nat_eq a.count n) (Value q) a.flags h) ∙ e))
+  typed_subscripted (referent.Element q n) a h e = absurd (no e)
     where
       no : Value q ≡ Nothing → ⊥
       no e = absurd (cc)
-  typed_subscripted (referent.PortElement k n) a h e = absurd (no (sym (fit_value (a.fit && nat_eq a.count n) (Port k) a.flags h) ∙ e))
+  typed_subscripted (referent.PortElement k n) a h e = absurd (no e)
     where
       no : Port k ≡ Nothing → ⊥
       no e = absurd (cc)
-  typed_subscripted (referent.Intrinsic n more) a h e = never (right_unflagged a.flags (e41 true) h).e41
+  typed_subscripted (referent.Intrinsic f) a h e = never (right_unflagged a.flags (e41 true) h).e41
   typed_subscripted (referent.Unit k) a h e = never (right_unflagged a.flags (e41 true) h).e41
   typed_subscripted referent.Unknown a h e = never (right_unflagged a.flags (e41 true) h).e41
 

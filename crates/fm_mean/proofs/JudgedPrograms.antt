@@ -1,5 +1,5 @@
 -- A program has the types that its meaning asks for, by what its rules say of each statement.
-use Rattle.std.proofs.Common.{◌≡◌, ℕ, zero, suc, ◌+◌, Bool, false, ◌&&◌, Option, Some, None, List, [], ◌∷◌, ◌++◌, slice_get, inl, sym, ap, ◌∙◌, arith}
+use Rattle.std.proofs.Common.{◌≡◌, ℕ, zero, suc, ◌+◌, Bool, false, ◌&&◌, Option, Some, None, List, [], ◌∷◌, ◌++◌, slice_get, sym, ap, ◌∙◌, arith}
 use Rattle.std.specs.Prelude.{Contains, option_and_then}
 use Rattle.std.specs.List.{flat_map}
 use Rattle.fm_base.specs.declared.rule.Refusal.{Refusal}
@@ -14,30 +14,29 @@ use Rattle.fm_symbols.specs.Headings.{is_function}
 use Rattle.fm_symbols.specs.declared.context.Context.{Context}
 use Rattle.fm_symbols.specs.declared.context.Scope as symbols
 use Rattle.fm_symbols.specs.declared.names.UnitNames.{UnitNames}
-use Rattle.fm_constants.specs.Constants.{constants_of}
-use Rattle.fm_names.specs.Sheets.{arrays_of}
-use Rattle.fm_occurrences.specs.Arrays.{is_array}
-use Rattle.fm_occurrences.specs.Occurrences.{stands_in}
-use Rattle.fm_typing.specs.Flags.{e46}
-use Rattle.fm_types.specs.Statements.{flags_of, is_barred, typed_flags}
-use Rattle.fm_types.specs.Types as types
-use Rattle.fm_ports.specs.Broken as ports
-use Rattle.fm_ports.specs.Judged.{has_stray_port}
-use Rattle.fm_ports.specs.References.{breaks_reference, breaks_references}
-use Rattle.fm_ports.specs.Rules.{breaks_call, breaks_message, breaks_rank, breaks_type, call_in, in_simple, lacks_direction, location_in, simple_in}
+use Rattle.fm_rules.specs.Constants.{constants_of}
+use Rattle.fm_rules.specs.Sheets.{arrays_of}
+use Rattle.fm_rules.specs.Arrays.{is_array}
+use Rattle.fm_rules.specs.Occurrences.{stands_in}
+use Rattle.fm_rules.specs.Flags.{e46}
+use Rattle.fm_rules.specs.TypeStatements.{flags_of, is_barred, typed_flags}
+use Rattle.fm_rules.specs.BrokenTypes as types
+use Rattle.fm_rules.specs.BrokenPorts as ports
+use Rattle.fm_rules.specs.JudgedStatements.{has_stray_port}
+use Rattle.fm_rules.specs.PortRules.{breaks_call, breaks_message, breaks_rank, breaks_type, call_in, in_simple, lacks_direction, location_in, simple_in}
 use Rattle.fm_net.specs.Typed.{AllIn}
 use Rattle.fm_rules.specs.Broken.{IsBrokenType}
 use Rattle.fm_rules.specs.declared.program.Program.{Program}
 use Rattle.fm_mean.specs.Names.{ProgramUnit, unit_at, context}
 use Rattle.fm_mean.specs.Actions.{next_reference}
 use Rattle.fm_mean.specs.TypedTrees.{ReferenceHasTypes, EntryHasTypes, HasTypes}
-use Rattle.fm_mean.proofs.Unbroken.{nothing_in, left_empty, right_empty, each_empty, not_when, first_clean, next_clean, uses_clean}
+use Rattle.fm_mean.proofs.Unbroken.{nothing_in, left_empty, right_empty, each_empty, not_when, next_clean, uses_clean}
 use Rattle.fm_mean.proofs.Unflagged.{IsUnflagged, line_unflagged, left_unflagged}
 use Rattle.fm_mean.proofs.Sizes.{in_all, parts_of, variable_sized, variables_sized}
-use Rattle.fm_mean.proofs.JudgedValues.{HaveNoOwnConstants, scope_by, scopes_there}
+use Rattle.fm_mean.proofs.JudgedValues.{HaveNoOwnConstants}
 use Rattle.fm_mean.proofs.JudgedArguments.{HaveSizes}
 use Rattle.fm_mean.proofs.JudgedPlaces.{IsMeant}
-use Rattle.fm_mean.proofs.JudgedItems.{none_true}
+use Rattle.fm_mean.proofs.FunctionFormals.{scope_here, the_unit, unit_types}
 use Rattle.fm_mean.proofs.JudgedCalls.{HaveFormals}
 use Rattle.fm_mean.proofs.JudgedReferences.{Sound, calls_fit, reference_typed}
 use Rattle.fm_mean.proofs.JudgedStatements.{HaveResults, Keeps, statement_typed, loop_typed}
@@ -57,27 +56,11 @@ pub record HaveMeanings (p : Program) : Type 0 where
 
 -- ---- what is clean
 
-types_clean : (p : Program) → types.broken_types p.units.units p.names.units (context p) ≡ []
-types_clean p =
-    let us = p.units.units in
-    let ns = p.names.units in
-    nothing_in (types.broken_types us ns (context p)) (λ q broken. first_clean (IsBrokenType us ns (context p)) (Contains (ports.broken_ports us ns (context p))) (uses_clean p) q (inl broken))
-
 ports_clean : (p : Program) → ports.broken_ports p.units.units p.names.units (context p) ≡ []
 ports_clean p =
     let us = p.units.units in
     let ns = p.names.units in
     nothing_in (ports.broken_ports us ns (context p)) (next_clean (IsBrokenType us ns (context p)) (Contains (ports.broken_ports us ns (context p))) (uses_clean p))
-
-the_unit : (a b : tree.Unit) → Some a ≡ Some b → a ≡ b
-the_unit a b e = cc
-
-types_from : (ns : List UnitNames) (c : Context) (number : ℕ) (us : List tree.Unit) (k : ℕ) (u : tree.Unit) → types.broken_from ns c number us ≡ [] → slice_get us k ≡ Some u → types.broken_at ns c (number + k) u ≡ []
-types_from ns c number [] k u e is = absurd (cc)
-types_from ns c number (v ∷ us) zero u e is =
-    ap (λ (v : tree.Unit). types.broken_at ns c (number + 0) v) (sym (the_unit v u is)) ∙ ap (λ (n : ℕ). types.broken_at ns c n v) (omega arith) ∙ left_empty (types.broken_at ns c number v) (types.broken_from ns c (suc number) us) e
-types_from ns c number (v ∷ us) (suc k) u e is =
-    ap (λ (n : ℕ). types.broken_at ns c n u) (omega arith) ∙ types_from ns c (suc number) us k u (right_empty (types.broken_at ns c number v) (types.broken_from ns c (suc number) us) e) is
 
 abbrev ports_at : List UnitNames → Context → ℕ → tree.Unit → List Refusal
 ports_at ns c k u = ports.broken_unit ns c u (slice_get ns k) (slice_get c.scopes k)
@@ -102,28 +85,20 @@ module _ (p : Program) (h : HaveMeanings p) (n : ℕ) (u : ProgramUnit) (is : un
   abbrev sc : symbols.Scope
   sc = scope_of u.tree u.names
 
-  scope_here : slice_get (context p).scopes n ≡ Some (scope_of u.tree u.names)
-  scope_here = scopes_there p.units.units p.names.units n ∙ ap scope_by is
-
   entry_types : (i : ℕ) (e : Entry) → slice_get u.tree.body i ≡ Some e → types.broken_in_entry (context p) sc u.names.variables e ≡ []
   entry_types i e at =
       let vs = u.names.variables in
-      let ns = p.names.units in
-      let here : types.broken_at ns (context p) n u.tree ≡ [] = ap (λ (k : ℕ). types.broken_at ns (context p) k u.tree) (omega arith) ∙ types_from ns (context p) 0 p.units.units n u.tree (types_clean p) (parts_of p n u is).0 in
-      let unit : types.broken_in_unit (context p) sc vs u.tree ≡ [] =
-      sym (ap (λ (o : Option symbols.Scope). types.broken_by (context p) o (Some u.names) u.tree) scope_here)
-      ∙ sym (ap (λ (o : Option UnitNames). types.broken_by (context p) (slice_get (context p).scopes n) o u.tree) (parts_of p n u is).1) ∙ here in
       let heading = types.broken_in_statement (context p) sc vs u.tree.heading in
       let specs = flat_map (types.broken_in_statement (context p) sc vs) u.tree.specs in
       let body = flat_map (types.broken_in_entry (context p) sc vs) u.tree.body in
-      each_empty (types.broken_in_entry (context p) sc vs) u.tree.body i e (right_empty specs body (right_empty heading (specs ++ body) unit)) at
+      each_empty (types.broken_in_entry (context p) sc vs) u.tree.body i e (right_empty specs body (right_empty heading (specs ++ body) (unit_types p n u is))) at
 
   entry_ports : (i : ℕ) (e : Entry) → slice_get u.tree.body i ≡ Some e → ports.broken_at p.names.units u.names (context p) sc e.line.0 e.stmt ≡ []
   entry_ports i e at =
       let ns = p.names.units in
       let here : ports_at ns (context p) n u.tree ≡ [] = ap (λ (k : ℕ). ports_at ns (context p) k u.tree) (omega arith) ∙ ports_from ns (context p) 0 p.units.units n u.tree (ports_clean p) (parts_of p n u is).0 in
       let unit : ports.broken_body ns u.names (context p) sc u.tree.body ≡ [] =
-      sym (ap (λ (o : Option symbols.Scope). ports.broken_unit ns (context p) u.tree (Some u.names) o) scope_here)
+      sym (ap (λ (o : Option symbols.Scope). ports.broken_unit ns (context p) u.tree (Some u.names) o) (scope_here p n u is))
       ∙ sym (ap (λ (o : Option UnitNames). ports.broken_unit ns (context p) u.tree o (slice_get (context p).scopes n)) (parts_of p n u is).1) ∙ here in
       body_clean ns u.names (context p) sc u.tree.body i e unit at
 
@@ -137,7 +112,6 @@ module _ (p : Program) (h : HaveMeanings p) (n : ℕ) (u : ProgramUnit) (is : un
     message : in_simple (breaks_message u.names (context p) sc) (simple_in e.stmt) ≡ false
     alike : in_simple (breaks_type u.names (context p) sc) (simple_in e.stmt) ≡ false
     call : breaks_call p.names.units u.names (context p) sc (call_in e.stmt) ≡ false
-    references : breaks_references p.names.units u.names (context p) sc e.stmt ≡ false
 
   port_rules : (i : ℕ) (e : Entry) → slice_get u.tree.body i ≡ Some e → PortRules e
   port_rules i e at =
@@ -148,16 +122,13 @@ module _ (p : Program) (h : HaveMeanings p) (n : ℕ) (u : ProgramUnit) (is : un
       let b2 = in_simple (breaks_message u.names (context p) sc) (simple_in e.stmt) in
       let b3 = in_simple (breaks_type u.names (context p) sc) (simple_in e.stmt) in
       let b4 = breaks_call ns u.names (context p) sc (call_in e.stmt) in
-      let b5 = breaks_references ns u.names (context p) sc e.stmt in
       let w0 = when b0 (place line E50) in
       let w1 = when b1 (place line E51) in
       let w2 = when b2 (place line E52) in
       let w3 = when b3 (place line E53) in
       let w4 = when b4 (place line E53) in
-      let w5 = when b5 (place line E53) in
-      let w6 = when (breaks_rank u.names (location_in e.stmt)) (place line E54) in
-      let r5 = left_empty (w0 ++ w1 ++ w2 ++ w3 ++ w4 ++ w5) w6 (entry_ports i e at) in
-      let r4 = left_empty (w0 ++ w1 ++ w2 ++ w3 ++ w4) w5 r5 in
+      let w5 = when (breaks_rank u.names (location_in e.stmt)) (place line E54) in
+      let r4 = left_empty (w0 ++ w1 ++ w2 ++ w3 ++ w4) w5 (entry_ports i e at) in
       let r3 = left_empty (w0 ++ w1 ++ w2 ++ w3) w4 r4 in
       let r2 = left_empty (w0 ++ w1 ++ w2) w3 r3 in
       let r1 = left_empty (w0 ++ w1) w2 r2 in
@@ -167,7 +138,6 @@ module _ (p : Program) (h : HaveMeanings p) (n : ℕ) (u : ProgramUnit) (is : un
         message = not_when b2 (place line E52) (right_empty (w0 ++ w1) w2 r2);
         alike = not_when b3 (place line E53) (right_empty (w0 ++ w1 ++ w2) w3 r3);
         call = not_when b4 (place line E53) (right_empty (w0 ++ w1 ++ w2 ++ w3) w4 r4);
-        references = not_when b5 (place line E53) (right_empty (w0 ++ w1 ++ w2 ++ w3 ++ w4) w5 r5);
       }
 
   flags_here : (i : ℕ) (e : Entry) → slice_get u.tree.body i ≡ Some e → IsUnflagged (typed_flags (context p) sc u.names.variables e.stmt)
@@ -194,7 +164,6 @@ module _ (p : Program) (h : HaveMeanings p) (n : ℕ) (u : ProgramUnit) (is : un
       let trees = applied.applied_in e.stmt in
       reference_typed p h.own h.results sizes h.formals (arrays_in u) u n is t
       (in_all (Sound p (arrays_in u) u) trees x.0 t (statement_parts p (arrays_in u) u e.stmt (h.alone n u i e is at) (flags_here i e at) (h.names n u i e is at)) x.1)
-      (in_all (λ (t : Tree). breaks_reference p.names.units u.names (context p) sc t ≡ false) trees x.0 t (none_true (breaks_reference p.names.units u.names (context p) sc) trees (port_rules i e at).references) x.1)
 
   entry_typed : (i : ℕ) (e : Entry) → slice_get u.tree.body i ≡ Some e → EntryHasTypes p u e
   entry_typed i e at = record {

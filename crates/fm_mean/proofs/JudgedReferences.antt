@@ -1,11 +1,9 @@
 -- The calls and references of a statement that breaks no rule have arguments of the types and sizes of the formals.
-use Rattle.std.proofs.Common.{◌≡◌, ℕ, ℤ, Bool, true, false, cond, ◌||◌, Option, Some, None, option_map, List, [], ◌∷◌, map, slice_get, refl, sym, ap, ◌∙◌, subst}
-use Rattle.std.specs.Prelude.{if◌then◌else◌, codes}
+use Rattle.std.proofs.Common.{◌≡◌, ℕ, ℤ, Bool, true, false, cond, Option, Some, None, option_map, List, [], ◌∷◌, map, slice_get, refl, sym, ap, ◌∙◌, subst}
+use Rattle.std.specs.Prelude.{if◌then◌else◌}
 use Rattle.std.specs.FinMap.{get}
 use Rattle.std.specs.List.{flat_map}
-use Rattle.std.specs.Str.{bytes_eq}
 use Rattle.fm_values.specs.declared.intrinsic.Intrinsic.{Intrinsic}
-use Rattle.fm_values.specs.declared.intrinsic.Intrinsic.TheVariants.{Abs, Mod, Sign, Dim, Max, Min}
 use Rattle.fm_values.specs.Intrinsics.{intrinsic_named}
 use Rattle.fm_tree.specs.Tree.{Tree, Trees, NoTrees, More, Ref, trees_from, list_of}
 use Rattle.fm_tree.specs.declared.port_type.Kind.{Kind}
@@ -19,18 +17,17 @@ use Rattle.fm_symbols.specs.declared.names.Constant.TheVariants as constant
 use Rattle.fm_symbols.specs.declared.names.Variable.{Variable}
 use Rattle.fm_symbols.specs.declared.symbol.Symbol.{Symbol}
 use Rattle.fm_symbols.specs.declared.symbol.Symbol.TheVariants as symbol
-use Rattle.fm_occurrences.specs.Occurrences as stands
-use Rattle.fm_typing.specs.declared.typing.ExprType.TheVariants.{Nothing}
-use Rattle.fm_typing.specs.declared.typing.Judgement.{Judgement}
-use Rattle.fm_typing.specs.declared.expressions.Referent.{Referent}
-use Rattle.fm_typing.specs.declared.expressions.Referent.TheVariants as referent
-use Rattle.fm_typing.specs.Flags.{e43}
-use Rattle.fm_typing.specs.Expressions.{array_or, arguments_judged, function_referent, intrinsic_or, judged, no_arguments, reference_judged, referent_of}
-use Rattle.fm_types.specs.Statements.{callee_at, callee_in, calls}
-use Rattle.fm_types.specs.declared.calls.CallKind.{CallKind}
-use Rattle.fm_ports.specs.Judged as ports
-use Rattle.fm_ports.specs.References.{breaks_symbol, breaks_reference}
-use Rattle.fm_ports.specs.Rules.{breaks_unit}
+use Rattle.fm_rules.specs.Occurrences as stands
+use Rattle.fm_rules.specs.declared.typing.ExprType.TheVariants.{Nothing}
+use Rattle.fm_rules.specs.declared.typing.Judgement.{Judgement}
+use Rattle.fm_rules.specs.declared.typing.Referent.{Referent}
+use Rattle.fm_rules.specs.declared.typing.Referent.TheVariants as referent
+use Rattle.fm_rules.specs.Flags.{e43}
+use Rattle.fm_rules.specs.Expressions.{array_or, arguments_judged, function_referent, intrinsic_or, judged, no_arguments, reference_judged, referent_of}
+use Rattle.fm_rules.specs.TypeStatements.{callee_at, callee_in, calls}
+use Rattle.fm_rules.specs.declared.calls.CallKind.{CallKind}
+use Rattle.fm_rules.specs.JudgedStatements as ports
+use Rattle.fm_rules.specs.PortRules.{breaks_unit}
 use Rattle.fm_net.specs.Typed.{AllIn}
 use Rattle.fm_rules.specs.declared.program.Program.{Program}
 use Rattle.fm_mean.specs.Names.{ProgramUnit, unit_at, numbered, unit_named, context, kind_of, variable_of}
@@ -42,6 +39,7 @@ use Rattle.fm_mean.proofs.JudgedValues.{HaveNoOwnConstants, Stands, stands_none,
 use Rattle.fm_mean.proofs.JudgedArguments.{HaveSizes, arg_typed}
 use Rattle.fm_mean.proofs.JudgedPlaces.{IsMeant}
 use Rattle.fm_mean.proofs.JudgedItems.{all_left, all_right}
+use Rattle.fm_mean.proofs.FunctionFormals.{function_unbroken}
 use Rattle.fm_mean.proofs.JudgedCalls.{HaveFormals, AllTrees, arguments_are}
 use Rattle.fm_mean.proofs.JudgedStatements.{HaveResults, CallsFit, tree_has_type}
 
@@ -50,9 +48,9 @@ never e = absurd (cc)
 
 -- ---- what a reference that calls is judged to be
 
--- a reference that calls a unit is judged to be one of this unit
+-- a reference that calls a unit is judged to be one of this unit, which is a FUNCTION
 abbrev Calls : Program → Referent → Reference → Type 0
-Calls p r m = (k : ℕ) (w : ProgramUnit) → m ≡ Call k w → (r ≡ referent.Unit k) × (unit_at p k ≡ Some w)
+Calls p r m = (k : ℕ) (w : ProgramUnit) → m ≡ Call k w → (r ≡ referent.Unit k) × (unit_at p k ≡ Some w) × (is_function (kind_of w) ≡ true)
 
 array_calls : (p : Program) (j : ℕ) (v : Variable) (kd : Kind) (bs : List (ℤ × ℤ)) (words : ℕ) (r : Referent) (m : Reference) → v.bounds ≡ bs → Calls p r m → Calls p (array_or (Some (symbol_by kd bs words j)) r) (mean.array_or (Some (j, v)) m)
 array_calls p j v kind.Integer [] words r m eb rest k w e = rest k w (sym (ap (λ bs. cond (is_array bs) (Element j v) m) eb) ∙ e)
@@ -80,31 +78,9 @@ constant_calls : (p : Program) (x : Constant) (r : Referent) (m : Reference) →
 constant_calls p (constant.Integer n) r m rest = rest
 constant_calls p (constant.Logical b) r m rest = rest
 
-built_calls : (p : Program) (r : Referent) (f : Intrinsic) → Calls p r (Built f)
-built_calls p r f k w e = absurd (cc e)
-
-module _ (p : Program) (r : Referent) (m : Reference) (rest : Calls p r m) where
-  intrinsics_call : (t0 t1 t2 t3 t4 t5 t6 t7 t8 t9 ta : Bool) → Calls p
-      (if t0 || t1 then referent.Intrinsic 1 false else if t2 || t3 || t4 || t5 || t6 then referent.Intrinsic 2 false else if t7 || t8 || t9 || ta then referent.Intrinsic 2 true else r)
-      (mean.intrinsic_or (option_map (λ (p : List ℕ × Intrinsic). p.1)
-      (cond t0 (Some (codes "ABS", Abs)) (cond t1 (Some (codes "IABS", Abs)) (cond t2 (Some (codes "MOD", Mod)) (cond t3 (Some (codes "SIGN", Sign)) (cond t4 (Some (codes "ISIGN", Sign)) (cond t5 (Some (codes "DIM", Dim)) (cond t6 (Some (codes "IDIM", Dim)) (cond t7 (Some (codes "MAX", Max)) (cond t8 (Some (codes "MAX0", Max)) (cond t9 (Some (codes "MIN", Min)) (cond ta (Some (codes "MIN0", Min)) None)))))))))))) m)
-  intrinsics_call true t1 t2 t3 t4 t5 t6 t7 t8 t9 ta = built_calls p (referent.Intrinsic 1 false) Abs
-  intrinsics_call false true t2 t3 t4 t5 t6 t7 t8 t9 ta = built_calls p (referent.Intrinsic 1 false) Abs
-  intrinsics_call false false true t3 t4 t5 t6 t7 t8 t9 ta = built_calls p (referent.Intrinsic 2 false) Mod
-  intrinsics_call false false false true t4 t5 t6 t7 t8 t9 ta = built_calls p (referent.Intrinsic 2 false) Sign
-  intrinsics_call false false false false true t5 t6 t7 t8 t9 ta = built_calls p (referent.Intrinsic 2 false) Sign
-  intrinsics_call false false false false false true t6 t7 t8 t9 ta = built_calls p (referent.Intrinsic 2 false) Dim
-  intrinsics_call false false false false false false true t7 t8 t9 ta = built_calls p (referent.Intrinsic 2 false) Dim
-  intrinsics_call false false false false false false false true t8 t9 ta = built_calls p (referent.Intrinsic 2 true) Max
-  intrinsics_call false false false false false false false false true t9 ta = built_calls p (referent.Intrinsic 2 true) Max
-  intrinsics_call false false false false false false false false false true ta = built_calls p (referent.Intrinsic 2 true) Min
-  intrinsics_call false false false false false false false false false false true = built_calls p (referent.Intrinsic 2 true) Min
-  intrinsics_call false false false false false false false false false false false = rest
-
-  intrinsic_calls : (name : List ℕ) → Calls p (intrinsic_or name r) (mean.intrinsic_or (intrinsic_named name) m)
-  intrinsic_calls name =
-      intrinsics_call (bytes_eq name (codes "ABS")) (bytes_eq name (codes "IABS")) (bytes_eq name (codes "MOD")) (bytes_eq name (codes "SIGN")) (bytes_eq name (codes "ISIGN")) (bytes_eq name (codes "DIM"))
-      (bytes_eq name (codes "IDIM")) (bytes_eq name (codes "MAX")) (bytes_eq name (codes "MAX0")) (bytes_eq name (codes "MIN")) (bytes_eq name (codes "MIN0"))
+intrinsic_calls : (p : Program) (r : Referent) (m : Reference) → Calls p r m → (f : Option Intrinsic) → Calls p (intrinsic_or f r) (mean.intrinsic_or f m)
+intrinsic_calls p r m rest None = rest
+intrinsic_calls p r m rest (Some f) = λ k w e. absurd (cc e)
 
 module _ (p : Program) where
   unknown_calls : (r : Referent) → Calls p r Unknown
@@ -127,11 +103,13 @@ module _ (p : Program) where
 
   called_at : (j : ℕ) (o : Option ProgramUnit) → unit_at p j ≡ o → Calls p (function_referent (if is_function_scope (scope_by o) then Some (symbol.Function j) else None)) (function_by (option_map {U = ℕ × ProgramUnit} (λ u. (j, u)) o))
   called_at j None is = unknown_calls _
-  called_at j (Some v) is = go (is_function (kind_of v))
+  called_at j (Some v) is = go (is_function (kind_of v)) refl
     where
-      go : (b : Bool) → Calls p (function_referent (if b then Some (symbol.Function j) else None)) (cond b (Call j v) Unknown)
-      go false = unknown_calls _
-      go true = λ k w e. let same = the_call j k v w e in (ap referent.Unit same.0, sym (ap (unit_at p) same.0) ∙ is ∙ ap Some same.1)
+      go : (b : Bool) → is_function (kind_of v) ≡ b → Calls p (function_referent (if b then Some (symbol.Function j) else None)) (cond b (Call j v) Unknown)
+      go false at = unknown_calls _
+      go true at = λ k w e.
+          let same = the_call j k v w e in
+          (ap referent.Unit same.0, sym (ap (unit_at p) same.0) ∙ is ∙ ap Some same.1, sym (ap (λ (w : ProgramUnit). is_function (kind_of w)) same.1) ∙ at)
 
   function_calls : (name : List ℕ) → Calls p (function_referent (function_named (context p) name)) (function_by (unit_named p name))
   function_calls name = go (get (unit_numbers p.units.units) name)
@@ -141,7 +119,7 @@ module _ (p : Program) where
       go (Some j) = subst (λ (o : Option symbols.Scope). Calls p (function_referent (if is_function_scope o then Some (symbol.Function j) else None)) (function_by (numbered p (Some j)))) (sym (scopes_there p.units.units p.names.units j)) (called_at j (unit_at p j) refl)
 
   abbrev ref_rest : List ℕ → Referent
-  ref_rest name = intrinsic_or name (function_referent (function_named (context p) name))
+  ref_rest name = intrinsic_or (intrinsic_named name) (function_referent (function_named (context p) name))
 
   abbrev mean_rest : Scope → List ℕ → Reference
   mean_rest s name = mean.intrinsic_or (intrinsic_named name) (function_by (unit_named s.program name))
@@ -150,7 +128,7 @@ module _ (p : Program) where
   reference_calls s name same = go (stands s.unit name)
     where
       rest : Calls p (ref_rest name) (mean_rest s name)
-      rest = intrinsic_calls p (function_referent (function_named (context p) name)) (function_by (unit_named s.program name)) (subst (λ (x : Program). Calls p (function_referent (function_named (context p) name)) (function_by (unit_named x name))) (sym same) (function_calls name)) name
+      rest = intrinsic_calls p (function_referent (function_named (context p) name)) (function_by (unit_named s.program name)) (subst (λ (x : Program). Calls p (function_referent (function_named (context p) name)) (function_by (unit_named x name))) (sym same) (function_calls name)) (intrinsic_named name)
 
       both_ways : (o : Option Symbol) (w : Option (ℕ × Variable)) → get (symbols_of s.unit.names) name ≡ o → variable_of s.unit name ≡ w → Calls p (array_or o (ref_rest name)) (mean.array_or w (mean_rest s name))
           → Calls p (referent_of (context p) (scope_of s.unit.tree s.unit.names) name) (reference_of s name)
@@ -162,40 +140,6 @@ module _ (p : Program) where
       go (stands_none at none) = both_ways None None at none rest
       go (stands_constant c at none there) = both_ways (Some (constant_symbol c)) None at none (constant_calls p c (ref_rest name) (mean_rest s name) rest)
       go (stands_variable k v at there here) = both_ways (Some (symbol_of k v)) (Some (k, v)) at there (array_calls p k v v.kind v.bounds v.words (ref_rest name) (mean_rest s name) refl rest)
-
--- and it is a FUNCTION's
-named_function : (p : Program) (o : Option Symbol) (name : List ℕ) (k : ℕ) (t0 t1 t2 : Bool) → array_or o (if t0 then referent.Intrinsic 1 false else if t1 then referent.Intrinsic 2 false else if t2 then referent.Intrinsic 2 true else function_referent (function_named (context p) name)) ≡ referent.Unit k
-    → function_named (context p) name ≡ Some (symbol.Function k)
-named_function p o name k t0 t1 t2 e = by_array o e
-  where
-    by_function : (f : Option Symbol) → function_named (context p) name ≡ f → function_referent f ≡ referent.Unit k → function_named (context p) name ≡ Some (symbol.Function k)
-    by_function None is e = absurd (cc e)
-    by_function (Some (symbol.Constant s)) is e = absurd (cc e)
-    by_function (Some (symbol.Variable s place)) is e = absurd (cc e)
-    by_function (Some (symbol.Array s place x)) is e = absurd (cc e)
-    by_function (Some (symbol.Port d place)) is e = absurd (cc e)
-    by_function (Some (symbol.Ports d place x)) is e = absurd (cc e)
-    by_function (Some (symbol.Function j)) is e = is ∙ ap (λ j. Some (symbol.Function j)) (the_unit j k e)
-      where
-        the_unit : (a b : ℕ) → referent.Unit a ≡ referent.Unit b → a ≡ b
-        the_unit a b e = cc
-
-    by_tests : (t0 t1 t2 : Bool) → (if t0 then referent.Intrinsic 1 false else if t1 then referent.Intrinsic 2 false else if t2 then referent.Intrinsic 2 true else function_referent (function_named (context p) name)) ≡ referent.Unit k
-        → function_named (context p) name ≡ Some (symbol.Function k)
-    by_tests true t1 t2 e = absurd (cc e)
-    by_tests false true t2 e = absurd (cc e)
-    by_tests false false true e = absurd (cc e)
-    by_tests false false false e = by_function (function_named (context p) name) refl e
-
-    by_array : (o : Option Symbol) → array_or o (if t0 then referent.Intrinsic 1 false else if t1 then referent.Intrinsic 2 false else if t2 then referent.Intrinsic 2 true else function_referent (function_named (context p) name)) ≡ referent.Unit k
-        → function_named (context p) name ≡ Some (symbol.Function k)
-    by_array None e = by_tests t0 t1 t2 e
-    by_array (Some (symbol.Constant s)) e = by_tests t0 t1 t2 e
-    by_array (Some (symbol.Variable s place)) e = by_tests t0 t1 t2 e
-    by_array (Some (symbol.Array s place x)) e = absurd (cc e)
-    by_array (Some (symbol.Port d place)) e = by_tests t0 t1 t2 e
-    by_array (Some (symbol.Ports d place x)) e = absurd (cc e)
-    by_array (Some (symbol.Function j)) e = by_tests t0 t1 t2 e
 
 -- ---- calls and references of a program
 
@@ -227,28 +171,21 @@ module _ (p : Program) (own : HaveNoOwnConstants p) (results : HaveResults p) (s
   typed_in u n is s at = sizes n s.unit (is ∙ ap Some (sym at.unit))
 
   -- the arguments of a reference that calls
-  reference_of_unit : (u : ProgramUnit) (n : ℕ) → unit_at p n ≡ Some u → (name : List ℕ) (args : Trees) → Sound p array u (Ref name args)
-      → breaks_reference p.names.units u.names (context p) (scope_of u.tree u.names) (Ref name args) ≡ false → ReferenceHasTypes p u (Ref name args)
-  unfolding breaks_reference
-  reference_of_unit u n is name args sound broken k callee s calls at =
+  reference_of_unit : (u : ProgramUnit) (n : ℕ) → unit_at p n ≡ Some u → (name : List ℕ) (args : Trees) → Sound p array u (Ref name args) → ReferenceHasTypes p u (Ref name args)
+  reference_of_unit u n is name args sound k callee s calls at =
       let here = reference_calls p s name at.program k callee calls in
       let there : referent_of (context p) (scope_of u.tree u.names) name ≡ referent.Unit k = ap (λ (w : ProgramUnit). referent_of (context p) (scope_of w.tree w.names) name) (sym at.unit) ∙ here.0 in
       let judged_as : Referent → Judgement = λ r. reference_judged (context p) r (arguments_judged (context p) (scope_of u.tree u.names) r no_arguments 0 args) in
       let flags : IsUnflagged (judged_as (referent.Unit k)).flags = subst (λ (r : Referent). IsUnflagged (judged_as r).flags) there sound.flags in
-      let named = named_function p (get (symbols_of u.names) name) name k (bytes_eq name (codes "ABS") || bytes_eq name (codes "IABS"))
-      (bytes_eq name (codes "MOD") || bytes_eq name (codes "SIGN") || bytes_eq name (codes "ISIGN") || bytes_eq name (codes "DIM") || bytes_eq name (codes "IDIM"))
-      (bytes_eq name (codes "MAX") || bytes_eq name (codes "MAX0") || bytes_eq name (codes "MIN") || bytes_eq name (codes "MIN0")) there in
-      let ts = map (ports.type_of (context p) (scope_of u.tree u.names)) (list_of args) in
-      let unbroken : breaks_unit p.names.units (context p) u.names ts (Some k) ≡ false = sym (ap (breaks_symbol p.names.units (context p) u.names ts) named) ∙ broken in
       let some = some_trees u args (all_right (IsMeant u (context p)) (stands.subscripted (array name) name) (stands.in_trees array args) sound.names) in
       arguments_are p s sizes formals (arg_typed p own s at.program (typed_in u n is s at)) k callee args here.1
       (subst (λ (w : ProgramUnit). IsUnflagged (reference_judged (context p) (referent.Unit k) (arguments_judged (context p) (scope_of w.tree w.names) (referent.Unit k) no_arguments 0 args)).flags) (sym at.unit) flags)
       (subst (λ (w : ProgramUnit). AllTrees (HasSome w) args) (sym at.unit) some)
-      (subst (λ (w : ProgramUnit). breaks_unit p.names.units (context p) w.names (map (ports.type_of (context p) (scope_of w.tree w.names)) (list_of args)) (Some k) ≡ false) (sym at.unit) unbroken)
+      (function_unbroken p k callee here.1 here.2 s.unit.names (map (ports.type_of (context p) (scope_of s.unit.tree s.unit.names)) (list_of args)))
 
-  pub reference_typed : (u : ProgramUnit) (n : ℕ) → unit_at p n ≡ Some u → (t : Tree) → Sound p array u t → breaks_reference p.names.units u.names (context p) (scope_of u.tree u.names) t ≡ false → ReferenceHasTypes p u t
-  reference_typed u n is (Ref name args) sound broken = reference_of_unit u n is name args sound broken
-  reference_typed u n is t sound broken = tt
+  pub reference_typed : (u : ProgramUnit) (n : ℕ) → unit_at p n ≡ Some u → (t : Tree) → Sound p array u t → ReferenceHasTypes p u t
+  reference_typed u n is (Ref name args) sound = reference_of_unit u n is name args sound
+  reference_typed u n is t sound = tt
 
   -- the unit that is called
   callee_is : (c : Context) (kd : CallKind) (o : Option ℕ) (sc : symbols.Scope) (ts : Trees) → IsUnflagged (reference_judged c (callee_at c kd o) (arguments_judged c sc (callee_at c kd o) no_arguments 0 ts)).flags → (k : ℕ) × (o ≡ Some k) × (callee_at c kd o ≡ referent.Unit k)

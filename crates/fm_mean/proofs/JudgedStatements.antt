@@ -1,9 +1,10 @@
 -- A statement that breaks no rule of types and ports has the types that its meaning asks for.
-use Rattle.std.proofs.Common.{◌≡◌, ℕ, Bool, true, false, ◌&&◌, ◌||◌, not, Option, Some, None, List, [], ◌∷◌, ◌++◌, map, slice_get, refl, sym, ap, ◌∙◌, subst}
-use Rattle.std.specs.Prelude.{if◌then◌else◌, nat_eq, codes}
+use Rattle.std.proofs.Common.{◌≡◌, ℕ, Bool, true, false, ◌||◌, not, Option, Some, None, List, [], ◌∷◌, ◌++◌, map, slice_get, refl, sym, ap, ◌∙◌, subst}
+use Rattle.std.specs.Prelude.{if◌then◌else◌}
 use Rattle.std.specs.FinMap.{get}
 use Rattle.std.specs.List.{flat_map, list_any}
-use Rattle.std.specs.Str.{bytes_eq}
+use Rattle.fm_values.specs.declared.intrinsic.Intrinsic.{Intrinsic}
+use Rattle.fm_values.specs.Intrinsics.{intrinsic_named}
 use Rattle.fm_tree.specs.Tree.{Tree, Number, Truth, Named, Ref, Paren, Signed, Not, Binary, trees_from}
 use Rattle.fm_tree.specs.PortFields.{PortFields, Integer, In, Out}
 use Rattle.fm_tree.specs.declared.statement.Var.{Var}
@@ -23,26 +24,26 @@ use Rattle.fm_symbols.specs.declared.symbol.Scalar.{Scalar}
 use Rattle.fm_symbols.specs.declared.symbol.Scalar.TheVariants as scalar
 use Rattle.fm_symbols.specs.declared.symbol.Symbol.{Symbol}
 use Rattle.fm_symbols.specs.declared.symbol.Symbol.TheVariants as symbol
-use Rattle.fm_occurrences.specs.Occurrences as stands
-use Rattle.fm_typing.specs.declared.flags.Flags.{Flags}
-use Rattle.fm_typing.specs.declared.typing.ExprType.{ExprType}
-use Rattle.fm_typing.specs.declared.typing.ExprType.TheVariants.{Value, Array, Port, Ports, Function, Nothing}
-use Rattle.fm_typing.specs.declared.typing.Judgement.{Judgement}
-use Rattle.fm_typing.specs.declared.typing.OperatorKind.{OperatorKind}
-use Rattle.fm_typing.specs.declared.typing.OperatorKind.TheVariants as operator
-use Rattle.fm_typing.specs.declared.expressions.Referent.{Referent}
-use Rattle.fm_typing.specs.declared.expressions.Referent.TheVariants as referent
-use Rattle.fm_typing.specs.declared.expressions.Arguments.{Arguments}
-use Rattle.fm_typing.specs.Flags.{both, e40, e43, e46, e50}
-use Rattle.fm_typing.specs.Typing.{needed, needed_value, operand, operator_kind, result_in, same_scalar, value_type}
-use Rattle.fm_typing.specs.Expressions.{array_or, arguments_judged, function_referent, in_parentheses, intrinsic_or, judged, no_arguments, operated, reference_judged, referent_of}
-use Rattle.fm_typing.specs.Variables.{target_judged, target_named, variable_judged}
-use Rattle.fm_types.specs.Statements.{assignment_flags, call_flags, changes_formal, expr_flags, extra_flags, in_any, integer_flags, loop_flags, loop_variable_flags, optional_flags, port_flags, position_flags, simple_flags, target_flags, typed_flags, value_for}
-use Rattle.fm_types.specs.declared.calls.CallKind.{CallKind}
-use Rattle.fm_types.specs.declared.calls.CallKind.TheVariants as call_kind
-use Rattle.fm_ports.specs.Judged as ports
-use Rattle.fm_ports.specs.Fitting.{fit_fields, is_one_port, lacks_port, lacks_ports, messages_differ, port_variable, ports_differ}
-use Rattle.fm_ports.specs.Rules.{breaks_call, breaks_fields, breaks_message, breaks_move, breaks_type, call_in, call_in_simple, in_simple, lacks_direction, message_at, simple_in}
+use Rattle.fm_rules.specs.Occurrences as stands
+use Rattle.fm_rules.specs.declared.flags.Flags.{Flags}
+use Rattle.fm_rules.specs.declared.typing.ExprType.{ExprType}
+use Rattle.fm_rules.specs.declared.typing.ExprType.TheVariants.{Value, Array, Port, Ports, Function, Nothing}
+use Rattle.fm_rules.specs.declared.typing.Judgement.{Judgement}
+use Rattle.fm_rules.specs.declared.typing.OperatorKind.{OperatorKind}
+use Rattle.fm_rules.specs.declared.typing.OperatorKind.TheVariants as operator
+use Rattle.fm_rules.specs.declared.typing.Referent.{Referent}
+use Rattle.fm_rules.specs.declared.typing.Referent.TheVariants as referent
+use Rattle.fm_rules.specs.declared.typing.Arguments.{Arguments}
+use Rattle.fm_rules.specs.Flags.{both, e40, e43, e46, e50}
+use Rattle.fm_rules.specs.Typing.{needed, needed_value, operand, operator_kind, result_in, same_scalar, value_type}
+use Rattle.fm_rules.specs.Expressions.{array_or, arguments_judged, function_referent, in_parentheses, intrinsic_or, judged, no_arguments, operated, reference_judged, referent_of}
+use Rattle.fm_rules.specs.VariableTypes.{target_judged, target_named, variable_judged}
+use Rattle.fm_rules.specs.TypeStatements.{assignment_flags, call_flags, changes_formal, expr_flags, extra_flags, in_any, integer_flags, loop_flags, loop_variable_flags, optional_flags, port_flags, position_flags, simple_flags, target_flags, typed_flags, value_for}
+use Rattle.fm_rules.specs.declared.calls.CallKind.{CallKind}
+use Rattle.fm_rules.specs.declared.calls.CallKind.TheVariants as call_kind
+use Rattle.fm_rules.specs.JudgedStatements as ports
+use Rattle.fm_rules.specs.PortFitting.{fit_fields, is_one_port, lacks_port, lacks_ports, messages_differ, port_variable, ports_differ}
+use Rattle.fm_rules.specs.PortRules.{breaks_call, breaks_fields, breaks_message, breaks_move, breaks_type, call_in, call_in_simple, in_simple, lacks_direction, message_at, simple_in}
 use Rattle.fm_net.specs.Typed.{AllIn}
 use Rattle.fm_rules.specs.declared.program.Program.{Program}
 use Rattle.fm_mean.specs.Names.{ProgramUnit, unit_at, context, kind_of}
@@ -52,7 +53,7 @@ use Rattle.fm_mean.specs.TypedTrees.{HasType, ItemsHaveTypes, ArgumentsHaveTypes
 use Rattle.fm_mean.proofs.NamedTypes.{field_kind}
 use Rattle.fm_mean.proofs.Unbroken.{or_left, or_right}
 use Rattle.fm_mean.proofs.Unflagged.{IsUnflagged, left_unflagged, right_unflagged}
-use Rattle.fm_mean.proofs.JudgedValues.{HaveNoOwnConstants, scope_by, scopes_there, fit_value, value_typed}
+use Rattle.fm_mean.proofs.JudgedValues.{HaveNoOwnConstants, scope_by, scopes_there, value_typed}
 use Rattle.fm_mean.proofs.JudgedArguments.{HaveSizes, arg_typed}
 use Rattle.fm_mean.proofs.JudgedPlaces.{PlaceIs, PortIs, IsMeant, typed_symbol, port_is, target_is, item_is, loop_is, variable_has_type, target_has_type, item_has_type, loop_has_type}
 use Rattle.fm_mean.proofs.JudgedItems.{all_unflagged, all_left, all_right, all_parts, none_true, IsPort, inport_is, outport_is, outports_are, one_message, one_sort, a_port, items_are, places_are}
@@ -80,23 +81,20 @@ array_some : (c : Context) (a : Arguments) (o : Option Symbol) (r : Referent) �
 array_some c a None r rest = rest
 array_some c a (Some (symbol.Constant q)) r rest = rest
 array_some c a (Some (symbol.Variable q k)) r rest = rest
-array_some c a (Some (symbol.Array q k x)) r rest = λ h e. no (sym (fit_value (a.fit && nat_eq a.count x.dimensions) (Value q) a.flags h) ∙ e)
+array_some c a (Some (symbol.Array q k x)) r rest = λ h e. no e
   where
     no : Value q ≡ Nothing → ⊥
     no e = absurd (cc)
 array_some c a (Some (symbol.Port d k)) r rest = rest
-array_some c a (Some (symbol.Ports d k x)) r rest = λ h e. no (sym (fit_value (a.fit && nat_eq a.count x.dimensions) (Port k) a.flags h) ∙ e)
+array_some c a (Some (symbol.Ports d k x)) r rest = λ h e. no e
   where
     no : Port k ≡ Nothing → ⊥
     no e = absurd (cc)
 array_some c a (Some (symbol.Function k)) r rest = rest
 
-intrinsic_some : (c : Context) (a : Arguments) (r : Referent) (t0 t1 t2 : Bool) → HasSome c a r
-    → HasSome c a (if t0 then referent.Intrinsic 1 false else if t1 then referent.Intrinsic 2 false else if t2 then referent.Intrinsic 2 true else r)
-intrinsic_some c a r true t1 t2 rest = λ h e. absurd (cc e)
-intrinsic_some c a r false true t2 rest = λ h e. absurd (cc e)
-intrinsic_some c a r false false true rest = λ h e. absurd (cc e)
-intrinsic_some c a r false false false rest = rest
+intrinsic_some : (c : Context) (a : Arguments) (r : Referent) (f : Option Intrinsic) → HasSome c a r → HasSome c a (intrinsic_or f r)
+intrinsic_some c a r None rest = rest
+intrinsic_some c a r (Some f) rest = λ h e. absurd (cc e)
 
 no_value : (r : Option Scalar) → value_type r ≡ Nothing → r ≡ None
 no_value None e = refl
@@ -119,10 +117,8 @@ module _ (p : Program) (results : HaveResults p) where
   reference_some : (sc : symbols.Scope) (a : Arguments) (name : List ℕ) → HasSome (context p) a (referent_of (context p) sc name)
   reference_some sc a name =
       let r = function_referent (function_named (context p) name) in
-      array_some (context p) a (get sc.symbols name) (intrinsic_or name r)
-      (intrinsic_some (context p) a r (bytes_eq name (codes "ABS") || bytes_eq name (codes "IABS"))
-      (bytes_eq name (codes "MOD") || bytes_eq name (codes "SIGN") || bytes_eq name (codes "ISIGN") || bytes_eq name (codes "DIM") || bytes_eq name (codes "IDIM"))
-      (bytes_eq name (codes "MAX") || bytes_eq name (codes "MAX0") || bytes_eq name (codes "MIN") || bytes_eq name (codes "MIN0")) (function_some a (get (context p).units name)))
+      array_some (context p) a (get sc.symbols name) (intrinsic_or (intrinsic_named name) r)
+      (intrinsic_some (context p) a r (intrinsic_named name) (function_some a (get (context p).units name)))
 
   operated_some : (o : OperatorKind) (a b : Judgement) → (operated o a b).expr_type ≡ Nothing → ⊥
   operated_some operator.Arithmetic a b e = absurd (cc e)

@@ -1,12 +1,10 @@
 -- An expression that is judged to be a value has, in the meaning, the type that it is judged to have.
-use Rattle.std.proofs.Common.{◌≡◌, ℕ, zero, suc, ℤ, ◌+◌, Bool, true, false, cond, ◌||◌, ◌&&◌, Option, Some, None, option_map, List, [], ◌∷◌, slice_get, refl, sym, ap, ◌∙◌, subst, arith}
-use Rattle.std.specs.Prelude.{if◌then◌else◌, codes, nat_eq, length}
+use Rattle.std.proofs.Common.{◌≡◌, ℕ, zero, suc, ℤ, ◌+◌, Bool, true, false, cond, Option, Some, None, option_map, List, [], ◌∷◌, slice_get, refl, sym, ap, ◌∙◌, subst, arith}
+use Rattle.std.specs.Prelude.{if◌then◌else◌}
 use Rattle.std.specs.FinMap.{get}
-use Rattle.std.specs.Str.{bytes_eq}
 use Rattle.fm_base.specs.declared.token.Op.{Op}
 use Rattle.fm_base.specs.declared.token.Op.TheVariants as op
 use Rattle.fm_values.specs.declared.intrinsic.Intrinsic.{Intrinsic}
-use Rattle.fm_values.specs.declared.intrinsic.Intrinsic.TheVariants.{Abs, Mod, Sign, Dim, Max, Min}
 use Rattle.fm_values.specs.Intrinsics.{intrinsic_named}
 use Rattle.fm_values.specs.Operations.{is_arithmetic}
 use Rattle.fm_tree.specs.Tree.{Tree, Number, Truth, Named, Ref, Paren, Signed, Not, Binary}
@@ -26,19 +24,19 @@ use Rattle.fm_symbols.specs.declared.symbol.Scalar.{Scalar}
 use Rattle.fm_symbols.specs.declared.symbol.Scalar.TheVariants as scalar
 use Rattle.fm_symbols.specs.declared.symbol.Symbol.{Symbol}
 use Rattle.fm_symbols.specs.declared.symbol.Symbol.TheVariants as symbol
-use Rattle.fm_typing.specs.declared.flags.Flags.{Flags}
-use Rattle.fm_typing.specs.declared.typing.ExprType.{ExprType}
-use Rattle.fm_typing.specs.declared.typing.ExprType.TheVariants.{Value, Array, Port, Ports, Function, Nothing}
-use Rattle.fm_typing.specs.declared.typing.Judgement.{Judgement}
-use Rattle.fm_typing.specs.declared.expressions.Referent.{Referent}
-use Rattle.fm_typing.specs.declared.expressions.Referent.TheVariants as referent
-use Rattle.fm_typing.specs.declared.expressions.Arguments.{Arguments}
-use Rattle.fm_typing.specs.Flags.{e40, e41, e43, e50}
-use Rattle.fm_typing.specs.Typing.{result_in, value_type, operator_kind}
-use Rattle.fm_typing.specs.Expressions.{array_or, arguments_judged, element_judged, function_referent, in_parentheses, intrinsic_or, judged, no_arguments, operated, reference_judged, referent_of}
+use Rattle.fm_rules.specs.declared.flags.Flags.{Flags}
+use Rattle.fm_rules.specs.declared.typing.ExprType.{ExprType}
+use Rattle.fm_rules.specs.declared.typing.ExprType.TheVariants.{Value, Array, Port, Ports, Function, Nothing}
+use Rattle.fm_rules.specs.declared.typing.Judgement.{Judgement}
+use Rattle.fm_rules.specs.declared.typing.Referent.{Referent}
+use Rattle.fm_rules.specs.declared.typing.Referent.TheVariants as referent
+use Rattle.fm_rules.specs.declared.typing.Arguments.{Arguments}
+use Rattle.fm_rules.specs.Flags.{e40, e43, e50}
+use Rattle.fm_rules.specs.Typing.{result_in, value_type, operator_kind}
+use Rattle.fm_rules.specs.Expressions.{array_or, arguments_judged, function_referent, in_parentheses, intrinsic_or, judged, no_arguments, operated, reference_judged, referent_of}
 use Rattle.fm_rules.specs.declared.program.Program.{Program}
 use Rattle.fm_mean.specs.Names.{ProgramUnit, unit_with, unit_at, numbered, unit_named, context, kind_of, place_in, variable_at, variable_of, variable_if, constant_of, result_variable}
-use Rattle.fm_mean.specs.Evaluate.{Scope, Reference, Element, Call, Built, Unknown, function_by, is_array, reference_of}
+use Rattle.fm_mean.specs.Evaluate.{Scope, Reference, Element, Call, Unknown, function_by, is_array, reference_of}
 use Rattle.fm_mean.specs.Evaluate as mean
 use Rattle.fm_mean.specs.ValueTypes.{word_type, result_type, ref_type, given_by, type_of}
 use Rattle.fm_mean.proofs.NamedTypes.{field_kind, Comes, from_constant, from_variable, symbol_comes, name_typed}
@@ -97,13 +95,6 @@ stands u name = go (get (symbols_of u.names) name) refl
 abbrev pub Agrees : Context → Arguments → Referent → Reference → Type 0
 Agrees c a r m = (q : Scalar) → IsUnflagged (reference_judged c r a).flags → (reference_judged c r a).expr_type ≡ Value q → ref_type m ≡ Some (field_kind q)
 
-pub fit_value : (b : Bool) (t : ExprType) (f : Flags) → IsUnflagged (element_judged b t f).flags → (element_judged b t f).expr_type ≡ t
-fit_value true t f h = refl
-fit_value false t f h = absurd (no (right_unflagged f (e41 true) h).e41)
-  where
-    no : true ≡ false → ⊥
-    no e = absurd (cc)
-
 array_agrees : (c : Context) (a : Arguments) (k : ℕ) (v : Variable) (kd : Kind) (bs : List (ℤ × ℤ)) (words : ℕ) (r : Referent) (m : Reference) → v.kind ≡ kd → v.bounds ≡ bs
     → Agrees c a r m → Agrees c a (array_or (Some (symbol_by kd bs words k)) r) (mean.array_or (Some (k, v)) m)
 array_agrees c a k v kind.Integer [] words r m ek eb rest q h e = ap (λ bs. ref_type (cond (is_array bs) (Element k v) m)) eb ∙ rest q h e
@@ -112,15 +103,15 @@ array_agrees c a k v (kind.In t) [] words r m ek eb rest q h e = ap (λ bs. ref_
 array_agrees c a k v (kind.Out t) [] words r m ek eb rest q h e = ap (λ bs. ref_type (cond (is_array bs) (Element k v) m)) eb ∙ rest q h e
 array_agrees c a k v kind.Integer (b ∷ bs) words r m ek eb rest q h e =
     ap (λ bs. ref_type (cond (is_array bs) (Element k v) m)) eb ∙ ap (λ kd. word_type (reading.kind_of kd)) ek
-    ∙ same_kind scalar.Integer q (sym (fit_value (a.fit && nat_eq a.count (length (b ∷ bs))) (Value scalar.Integer) a.flags h) ∙ e)
+    ∙ same_kind scalar.Integer q e
 array_agrees c a k v kind.Logical (b ∷ bs) words r m ek eb rest q h e =
     ap (λ bs. ref_type (cond (is_array bs) (Element k v) m)) eb ∙ ap (λ kd. word_type (reading.kind_of kd)) ek
-    ∙ same_kind scalar.Logical q (sym (fit_value (a.fit && nat_eq a.count (length (b ∷ bs))) (Value scalar.Logical) a.flags h) ∙ e)
-array_agrees c a k v (kind.In t) (b ∷ bs) words r m ek eb rest q h e = absurd (no_port k q (sym (fit_value (a.fit && nat_eq a.count (length (b ∷ bs))) (Port k) a.flags h) ∙ e))
+    ∙ same_kind scalar.Logical q e
+array_agrees c a k v (kind.In t) (b ∷ bs) words r m ek eb rest q h e = absurd (no_port k q e)
   where
     no_port : (k : ℕ) (q : Scalar) → Port k ≡ Value q → ⊥
     no_port k q e = absurd (cc)
-array_agrees c a k v (kind.Out t) (b ∷ bs) words r m ek eb rest q h e = absurd (no_port k q (sym (fit_value (a.fit && nat_eq a.count (length (b ∷ bs))) (Port k) a.flags h) ∙ e))
+array_agrees c a k v (kind.Out t) (b ∷ bs) words r m ek eb rest q h e = absurd (no_port k q e)
   where
     no_port : (k : ℕ) (q : Scalar) → Port k ≡ Value q → ⊥
     no_port k q e = absurd (cc)
@@ -138,32 +129,9 @@ unknown_agrees c a m q h e = absurd (no (right_unflagged a.flags (e43 true) h).e
 
 -- intrinsics
 
-built_agrees : (c : Context) (a : Arguments) (n : ℕ) (more : Bool) (f : Intrinsic) → Agrees c a (referent.Intrinsic n more) (Built f)
-built_agrees c a n more f q h e = same_kind scalar.Integer q e
-
--- the tests of the names, one after the other
-module _ (c : Context) (a : Arguments) (r : Referent) (m : Reference) (rest : Agrees c a r m) where
-  intrinsics_agree : (t0 t1 t2 t3 t4 t5 t6 t7 t8 t9 ta : Bool) → Agrees c a
-      (if t0 || t1 then referent.Intrinsic 1 false else if t2 || t3 || t4 || t5 || t6 then referent.Intrinsic 2 false else if t7 || t8 || t9 || ta then referent.Intrinsic 2 true else r)
-      (mean.intrinsic_or (option_map (λ (p : List ℕ × Intrinsic). p.1)
-      (cond t0 (Some (codes "ABS", Abs)) (cond t1 (Some (codes "IABS", Abs)) (cond t2 (Some (codes "MOD", Mod)) (cond t3 (Some (codes "SIGN", Sign)) (cond t4 (Some (codes "ISIGN", Sign)) (cond t5 (Some (codes "DIM", Dim)) (cond t6 (Some (codes "IDIM", Dim)) (cond t7 (Some (codes "MAX", Max)) (cond t8 (Some (codes "MAX0", Max)) (cond t9 (Some (codes "MIN", Min)) (cond ta (Some (codes "MIN0", Min)) None)))))))))))) m)
-  intrinsics_agree true t1 t2 t3 t4 t5 t6 t7 t8 t9 ta = built_agrees c a 1 false Abs
-  intrinsics_agree false true t2 t3 t4 t5 t6 t7 t8 t9 ta = built_agrees c a 1 false Abs
-  intrinsics_agree false false true t3 t4 t5 t6 t7 t8 t9 ta = built_agrees c a 2 false Mod
-  intrinsics_agree false false false true t4 t5 t6 t7 t8 t9 ta = built_agrees c a 2 false Sign
-  intrinsics_agree false false false false true t5 t6 t7 t8 t9 ta = built_agrees c a 2 false Sign
-  intrinsics_agree false false false false false true t6 t7 t8 t9 ta = built_agrees c a 2 false Dim
-  intrinsics_agree false false false false false false true t7 t8 t9 ta = built_agrees c a 2 false Dim
-  intrinsics_agree false false false false false false false true t8 t9 ta = built_agrees c a 2 true Max
-  intrinsics_agree false false false false false false false false true t9 ta = built_agrees c a 2 true Max
-  intrinsics_agree false false false false false false false false false true ta = built_agrees c a 2 true Min
-  intrinsics_agree false false false false false false false false false false true = built_agrees c a 2 true Min
-  intrinsics_agree false false false false false false false false false false false = rest
-
-  intrinsic_agrees : (name : List ℕ) → Agrees c a (intrinsic_or name r) (mean.intrinsic_or (intrinsic_named name) m)
-  intrinsic_agrees name =
-      intrinsics_agree (bytes_eq name (codes "ABS")) (bytes_eq name (codes "IABS")) (bytes_eq name (codes "MOD")) (bytes_eq name (codes "SIGN")) (bytes_eq name (codes "ISIGN")) (bytes_eq name (codes "DIM"))
-      (bytes_eq name (codes "IDIM")) (bytes_eq name (codes "MAX")) (bytes_eq name (codes "MAX0")) (bytes_eq name (codes "MIN")) (bytes_eq name (codes "MIN0"))
+intrinsic_agrees : (c : Context) (a : Arguments) (r : Referent) (m : Reference) → Agrees c a r m → (f : Option Intrinsic) → Agrees c a (intrinsic_or f r) (mean.intrinsic_or f m)
+intrinsic_agrees c a r m rest None = rest
+intrinsic_agrees c a r m rest (Some f) = λ q h e. same_kind scalar.Integer q e
 
 -- FUNCTIONs
 
@@ -235,24 +203,24 @@ module _ (p : Program) (own : HaveNoOwnConstants p) where
   pub named_agrees : (s : Scope) (a : Arguments) (name : List ℕ) → s.program ≡ p → Agrees (context p) a (referent_of (context p) (scope_of s.unit.tree s.unit.names) name) (reference_of s name)
   named_agrees s a name same = go (stands s.unit name)
     where
-      rest : Agrees (context p) a (intrinsic_or name (function_referent (function_named (context p) name))) (mean.intrinsic_or (intrinsic_named name) (function_by (unit_named s.program name)))
+      rest : Agrees (context p) a (intrinsic_or (intrinsic_named name) (function_referent (function_named (context p) name))) (mean.intrinsic_or (intrinsic_named name) (function_by (unit_named s.program name)))
       rest =
           intrinsic_agrees (context p) a (function_referent (function_named (context p) name)) (function_by (unit_named s.program name))
-          (subst (λ (x : Program). Agrees (context p) a (function_referent (function_named (context p) name)) (function_by (unit_named x name))) (sym same) (function_agrees a name)) name
+          (subst (λ (x : Program). Agrees (context p) a (function_referent (function_named (context p) name)) (function_by (unit_named x name))) (sym same) (function_agrees a name)) (intrinsic_named name)
 
       both_ways : (o : Option Symbol) (w : Option (ℕ × Variable)) → get (symbols_of s.unit.names) name ≡ o → variable_of s.unit name ≡ w
-          → Agrees (context p) a (array_or o (intrinsic_or name (function_referent (function_named (context p) name)))) (mean.array_or w (mean.intrinsic_or (intrinsic_named name) (function_by (unit_named s.program name))))
+          → Agrees (context p) a (array_or o (intrinsic_or (intrinsic_named name) (function_referent (function_named (context p) name)))) (mean.array_or w (mean.intrinsic_or (intrinsic_named name) (function_by (unit_named s.program name))))
           → Agrees (context p) a (referent_of (context p) (scope_of s.unit.tree s.unit.names) name) (reference_of s name)
       both_ways o w at there h =
-          subst (λ (o : Option Symbol). Agrees (context p) a (array_or o (intrinsic_or name (function_referent (function_named (context p) name)))) (reference_of s name)) (sym at)
-          (subst (λ (w : Option (ℕ × Variable)). Agrees (context p) a (array_or o (intrinsic_or name (function_referent (function_named (context p) name)))) (mean.array_or w (mean.intrinsic_or (intrinsic_named name) (function_by (unit_named s.program name))))) (sym there) h)
+          subst (λ (o : Option Symbol). Agrees (context p) a (array_or o (intrinsic_or (intrinsic_named name) (function_referent (function_named (context p) name)))) (reference_of s name)) (sym at)
+          (subst (λ (w : Option (ℕ × Variable)). Agrees (context p) a (array_or o (intrinsic_or (intrinsic_named name) (function_referent (function_named (context p) name)))) (mean.array_or w (mean.intrinsic_or (intrinsic_named name) (function_by (unit_named s.program name))))) (sym there) h)
 
       go : Stands s.unit name (get (symbols_of s.unit.names) name) → Agrees (context p) a (referent_of (context p) (scope_of s.unit.tree s.unit.names) name) (reference_of s name)
       go (stands_none at none) = both_ways None None at none rest
       go (stands_constant c at none there) = both_ways (Some (constant_symbol c)) None at none
-          (constant_agrees (context p) a c (intrinsic_or name (function_referent (function_named (context p) name))) (mean.intrinsic_or (intrinsic_named name) (function_by (unit_named s.program name))) rest)
+          (constant_agrees (context p) a c (intrinsic_or (intrinsic_named name) (function_referent (function_named (context p) name))) (mean.intrinsic_or (intrinsic_named name) (function_by (unit_named s.program name))) rest)
       go (stands_variable k v at there here) = both_ways (Some (symbol_of k v)) (Some (k, v)) at there
-          (array_agrees (context p) a k v v.kind v.bounds v.words (intrinsic_or name (function_referent (function_named (context p) name))) (mean.intrinsic_or (intrinsic_named name) (function_by (unit_named s.program name))) refl refl rest)
+          (array_agrees (context p) a k v v.kind v.bounds v.words (intrinsic_or (intrinsic_named name) (function_referent (function_named (context p) name))) (mean.intrinsic_or (intrinsic_named name) (function_by (unit_named s.program name))) refl refl rest)
 
   in_parentheses_typed : (t : ExprType) (f : Flags) (q : Scalar) → (in_parentheses t f).expr_type ≡ Value q → t ≡ Value q
   in_parentheses_typed (Value r) f q e = e

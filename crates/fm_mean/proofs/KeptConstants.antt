@@ -14,13 +14,13 @@ use Rattle.fm_symbols.specs.ByName.{ByName}
 use Rattle.fm_symbols.specs.Context.{constant_entry, constant_symbol}
 use Rattle.fm_symbols.specs.declared.names.Constant.{Constant}
 use Rattle.fm_symbols.specs.declared.symbol.Scalar.{Scalar}
-use Rattle.fm_constants.specs.declared.known.Known.{Known}
-use Rattle.fm_constants.specs.declared.types.Types.{Types}
-use Rattle.fm_constants.specs.Values.{is_before, value_seen, value_of, signed, negated, both_computed}
-use Rattle.fm_constants.specs.Constants.{constants_of, with_definition, with_definitions, known_from, value_here, entry_of, entries_in, entries_from}
-use Rattle.fm_constants.specs.Parts.{decls_of, port_type_in, definitions_in, machine_in}
-use Rattle.fm_constants.specs.Types.{scalar_of_name}
-use Rattle.fm_constants.specs.Broken.{is_no_constant, broken_decls, broken_message, broken_definition, broken_definitions, broken_machine, broken_statement, broken_from}
+use Rattle.fm_rules.specs.declared.constants.Known.{Known}
+use Rattle.fm_rules.specs.declared.constants.Types.{Types}
+use Rattle.fm_rules.specs.ConstantValues.{is_before, value_seen, value_of, signed, negated, both_computed}
+use Rattle.fm_rules.specs.Constants.{constants_of, with_definition, with_definitions, known_from, value_here, entry_of, entries_in, entries_from}
+use Rattle.fm_rules.specs.ConstantParts.{decls_of, port_type_in, definitions_in, machine_in}
+use Rattle.fm_rules.specs.NameTypes.{scalar_of_name}
+use Rattle.fm_rules.specs.BrokenConstants.{is_no_constant, broken_decls, broken_message, broken_definition, broken_definitions, broken_machine, broken_statement, broken_from}
 use Rattle.fm_mean.specs.Names.{same_name}
 use Rattle.fm_mean.proofs.Unbroken.{left_empty, right_empty, not_when}
 use Rattle.fm_mean.proofs.FirstEntries.{or_then, first_entry, new_there}

@@ -137,12 +137,12 @@ module _ (p : Program) (x : Proc) where
     adds e opener body s count by (Err fault) = fails (line_of e) fault
     adds e opener body s count by (Ok n) = writes _ s (n ∷ []) 1 (omega arith) refl refl
 
-    turns : (e : Point) (opener body : ℕ) (s : Span) (l : Option (ℕ × ℤ)) → LawOf p x (action.loop_turns x.execution e f below opener body s l)
-    turns e opener body s None = goes e.entry.after
-    turns e opener body s (Some l) = adds e opener body s l.0 l.1 (sum (word_at f.values s) l.1)
+    trips_end : (e : Point) (opener body : ℕ) (s : Span) (l : Option (ℕ × ℤ)) → LawOf p x (action.loop_trips x.execution e f below opener body s l)
+    trips_end e opener body s None = goes e.entry.after
+    trips_end e opener body s (Some l) = adds e opener body s l.0 l.1 (sum (word_at f.values s) l.1)
 
     ends_loop : (u : ProgramUnit) (e : Point) (opener body : ℕ) (l : Loop) → LawOf p x (action.ends_loop x.execution u e f below opener body l)
-    ends_loop u e opener body (Counted name) = turns e opener body (scalar_place (variable_of u name)) (finite.get f.loops opener)
+    ends_loop u e opener body (Counted name) = trips_end e opener body (scalar_place (variable_of u name)) (finite.get f.loops opener)
     ends_loop u e opener body While = goes opener
     ends_loop u e opener body NoLoop = tt
 

@@ -2,11 +2,11 @@
 use Rattle.std.proofs.Common.{◌≡◌, ℕ, ◌≤◌, Option, Some, None, List, [], ◌++◌, refl, sym, ap, ◌∙◌, subst}
 use Rattle.std.specs.FinMap.{get, empty, get-empty}
 use Rattle.fm_base.specs.PathOrder.{path_cmp}
-use Rattle.fm_maps.proofs.Keys.{decide}
-use Rattle.fm_maps.proofs.Inserts.{insert_here, insert_there}
+use Rattle.fm_finmap.proofs.Keys.{decide}
+use Rattle.fm_finmap.proofs.Inserts.{insert_here, insert_there}
 use Rattle.fm_sched.specs.Schedule.{IsEnding, Stays, Diamond, Throughout, Settles}
 use Rattle.fm_net.specs.Machine.{Place}
-use Rattle.fm_net.specs.Owned.{IsOwned, GoneIsEmpty}
+use Rattle.fm_net.specs.Owned.{IsOwned, GoneIsEmpty, HasOneWriter}
 use Rattle.fm_net.proofs.Costs.{step_costs}
 use Rattle.fm_net.specs.Machine.{State}
 use Rattle.fm_base.specs.Channels.{Chan}
@@ -79,6 +79,9 @@ commutes_along p det = net.diamond_throughout (language p) (lawful p) (IsWithin 
 
 pub settles : (p : Program) → IsDeterministic p → (cs : List Place) → IsEnding (step p) (first p) cs → Settles (step p) (first p) cs
 settles p det cs ends = net.one_outcome (language p) (lawful p) (IsWithin p) (stays_within p det) (first p) (first_owned p, (first_within p, no_channel)) cs ends
+
+pub one_writer_along : (p : Program) → IsDeterministic p → Throughout (step p) (λ s. HasOneWriter s.chans) (first p)
+one_writer_along p det cs legal = (net.sole_throughout (language p) (lawful p) (IsWithin p) (stays_within p det) (first p) (first_owned p, (first_within p, no_channel)) cs legal).1.1
 
 pub empty_along : (p : Program) → Throughout (step p) (λ s. GoneIsEmpty s.chans) (first p)
 empty_along p = net.empty_throughout (language p) (lawful p) (first p) (first_owned p) (λ c ch is. absurd (cc (sym (get-empty {X = Chan} channel_cmp c) ∙ is)))

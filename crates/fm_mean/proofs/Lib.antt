@@ -6,7 +6,6 @@ pub mod Fitting
 pub mod Sorts
 pub mod Agreeing
 pub mod TypedLanguage
-pub mod StandingLaws
 pub mod Sound
 pub mod Arguments
 pub mod Seated
@@ -28,6 +27,7 @@ pub mod JudgedPlaces
 pub mod JudgedItems
 pub mod JudgedStatements
 pub mod JudgedCalls
+pub mod FunctionFormals
 pub mod JudgedReferences
 pub mod SoundTrees
 pub mod JudgedPrograms

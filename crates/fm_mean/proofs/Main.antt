@@ -8,7 +8,7 @@ use Rattle.fm_tree.specs.declared.program_unit.Unit as tree
 use Rattle.fm_symbols.specs.Headings.{heading_kind}
 use Rattle.fm_symbols.specs.Context.{scopes_of}
 use Rattle.fm_symbols.specs.declared.names.UnitNames.{UnitNames}
-use Rattle.fm_det.specs.Race.{is_program, is_main}
+use Rattle.fm_rules.specs.Race.{is_program, is_main}
 use Rattle.fm_rules.specs.Program as rules
 use Rattle.fm_rules.specs.declared.program.Program.{Program}
 use Rattle.fm_mean.specs.Names.{context, main_number}

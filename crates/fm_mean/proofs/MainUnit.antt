@@ -25,19 +25,19 @@ use Rattle.fm_tree.specs.Labels.{first_executable}
 use Rattle.fm_tree.specs.Blocks.{behind, head_of, innermost}
 use Rattle.fm_tree.specs.Layout.{ends_behind, fitted, is_parallel, label_left, laid_behind, laid_out, marks_of, own_forms, with_statement}
 use Rattle.fm_tree.specs.Units.{blank_mark, blank_statement, cut_of, form_at, put_first, unit_of}
-use Rattle.fm_structure.specs.Broken.{broken_at, broken_from, broken_in_unit, place_at}
-use Rattle.fm_structure.specs.Forms.{misplaced, opener_of}
-use Rattle.fm_structure.specs.Lookups.{is_before}
-use Rattle.fm_structure.specs.Rules.{is_badly_ended, is_foreign, is_misplaced, is_unmatched, jumps_into_block, lacks_target, repeats_label}
+use Rattle.fm_rules.specs.BrokenUnit.{broken_at, broken_from, broken_in_unit, place_at}
+use Rattle.fm_rules.specs.StructureForms.{misplaced, opener_of}
+use Rattle.fm_rules.specs.StructureLookups.{is_before}
+use Rattle.fm_rules.specs.StructureRules.{is_badly_ended, is_foreign, is_misplaced, is_unmatched, jumps_into_block, lacks_target, repeats_label}
 use Rattle.fm_symbols.specs.Headings.{heading_kind}
 use Rattle.fm_symbols.specs.Context.{scopes_of}
 use Rattle.fm_symbols.specs.declared.names.UnitNames.{UnitNames}
-use Rattle.fm_unit.specs.Units.{units_of}
-use Rattle.fm_unit.specs.Titles.{is_function_named, titles_of}
-use Rattle.fm_unit.specs.Broken as source
-use Rattle.fm_facts.specs.Titles as facts
-use Rattle.fm_names.specs.Names.{unit_names}
-use Rattle.fm_det.specs.Race.{is_program, is_main}
+use Rattle.fm_rules.specs.Units.{units_of}
+use Rattle.fm_rules.specs.UnitTitles.{is_function_named, titles_of}
+use Rattle.fm_rules.specs.BrokenStructure as source
+use Rattle.fm_rules.specs.FunctionTitles as facts
+use Rattle.fm_rules.specs.Names.{unit_names}
+use Rattle.fm_rules.specs.Race.{is_program, is_main}
 use Rattle.fm_net.specs.Typed.{AllIn}
 use Rattle.fm_rules.specs.declared.program.Program.{Program}
 use Rattle.fm_mean.specs.Names.{ProgramUnit, unit_with, unit_at, kind_of, context, main_number}

@@ -11,15 +11,15 @@ use Rattle.fm_symbols.specs.ByName.{ByName}
 use Rattle.fm_symbols.specs.Context.{constant_entry, constant_symbol, variable_entries, symbol_of}
 use Rattle.fm_symbols.specs.declared.names.Constant.{Constant}
 use Rattle.fm_symbols.specs.declared.symbol.Symbol.{Symbol}
-use Rattle.fm_constants.specs.declared.known.Known.{Known}
-use Rattle.fm_constants.specs.Constants.{constants_of, with_definition, with_definitions, known_from, value_here, entry_of, entries_in, entries_from}
-use Rattle.fm_constants.specs.Values as constants
-use Rattle.fm_constants.specs.Parts.{definitions_in}
-use Rattle.fm_occurrences.specs.declared.seen.Occurrence.{Occurrence}
-use Rattle.fm_occurrences.specs.Occurrences.{is_of, with_occurrence, first_occurrences}
-use Rattle.fm_names.specs.declared.sheet.Sheet.{Sheet}
-use Rattle.fm_names.specs.Sheets.{numbered}
-use Rattle.fm_names.specs.Variables.{those_that, variable, words_of, laid_out}
+use Rattle.fm_rules.specs.declared.constants.Known.{Known}
+use Rattle.fm_rules.specs.Constants.{constants_of, with_definition, with_definitions, known_from, value_here, entry_of, entries_in, entries_from}
+use Rattle.fm_rules.specs.ConstantValues as constants
+use Rattle.fm_rules.specs.ConstantParts.{definitions_in}
+use Rattle.fm_rules.specs.declared.sheet.Occurrence.{Occurrence}
+use Rattle.fm_rules.specs.Occurrences.{is_of, with_occurrence, first_occurrences}
+use Rattle.fm_rules.specs.declared.sheet.Sheet.{Sheet}
+use Rattle.fm_rules.specs.Sheets.{numbered}
+use Rattle.fm_rules.specs.Variables.{those_that, variable, words_of, laid_out}
 use Rattle.fm_mean.specs.Names.{same_name, constant_in, place_in, formal_from}
 use Rattle.fm_mean.proofs.FirstEntries.{or_then, first_entry, new_there}
 use Rattle.fm_mean.proofs.JudgedValues.{symbol_placed}

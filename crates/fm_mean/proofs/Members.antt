@@ -2,7 +2,7 @@
 use Rattle.std.proofs.Common.{◌≡◌, ◌⊎◌, inl, inr, ℕ, zero, suc, Bool, true, false, ◌||◌, Option, Some, None, option_map, List, [], ◌∷◌, ◌++◌, map, slice_get, refl, sym, ap, ◌∙◌, subst}
 use Rattle.std.specs.List.{flat_map, list_any}
 use Rattle.std.proofs.lemmas.Option.{slice_get-map}
-use Rattle.fm_maps.proofs.Keys.{nat_list_order, tie, tie_self}
+use Rattle.fm_finmap.proofs.Keys.{nat_list_order, tie, tie_self}
 use Rattle.fm_mean.specs.Names.{same_name}
 
 abbrev pub In : {X : Type 0} → X → List X → Type 0

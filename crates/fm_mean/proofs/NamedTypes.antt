@@ -17,8 +17,8 @@ use Rattle.fm_symbols.specs.declared.symbol.Symbol.TheVariants as symbol
 use Rattle.std.specs.Prelude.{if◌then◌else◌}
 use Rattle.fm_symbols.specs.declared.context.Context.{Context}
 use Rattle.fm_symbols.specs.Context.{or_else, is_function_scope, function_at, function_named}
-use Rattle.fm_typing.specs.declared.typing.ExprType.TheVariants.{Value}
-use Rattle.fm_typing.specs.Typing.{symbol_type}
+use Rattle.fm_rules.specs.declared.typing.ExprType.TheVariants.{Value}
+use Rattle.fm_rules.specs.Typing.{symbol_type}
 use Rattle.fm_mean.specs.Names.{same_name, constant_in, place_in, variable_at, variable_of}
 use Rattle.fm_mean.specs.Evaluate.{Scope}
 use Rattle.fm_mean.specs.Fits.{sort_of_variable}

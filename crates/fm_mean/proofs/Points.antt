@@ -4,7 +4,7 @@ use Rattle.std.specs.Option.{option_map}
 use Rattle.std.proofs.lemmas.Option.{slice_get-map}
 use Rattle.fm_tree.specs.declared.entry_mark.EntryMark.{EntryMark}
 use Rattle.fm_tree.specs.declared.program_unit.Entry.{Entry}
-use Rattle.fm_links.specs.Links.{mark_of, marks_of, links_at, links_from, links_of}
+use Rattle.fm_rules.specs.Links.{mark_of, marks_of, links_at, links_from, links_of}
 use Rattle.fm_mean.specs.Names.{ProgramUnit, point_with, point_at}
 
 links_among : (body : List Entry) (marks : List EntryMark) (k : ℕ) (ms : List EntryMark) (i : ℕ) (m : EntryMark) → slice_get ms i ≡ Some m → slice_get (links_from body marks k ms) i ≡ Some (links_at body marks (k + i))

@@ -22,17 +22,17 @@ use Rattle.fm_symbols.specs.declared.names.UnitNames.{UnitNames}
 use Rattle.fm_symbols.specs.declared.context.Scope as symbols
 use Rattle.fm_symbols.specs.declared.symbol.Symbol.{Symbol}
 use Rattle.fm_symbols.specs.declared.symbol.Symbol.TheVariants as symbol
-use Rattle.fm_constants.specs.Constants.{constants_of}
-use Rattle.fm_constants.specs.Types.{types_of}
-use Rattle.fm_facts.specs.Titles.{is_other_function, is_function_title, is_own_name, title_by, title_of, titles_of}
-use Rattle.fm_occurrences.specs.declared.seen.Occurrence.{Occurrence}
-use Rattle.fm_occurrences.specs.Arrays.{is_array}
-use Rattle.fm_occurrences.specs.Occurrences.{stands_in, occurrence, in_placed, in_entry, occurrences}
-use Rattle.fm_names.specs.Sheets.{arrays_of, sheet_of}
-use Rattle.fm_names.specs.Variables.{is_variable, variables_among}
-use Rattle.fm_names.specs.Names.{unit_names, names_of}
-use Rattle.fm_names.specs.Broken.{broken_in}
-use Rattle.fm_unit.specs.Titles as source
+use Rattle.fm_rules.specs.Constants.{constants_of}
+use Rattle.fm_rules.specs.NameTypes.{types_of}
+use Rattle.fm_rules.specs.FunctionTitles.{is_other_function, is_function_title, is_own_name, title_by, title_of, titles_of}
+use Rattle.fm_rules.specs.declared.sheet.Occurrence.{Occurrence}
+use Rattle.fm_rules.specs.Arrays.{is_array}
+use Rattle.fm_rules.specs.Occurrences.{stands_in, occurrence, in_placed, in_entry, occurrences}
+use Rattle.fm_rules.specs.Sheets.{arrays_of, sheet_of}
+use Rattle.fm_rules.specs.Variables.{is_variable, variables_among}
+use Rattle.fm_rules.specs.Names.{unit_names, names_of}
+use Rattle.fm_rules.specs.BrokenNames.{broken_in}
+use Rattle.fm_rules.specs.UnitTitles as source
 use Rattle.fm_net.specs.Typed.{AllIn}
 use Rattle.fm_rules.specs.declared.program.Program.{Program}
 use Rattle.fm_mean.specs.Names.{ProgramUnit, unit_at, context, constant_in, same_name, place_in, formal_from, formal_place}

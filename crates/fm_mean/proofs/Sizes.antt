@@ -18,22 +18,22 @@ use Rattle.fm_tree.specs.declared.statement.Decl.{Decl}
 use Rattle.fm_symbols.specs.ByName.{ByName}
 use Rattle.fm_symbols.specs.declared.names.Variable.{Variable}
 use Rattle.fm_symbols.specs.declared.names.UnitNames.{UnitNames}
-use Rattle.fm_constants.specs.declared.known.Known.{Known}
-use Rattle.fm_constants.specs.declared.types.Types.{Types}
-use Rattle.fm_constants.specs.Constants.{constants_of}
-use Rattle.fm_constants.specs.Types.{types_of}
-use Rattle.fm_constants.specs.Parts.{decls_of, port_type_in, definitions_in, machine_in}
-use Rattle.fm_constants.specs.Bounds.{dimension_of, all_known, count, held, shape_of}
-use Rattle.fm_constants.specs.Broken.{broken_bounds, broken_decl, broken_decls, broken_message, broken_definitions, broken_machine, broken_statement, broken_from, is_bad}
-use Rattle.fm_facts.specs.Facts.{declared_twice_in}
-use Rattle.fm_facts.specs.Titles.{titles_of}
-use Rattle.fm_occurrences.specs.declared.arrays.ArrayShape.{ArrayShape}
-use Rattle.fm_occurrences.specs.declared.seen.Occurrence.{Occurrence}
-use Rattle.fm_names.specs.declared.sheet.Sheet.{Sheet}
-use Rattle.fm_names.specs.Sheets.{shape_entries, decl_shapes, shapes_from, sheet_of}
-use Rattle.fm_names.specs.Variables.{bounds_by, words_by, words_of, laid_out, variables_among}
-use Rattle.fm_names.specs.Names.{unit_names}
-use Rattle.fm_names.specs.Broken.{broken_in, untyped_in, is_long}
+use Rattle.fm_rules.specs.declared.constants.Known.{Known}
+use Rattle.fm_rules.specs.declared.constants.Types.{Types}
+use Rattle.fm_rules.specs.Constants.{constants_of}
+use Rattle.fm_rules.specs.NameTypes.{types_of}
+use Rattle.fm_rules.specs.ConstantParts.{decls_of, port_type_in, definitions_in, machine_in}
+use Rattle.fm_rules.specs.Bounds.{dimension_of, all_known, count, held, shape_of}
+use Rattle.fm_rules.specs.BrokenConstants.{broken_bounds, broken_decl, broken_decls, broken_message, broken_definitions, broken_machine, broken_statement, broken_from, is_bad}
+use Rattle.fm_rules.specs.Declarations.{declared_twice_in}
+use Rattle.fm_rules.specs.FunctionTitles.{titles_of}
+use Rattle.fm_rules.specs.declared.sheet.ArrayShape.{ArrayShape}
+use Rattle.fm_rules.specs.declared.sheet.Occurrence.{Occurrence}
+use Rattle.fm_rules.specs.declared.sheet.Sheet.{Sheet}
+use Rattle.fm_rules.specs.Sheets.{shape_entries, decl_shapes, shapes_from, sheet_of}
+use Rattle.fm_rules.specs.Variables.{bounds_by, words_by, words_of, laid_out, variables_among}
+use Rattle.fm_rules.specs.Names.{unit_names}
+use Rattle.fm_rules.specs.BrokenNames.{broken_in, untyped_in, is_long}
 use Rattle.fm_net.specs.Typed.{AllIn}
 use Rattle.fm_rules.specs.declared.program.Program.{Program}
 use Rattle.fm_mean.specs.Names.{ProgramUnit, same_name, unit_with, unit_at}
@@ -144,7 +144,7 @@ few_prop (v ∷ vs) = hlevel (ℕ_set, le_prop, few_prop vs)
 Laid_prop : (n : UnitNames) → IsProp (Laid n)
 Laid_prop n = hlevel (laid_prop 0 n.variables, few_prop n.variables)
 
-the_names : (titles : ByName Bool) (us : List tree.Unit) (k : ℕ) (n : UnitNames) → slice_get (map (unit_names titles) us) k ≡ Some n → (u : tree.Unit) × (slice_get us k ≡ Some u) × (unit_names titles u ≡ n)
+pub the_names : (titles : ByName Bool) (us : List tree.Unit) (k : ℕ) (n : UnitNames) → slice_get (map (unit_names titles) us) k ≡ Some n → (u : tree.Unit) × (slice_get us k ≡ Some u) × (unit_names titles u ≡ n)
 the_names titles us k n e = go (slice_get us k) refl (sym (slice_get-map (unit_names titles) us k) ∙ e)
   where
     the_one : (a b : UnitNames) → Some a ≡ Some b → a ≡ b

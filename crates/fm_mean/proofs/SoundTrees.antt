@@ -1,8 +1,9 @@
 -- Each name with a list in a statement that breaks no rule of types is judged without one.
-use Rattle.std.proofs.Common.{◌≡◌, ℕ, Bool, true, false, ◌&&◌, ◌||◌, not, Option, Some, None, List, [], ◌∷◌, ◌++◌, slice_get, refl, sym, subst}
-use Rattle.std.specs.Prelude.{if◌then◌else◌, nat_eq, nat_lt}
+use Rattle.std.proofs.Common.{◌≡◌, ℕ, Bool, true, false, ◌&&◌, not, Option, Some, None, List, [], ◌∷◌, ◌++◌, slice_get, refl, sym, subst}
+use Rattle.std.specs.Prelude.{if◌then◌else◌, nat_eq}
 use Rattle.std.specs.FinMap.{get}
 use Rattle.std.specs.List.{flat_map}
+use Rattle.fm_values.specs.Intrinsics.{takes}
 use Rattle.fm_tree.specs.Tree.{Tree, Trees, NoTrees, More, Number, Truth, Named, Ref, Paren, Signed, Not, Binary, trees_from}
 use Rattle.fm_tree.specs.References as applied
 use Rattle.fm_tree.specs.declared.statement.Var.{Var}
@@ -22,23 +23,23 @@ use Rattle.fm_symbols.specs.declared.context.Context.{Context}
 use Rattle.fm_symbols.specs.declared.context.Scope as symbols
 use Rattle.fm_symbols.specs.declared.symbol.Scalar.{Scalar}
 use Rattle.fm_symbols.specs.declared.symbol.Scalar.TheVariants as scalar
-use Rattle.fm_occurrences.specs.Occurrences as stands
-use Rattle.fm_typing.specs.declared.flags.Flags.{Flags}
-use Rattle.fm_typing.specs.declared.typing.ExprType.{ExprType}
-use Rattle.fm_typing.specs.declared.typing.ExprType.TheVariants.{Value, Array, Port, Ports, Function, Nothing}
-use Rattle.fm_typing.specs.declared.typing.Judgement.{Judgement}
-use Rattle.fm_typing.specs.declared.typing.OperatorKind.{OperatorKind}
-use Rattle.fm_typing.specs.declared.typing.OperatorKind.TheVariants as operator
-use Rattle.fm_typing.specs.declared.expressions.Referent.{Referent}
-use Rattle.fm_typing.specs.declared.expressions.Referent.TheVariants as referent
-use Rattle.fm_typing.specs.declared.expressions.Arguments.{Arguments}
-use Rattle.fm_typing.specs.Flags.{both, e40, e41, e42, e43, e46, e50}
-use Rattle.fm_typing.specs.Typing.{needed, needed_value, operand, operator_kind, plain, symbol_type}
-use Rattle.fm_typing.specs.Expressions.{array_or, arguments_judged, formals_in, in_parentheses, judged, no_arguments, operated, reference_judged, referent_of}
-use Rattle.fm_typing.specs.Variables.{element_of, is_bare, subscripted, target_judged, target_named}
-use Rattle.fm_types.specs.Statements.{call_flags, callee_of, changes_formal, expr_flags, extra_flags, in_any, integer_flags, item_flags, logical_flags, loop_flags, loop_variable_flags, optional_flags, port_flags, position_flags, printed, simple_flags, target_flags, typed_flags, value_for}
-use Rattle.fm_types.specs.declared.calls.CallKind.{CallKind}
-use Rattle.fm_types.specs.declared.calls.CallKind.TheVariants as call_kind
+use Rattle.fm_rules.specs.Occurrences as stands
+use Rattle.fm_rules.specs.declared.flags.Flags.{Flags}
+use Rattle.fm_rules.specs.declared.typing.ExprType.{ExprType}
+use Rattle.fm_rules.specs.declared.typing.ExprType.TheVariants.{Value, Array, Port, Ports, Function, Nothing}
+use Rattle.fm_rules.specs.declared.typing.Judgement.{Judgement}
+use Rattle.fm_rules.specs.declared.typing.OperatorKind.{OperatorKind}
+use Rattle.fm_rules.specs.declared.typing.OperatorKind.TheVariants as operator
+use Rattle.fm_rules.specs.declared.typing.Referent.{Referent}
+use Rattle.fm_rules.specs.declared.typing.Referent.TheVariants as referent
+use Rattle.fm_rules.specs.declared.typing.Arguments.{Arguments}
+use Rattle.fm_rules.specs.Flags.{both, e40, e41, e42, e43, e46, e50}
+use Rattle.fm_rules.specs.Typing.{needed, needed_value, operand, operator_kind, plain, symbol_type}
+use Rattle.fm_rules.specs.Expressions.{array_or, arguments_judged, formals_in, in_parentheses, judged, no_arguments, operated, reference_judged, referent_of}
+use Rattle.fm_rules.specs.VariableTypes.{element_of, is_bare, subscripted, target_judged, target_named}
+use Rattle.fm_rules.specs.TypeStatements.{call_flags, callee_of, changes_formal, expr_flags, extra_flags, in_any, integer_flags, item_flags, logical_flags, loop_flags, loop_variable_flags, optional_flags, port_flags, position_flags, printed, simple_flags, target_flags, typed_flags, value_for}
+use Rattle.fm_rules.specs.declared.calls.CallKind.{CallKind}
+use Rattle.fm_rules.specs.declared.calls.CallKind.TheVariants as call_kind
 use Rattle.fm_net.specs.Typed.{AllIn}
 use Rattle.fm_rules.specs.declared.program.Program.{Program}
 use Rattle.fm_mean.specs.Names.{ProgramUnit, context}
@@ -54,14 +55,14 @@ use Rattle.fm_mean.proofs.Sizes.{all_append}
 reference_flags : (c : Context) (r : Referent) (a : Arguments) → IsUnflagged (reference_judged c r a).flags → IsUnflagged a.flags
 reference_flags c (referent.Element q n) a h = left_unflagged a.flags (e41 (not (a.fit && nat_eq a.count n))) h
 reference_flags c (referent.PortElement k n) a h = left_unflagged a.flags (e41 (not (a.fit && nat_eq a.count n))) h
-reference_flags c (referent.Intrinsic n more) a h = left_unflagged a.flags (e42 (not (a.fit && (nat_eq a.count n || more && nat_lt n a.count)))) h
+reference_flags c (referent.Intrinsic f) a h = left_unflagged a.flags (e42 (not (a.fit && takes f a.count))) h
 reference_flags c (referent.Unit k) a h = left_unflagged a.flags (e42 (not (a.fit && nat_eq a.count (formals_in (slice_get c.scopes k))))) h
 reference_flags c referent.Unknown a h = left_unflagged a.flags (e43 true) h
 
 subscripted_flags : (c : Context) (r : Referent) (a : Arguments) → IsUnflagged (subscripted c r a).flags → IsUnflagged a.flags
 subscripted_flags c (referent.Element q n) a h = reference_flags c (referent.Element q n) a h
 subscripted_flags c (referent.PortElement k n) a h = reference_flags c (referent.PortElement k n) a h
-subscripted_flags c (referent.Intrinsic n more) a h = left_unflagged a.flags (e41 true) h
+subscripted_flags c (referent.Intrinsic f) a h = left_unflagged a.flags (e41 true) h
 subscripted_flags c (referent.Unit k) a h = left_unflagged a.flags (e41 true) h
 subscripted_flags c referent.Unknown a h = left_unflagged a.flags (e41 true) h
 

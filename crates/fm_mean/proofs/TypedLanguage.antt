@@ -19,7 +19,7 @@ use Rattle.fm_tree.specs.declared.statement.Simple.{Simple}
 use Rattle.fm_tree.specs.declared.statement.Simple.TheVariants as simple
 use Rattle.fm_tree.specs.declared.statement.Stmt.{Stmt}
 use Rattle.fm_tree.specs.declared.statement.Stmt.TheVariants as stmt
-use Rattle.fm_links.specs.Links.{links_of}
+use Rattle.fm_rules.specs.Links.{links_of}
 use Rattle.fm_net.specs.Owned.{count}
 use Rattle.fm_net.specs.Lawful.{ports_from}
 use Rattle.fm_net.specs.Typed.{AllIn, IsTypedAsk, IsTypedLanguage}
@@ -251,9 +251,9 @@ module _ (p : Program) (x : Proc) where
     adds e opener body s count by (Err fault) int = fails (line_of e) fault
     adds e opener body s count by (Ok n) int = writes _ s (n ∷ []) (integer_bits s (n ∷ []) int) refl refl refl refl
 
-    turns : (e : Point) (opener body : ℕ) (s : Span) (l : Option (ℕ × ℤ)) → sort_at vars s.variable ≡ Some Integer → TypedOf p x (action.loop_turns x.execution e f below opener body s l)
-    turns e opener body s None int = goes e.entry.after
-    turns e opener body s (Some l) int = adds e opener body s l.0 l.1 (sum (word_at f.values s) l.1) int
+    trips_end : (e : Point) (opener body : ℕ) (s : Span) (l : Option (ℕ × ℤ)) → sort_at vars s.variable ≡ Some Integer → TypedOf p x (action.loop_trips x.execution e f below opener body s l)
+    trips_end e opener body s None int = goes e.entry.after
+    trips_end e opener body s (Some l) int = adds e opener body s l.0 l.1 (sum (word_at f.values s) l.1) int
 
     -- the variable of a loop
     abbrev LoopAt : ProgramUnit → Loop → Type 0
@@ -262,7 +262,7 @@ module _ (p : Program) (x : Proc) where
     LoopAt u NoLoop = Unit {0}
 
     ends_loop : (u : ProgramUnit) (e : Point) (opener body : ℕ) (l : Loop) → LoopAt u l → TypedOf p x (action.ends_loop x.execution u e f below opener body l)
-    ends_loop u e opener body (Counted name) int = turns e opener body (scalar_place (variable_of u name)) (finite.get f.loops opener) int
+    ends_loop u e opener body (Counted name) int = trips_end e opener body (scalar_place (variable_of u name)) (finite.get f.loops opener) int
     ends_loop u e opener body While int = goes opener
     ends_loop u e opener body NoLoop int = tt
 

@@ -11,10 +11,10 @@ use Rattle.fm_tree.specs.declared.program_unit.Units.{Units}
 use Rattle.fm_symbols.specs.declared.names.Names.{Names}
 use Rattle.fm_symbols.specs.declared.names.UnitNames.{UnitNames}
 use Rattle.fm_symbols.specs.Context.{context_of}
-use Rattle.fm_unit.specs.Units.{units_of}
-use Rattle.fm_unit.specs.Broken.{broken_structure}
-use Rattle.fm_names.specs.Names.{names_of}
-use Rattle.fm_names.specs.Broken.{broken_names}
+use Rattle.fm_rules.specs.Units.{units_of}
+use Rattle.fm_rules.specs.BrokenStructure.{broken_structure}
+use Rattle.fm_rules.specs.Names.{names_of}
+use Rattle.fm_rules.specs.BrokenNames.{broken_names}
 use Rattle.fm_rules.specs.Broken.{Then, IsBrokenUnit, IsBrokenUse}
 use Rattle.fm_rules.specs.Program.{IsLawful}
 use Rattle.fm_rules.specs.declared.program.Program.{Program}

@@ -2,9 +2,9 @@
 use Rattle.std.proofs.Common.{◌≡◌, ℕ, false, ◌++◌, []}
 use Rattle.fm_base.specs.Verdict.{when, place}
 use Rattle.fm_base.specs.declared.rule.Rule.TheVariants.{E40, E41, E42, E43, E44, E46}
-use Rattle.fm_typing.specs.declared.flags.Flags.{Flags}
-use Rattle.fm_typing.specs.Flags.{both}
-use Rattle.fm_types.specs.Types.{flagged}
+use Rattle.fm_rules.specs.declared.flags.Flags.{Flags}
+use Rattle.fm_rules.specs.Flags.{both}
+use Rattle.fm_rules.specs.BrokenTypes.{flagged}
 use Rattle.fm_mean.proofs.Unbroken.{left_empty, right_empty, not_when, or_left, or_right}
 
 -- no rule of types is broken, and no port stands as a value

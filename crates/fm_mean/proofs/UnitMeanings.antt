@@ -18,22 +18,22 @@ use Rattle.fm_symbols.specs.Context.{constant_entry, variable_entries, symbols_o
 use Rattle.fm_symbols.specs.Headings.{heading_formals, heading_kind, heading_name, is_function}
 use Rattle.fm_symbols.specs.declared.names.Constant.{Constant}
 use Rattle.fm_symbols.specs.declared.symbol.Symbol.{Symbol}
-use Rattle.fm_constants.specs.declared.known.Known.{Known}
-use Rattle.fm_constants.specs.Constants.{constants_of}
-use Rattle.fm_constants.specs.Parts.{decls_of}
-use Rattle.fm_constants.specs.Types.{types_of}
-use Rattle.fm_constants.specs.Broken as constants
-use Rattle.fm_facts.specs.declared.aspect.Aspect.TheVariants as aspect
-use Rattle.fm_facts.specs.Facts.{fact, typed_facts, facts_by, facts_in, declared_twice_in}
-use Rattle.fm_facts.specs.Titles.{is_other_function, is_function_title, is_own_name}
-use Rattle.fm_occurrences.specs.declared.seen.Occurrence.{Occurrence}
-use Rattle.fm_occurrences.specs.Arrays.{is_array}
-use Rattle.fm_occurrences.specs.Occurrences.{one_name, stands_in, occurrence, in_placed, in_entry, occurrences}
-use Rattle.fm_names.specs.declared.sheet.Sheet.{Sheet}
-use Rattle.fm_names.specs.Sheets.{kind_in, kind_entries, kinds_at, kinds_from, own_kind, numbered, arrays_of, sheet_of}
-use Rattle.fm_names.specs.Variables.{is_variable, names_variable, variables_among, variable}
-use Rattle.fm_names.specs.Names.{unit_names}
-use Rattle.fm_names.specs.Broken.{broken_in, untyped_in, is_long}
+use Rattle.fm_rules.specs.declared.constants.Known.{Known}
+use Rattle.fm_rules.specs.Constants.{constants_of}
+use Rattle.fm_rules.specs.ConstantParts.{decls_of}
+use Rattle.fm_rules.specs.NameTypes.{types_of}
+use Rattle.fm_rules.specs.BrokenConstants as constants
+use Rattle.fm_rules.specs.declared.sheet.Aspect.TheVariants as aspect
+use Rattle.fm_rules.specs.Declarations.{fact, typed_facts, facts_by, facts_in, declared_twice_in}
+use Rattle.fm_rules.specs.FunctionTitles.{is_other_function, is_function_title, is_own_name}
+use Rattle.fm_rules.specs.declared.sheet.Occurrence.{Occurrence}
+use Rattle.fm_rules.specs.Arrays.{is_array}
+use Rattle.fm_rules.specs.Occurrences.{one_name, stands_in, occurrence, in_placed, in_entry, occurrences}
+use Rattle.fm_rules.specs.declared.sheet.Sheet.{Sheet}
+use Rattle.fm_rules.specs.Sheets.{kind_in, kind_entries, kinds_at, kinds_from, own_kind, numbered, arrays_of, sheet_of}
+use Rattle.fm_rules.specs.Variables.{is_variable, names_variable, variables_among, variable}
+use Rattle.fm_rules.specs.Names.{unit_names}
+use Rattle.fm_rules.specs.BrokenNames.{broken_in, untyped_in, is_long}
 use Rattle.fm_mean.specs.Names.{same_name, constant_in, place_in, formal_from}
 use Rattle.fm_mean.proofs.Unbroken.{left_empty, right_empty}
 use Rattle.fm_mean.proofs.FirstEntries.{first_entry, first_there}

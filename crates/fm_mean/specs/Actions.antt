@@ -164,9 +164,9 @@ adds w e f below opener body place count by (Err fault) = fails (line_of e) faul
 adds w e f below opener body place count by (Ok n) =
     Own (framed w (at_entry (record f { values = written f.values place (n ∷ []); loops = finite.insert f.loops opener (pred count, by) }) (cond (nat_lt 0 (pred count)) body e.entry.after) ∷ below)) [] [] 1
 
-abbrev pub loop_turns : Execution → Point → Frame → List Frame → (opener body : ℕ) → Span → Option (ℕ × ℤ) → Action
-loop_turns w e f below opener body place None = goes_to w below f e.entry.after
-loop_turns w e f below opener body place (Some l) = adds w e f below opener body place l.0 l.1 (sum (word_at f.values place) l.1)
+abbrev pub loop_trips : Execution → Point → Frame → List Frame → (opener body : ℕ) → Span → Option (ℕ × ℤ) → Action
+loop_trips w e f below opener body place None = goes_to w below f e.entry.after
+loop_trips w e f below opener body place (Some l) = adds w e f below opener body place l.0 l.1 (sum (word_at f.values place) l.1)
 
 -- CALL, and the return from a unit.
 
@@ -360,11 +360,11 @@ loop_of (stmt.DoWhile t) = While
 loop_of other = NoLoop
 
 abbrev pub ends_loop : Execution → ProgramUnit → Point → Frame → List Frame → (opener body : ℕ) → Loop → Action
-ends_loop w u e f below opener body (Counted name) = loop_turns w e f below opener body (scalar_place (variable_of u name)) (finite.get f.loops opener)
+ends_loop w u e f below opener body (Counted name) = loop_trips w e f below opener body (scalar_place (variable_of u name)) (finite.get f.loops opener)
 ends_loop w u e f below opener body While = goes_to w below f opener
 ends_loop w u e f below opener body NoLoop = Rest
 
--- a loop end turns its loop, or goes back to the test of a DOWHILE
+-- a loop end ends a trip of its loop, or goes back to the test of a DOWHILE
 abbrev pub end_by : Execution → ProgramUnit → Point → Frame → List Frame → (opener : ℕ) → Option Entry → Action
 end_by w u e f below opener None = Rest
 end_by w u e f below opener (Some o) = ends_loop w u e f below opener o.after (loop_of o.stmt)
@@ -470,13 +470,3 @@ local_in x (Meets e) = None
 
 abbrev pub local_step : Program → Proc → Option (Proc × ℕ)
 local_step p x = local_in x (action_of p x)
-
--- The event that a process meets next, if it meets one.
-
-abbrev pub event_in : Action → Option Event
-event_in Rest = None
-event_in (Own w lines drops cost) = None
-event_in (Meets e) = Some e
-
-abbrev pub event_of : Program → Proc → Option Event
-event_of p x = event_in (action_of p x)

@@ -2,8 +2,8 @@
 -- Source: the Fortran M report (determinism without mergers and probes).
 use Rattle.std.specs.Prelude.{◌≡◌, ℕ, true, Some, List}
 use Rattle.fm_graph.specs.Graph.{Reaches}
-use Rattle.fm_det.specs.Calls.{call_graph}
-use Rattle.fm_det.specs.Race as race
+use Rattle.fm_rules.specs.Calls.{call_graph}
+use Rattle.fm_rules.specs.Race as race
 use Rattle.fm_rules.specs.declared.program.Program.{Program}
 use Rattle.fm_mean.specs.Names.{context, main_number}
 

@@ -18,5 +18,4 @@ pub mod Holders
 pub mod Outcome
 pub mod Opening
 pub mod TypedTrees
-pub mod Standing
 pub mod CallsOpen

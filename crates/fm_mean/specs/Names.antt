@@ -11,8 +11,8 @@ use Rattle.fm_tree.specs.declared.port_type.Kind.{Kind}
 use Rattle.fm_tree.specs.declared.port_type.Kind.TheVariants as kind
 use Rattle.fm_tree.specs.declared.program_unit.Entry.{Entry}
 use Rattle.fm_tree.specs.declared.program_unit.Unit as tree
-use Rattle.fm_links.specs.declared.entry_links.EntryLinks.{EntryLinks}
-use Rattle.fm_links.specs.Links.{links_of}
+use Rattle.fm_rules.specs.declared.entry_links.EntryLinks.{EntryLinks}
+use Rattle.fm_rules.specs.Links.{links_of}
 use Rattle.fm_symbols.specs.Headings.{heading_kind, heading_name}
 use Rattle.fm_symbols.specs.Context.{symbols_of, unit_numbers, context_of}
 use Rattle.fm_symbols.specs.declared.context.Context.{Context}
@@ -21,7 +21,7 @@ use Rattle.fm_symbols.specs.declared.names.Variable.{Variable}
 use Rattle.fm_symbols.specs.declared.names.UnitNames.{UnitNames}
 use Rattle.fm_symbols.specs.declared.symbol.Symbol.{Symbol}
 use Rattle.fm_symbols.specs.declared.symbol.Symbol.TheVariants as symbol
-use Rattle.fm_det.specs.Race.{main_of}
+use Rattle.fm_rules.specs.Race.{main_of}
 use Rattle.fm_rules.specs.declared.program.Program.{Program}
 
 -- Units.

@@ -7,10 +7,10 @@ mod outport;
 mod place;
 
 ghost use Rattle.std.specs.Prelude.{◌≡◌, ◌≤◌, ℕ, Option, Some, List, [], Ok, slice_get};
-ghost use Rattle.fm_sched.specs.Schedule.{Diamond, IsEnding, Settles, Stays, Throughout};
+ghost use Rattle.fm_sched.specs.Schedule.{Can, Diamond, IsEnding, Settles, Stays, Throughout, next};
 ghost use Rattle.fm_net.specs.Lawful.{IsLawfulLanguage};
 ghost use Rattle.fm_net.specs.Machine.{Place, State};
-ghost use Rattle.fm_net.specs.Owned.{GoneIsEmpty, IsOwned};
+ghost use Rattle.fm_net.specs.Owned.{GoneIsEmpty, HasOneWriter, IsOwned};
 ghost use Rattle.fm_net.specs.Typed.{AllIn, IsTyped};
 ghost use Rattle.fm_values.specs.Places.{size};
 ghost use Rattle.fm_rules.specs.declared.program.Program.{Program};
@@ -41,12 +41,15 @@ pub use place::{Actual, Back, Span};
 
 /// Along every schedule of a program each open port stands in one place: in a variable of one process, with a start that
 /// waits, or in one message; no message waits where the inport is gone; and each port stands at a place of its channel's
-/// type, and each message fits its channel.
+/// type, and each message fits its channel. From any state where all this holds, each step leads to one where places and
+/// messages are of their types.
 pub fn ports_are_owned()
     ensures lawful { (p : Program) → IsLawfulLanguage (language p) }
     ensures throughout { (p : Program) → Throughout (step p) (IsOwned (language p)) (first p) }
     ensures gone { (p : Program) → Throughout (step p) (λ s. GoneIsEmpty s.chans) (first p) }
     ensures typed { (p : Program) → Throughout (step p) (IsTyped (language p) (IsFine p) Fits) (first p) }
+    ensures typed_step { (p : Program) (s : State Proc) (q : Place) → IsOwned (language p) s → IsTyped (language p) (IsFine p) Fits s
+        → Can (step p) s q → IsTyped (language p) (IsFine p) Fits (next (step p) s q) }
 {}
 
 /// A step of one process leaves every other its step, also in programs with mergers and probes.
@@ -56,6 +59,7 @@ pub fn steps_stay()
 
 /// In a deterministic program the steps of two processes commute, and all schedules lead to one outcome.
 pub fn schedules_settle()
+    ensures one_writer { (p : Program) → IsDeterministic p → Throughout (step p) (λ s. HasOneWriter s.chans) (first p) }
     ensures commute { (p : Program) → IsDeterministic p → Throughout (step p) (Diamond (step p)) (first p) }
     ensures settle { (p : Program) → IsDeterministic p → (cs : List Place) → IsEnding (step p) (first p) cs → Settles (step p) (first p) cs }
 {}

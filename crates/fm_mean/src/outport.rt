@@ -4,7 +4,7 @@ ghost use Rattle.std.specs.Prelude.{◌≡◌};
 
 use crate::outcome::Holder;
 use fm_base::{ChanName, Path};
-use fm_maps::Key;
+use fm_finmap::Key;
 
 /// The value of an outport, as a key.
 #[derive(PartialEq, Eq, PartialOrd, Ord)]

@@ -9,10 +9,10 @@ use Rattle.fm_base.proofs.Least.{least_from_append}
 use Rattle.fm_tree.specs.declared.program_unit.Unit as program
 use Rattle.fm_symbols.specs.ByName.{ByName}
 use Rattle.fm_symbols.specs.declared.names.UnitNames.{UnitNames}
-use Rattle.fm_facts.specs.Titles.{titles_of}
-use Rattle.fm_names.specs.Broken.{broken_in, broken_names}
+use Rattle.fm_rules.specs.FunctionTitles.{titles_of}
+use Rattle.fm_rules.specs.BrokenNames.{broken_in, broken_names}
 use Rattle.fm_names.specs.Layouts.{IsNamed, names_unless}
-use Rattle.fm_names.specs.Names.{unit_names}
+use Rattle.fm_rules.specs.Names.{unit_names}
 
 -- once something is broken, something stays broken
 stays_some : (p : Refusal) (qs : List Refusal) → least_from (Some p) qs ≡ None → ⊥

@@ -5,11 +5,11 @@ use Rattle.std.proofs.lemmas.List.{drop_more}
 use Rattle.std.proofs.lemmas.Bool.Decides.{nat_tests}
 use Rattle.fm_tree.specs.declared.statement.Stmt.{Stmt}
 use Rattle.fm_symbols.specs.ByName.{ByName}
-use Rattle.fm_occurrences.specs.declared.seen.Occurrence.{Occurrence}
-use Rattle.fm_names.specs.declared.sheet.Sheet.{Sheet}
+use Rattle.fm_rules.specs.declared.sheet.Occurrence.{Occurrence}
+use Rattle.fm_rules.specs.declared.sheet.Sheet.{Sheet}
 use Rattle.fm_names.specs.declared.variables.Layout.{Layout}
 use Rattle.fm_names.specs.Layouts.{with_variable, words_if}
-use Rattle.fm_names.specs.Variables.{all_words, laid_out, names_variable, variable, variables_among, words_of}
+use Rattle.fm_rules.specs.Variables.{all_words, laid_out, names_variable, variable, variables_among, words_of}
 
 module _ (titles : ByName Bool) (heading : Stmt) (s : Sheet) where
   -- with the variables among these names behind it a layout is the whole

@@ -4,10 +4,10 @@ use Rattle.fm_base.specs.declared.rule.Refusal.{Refusal}
 use Rattle.fm_tree.specs.declared.statement.Stmt.{Stmt}
 use Rattle.fm_symbols.specs.ByName.{ByName}
 use Rattle.fm_symbols.specs.declared.names.UnitNames.{UnitNames}
-use Rattle.fm_occurrences.specs.declared.seen.Occurrence.{Occurrence}
-use Rattle.fm_names.specs.declared.sheet.Sheet.{Sheet}
+use Rattle.fm_rules.specs.declared.sheet.Occurrence.{Occurrence}
+use Rattle.fm_rules.specs.declared.sheet.Sheet.{Sheet}
 use Rattle.fm_names.specs.declared.variables.Layout.{Layout}
-use Rattle.fm_names.specs.Variables.{names_variable, variable, words_of}
+use Rattle.fm_rules.specs.Variables.{names_variable, variable, words_of}
 
 abbrev pub with_variable : ByName Bool → Stmt → Sheet → Layout → Occurrence → Layout
 with_variable titles heading s l o =

@@ -1,5 +1,1 @@
-pub mod Sheets
-pub mod Variables
 pub mod Layouts
-pub mod Broken
-pub mod Names

@@ -4,17 +4,16 @@
 ghost use Rattle.std.specs.Prelude.{◌≡◌, nat_lt, IfOk};
 ghost use Rattle.std.specs.List.{flat_map};
 ghost use Rattle.fm_base.specs.Verdict.{least_from, place, when};
-ghost use Rattle.fm_names.specs.Broken.{broken_with, has_type, is_untyped, untyped_at};
+ghost use Rattle.fm_rules.specs.BrokenNames.{broken_with, has_type, is_untyped, untyped_at};
 ghost use Rattle.fm_names.specs.Layouts.{words_if};
-ghost use Rattle.fm_names.specs.Variables.{all_words, is_variable, variables_among, words_of};
+ghost use Rattle.fm_rules.specs.Variables.{all_words, is_variable, variables_among, words_of};
 
-use crate::sheet::Sheet;
 use crate::variables::{is_variable, words_of};
 use fm_base::{Line, Name, NoMemory, Refusal, Rule, keep_earlier};
-use fm_constants::{begins_integer, judge_constants};
-use fm_facts::{is_other_function, judge_declarations};
-use fm_maps::NameMap;
-use fm_occurrences::Occurrence;
+use fm_finmap::NameMap;
+use fm_names_constants::{begins_integer, judge_constants};
+use fm_names_declared::{is_other_function, judge_declarations};
+use fm_rules::{Occurrence, Sheet};
 use fm_tree::{Stmt, Unit};
 use std::alloc::Global;
 

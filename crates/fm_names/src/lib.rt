@@ -7,4 +7,4 @@ mod sheet;
 mod variables;
 
 pub use program::names;
-pub use sheet::{Sheet, make_sheet};
+pub use sheet::make_sheet;

@@ -3,17 +3,18 @@
 ghost use Rattle.std.specs.Prelude.{◌≡◌, ◌++◌, IfOk, IfErr, OnOk, Contains, map};
 ghost use Rattle.std.specs.List.{flat_map};
 ghost use Rattle.fm_base.specs.Verdict.{IsClean, IsRefusal, least, least_from};
-ghost use Rattle.fm_names.specs.Broken.{broken_in, broken_names};
+ghost use Rattle.fm_rules.specs.BrokenNames.{broken_in, broken_names};
 ghost use Rattle.fm_names.specs.Layouts.{IsNamed, names_unless};
-ghost use Rattle.fm_names.specs.Names.{names_of, unit_names, unit_names_with};
+ghost use Rattle.fm_rules.specs.Names.{names_of, unit_names, unit_names_with};
 
 use crate::judging::judge_unit;
-use crate::sheet::{Sheet, make_sheet};
+use crate::sheet::make_sheet;
 use crate::variables::lay_out;
 use fm_base::{CheckFail, NoMemory, Refusal, Seq, least_law};
-use fm_constants::{constant_list, extents};
-use fm_facts::function_titles;
-use fm_maps::NameMap;
+use fm_finmap::NameMap;
+use fm_names_constants::{constant_list, extents};
+use fm_names_declared::function_titles;
+use fm_rules::Sheet;
 use fm_symbols::{Names, UnitNames};
 use fm_tree::{Unit, Units};
 use std::alloc::Global;

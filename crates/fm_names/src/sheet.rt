@@ -4,39 +4,19 @@
 ghost use Rattle.std.specs.Prelude.{◌≡◌, ◌+◌, Some, IfOk, OnOk, map};
 ghost use Rattle.std.specs.List.{flat_map};
 ghost use Rattle.fm_symbols.specs.ByName.{with_all};
-ghost use Rattle.fm_constants.specs.Parts.{decls_of};
-ghost use Rattle.fm_names.specs.Sheets.{array_shape, arrays_of, decl_shapes, formals_of, inputs_of, intents_at, intents_in, is_in, kind_entries, kind_in, kinds_at, kinds_from, kinds_of, numbered, own_kind, shape_entries, shapes_from, sheet_of};
+ghost use Rattle.fm_rules.specs.ConstantParts.{decls_of};
+ghost use Rattle.fm_rules.specs.Sheets.{array_shape, arrays_of, decl_shapes, formals_of, inputs_of, intents_at, intents_in, is_in, kind_entries, kind_in, kinds_at, kinds_from, kinds_of, numbered, own_kind, shape_entries, shapes_from, sheet_of};
 
 use fm_base::{Name, NoMemory, Seq};
-use fm_constants::{
-    Known, Types, bounds_of, constants, decls_of, elements, normal_port_type, types_of,
-};
-use fm_maps::NameMap;
-use fm_occurrences::{ArrayShape, Occurrence, first_occurrences};
+use fm_finmap::NameMap;
+use fm_names_constants::{bounds_of, constants, decls_of, elements, normal_port_type, types_of};
+use fm_names_used::first_occurrences;
+use fm_rules::{ArrayShape, Known, Sheet};
 use fm_symbols::{heading_formals, insert_new};
-use fm_tree::{Bound, Decl, Kind, Placed, Stmt, Unit, Way, copy_kind};
+use fm_tree::{Bound, Decl, Kind, Placed, Stmt, Unit, Way};
 use std::alloc::Global;
 
-/// What the statements of a unit say of its names.
-#[derive(Drop)]
-pub struct Sheet {
-    /// The constants.
-    pub known: NameMap<Known>,
-    /// The types of values.
-    pub types: Types,
-    /// The types of values and ports.
-    pub kinds: NameMap<Kind>,
-    /// What is declared with bounds.
-    pub arrays: NameMap<ArrayShape>,
-    /// For each name with INTENT whether it is IN.
-    pub inputs: NameMap<bool>,
-    /// The places of the formal arguments, from 1.
-    pub formals: NameMap<u32>,
-    /// The names that stand in the unit, each once, in the order of the text.
-    pub first: Seq<Occurrence>,
-}
-
-#[tactic(auto, unfolding(crate::specs::Sheets::kind_in))]
+#[tactic(auto, unfolding(fm_rules::specs::Sheets::kind_in))]
 fn kind_in(
     alloc: Global,
     known: &NameMap<Known>,
@@ -69,7 +49,7 @@ fn add_kinds(
     ensures { OnOk result (kinds.new ≡ with_all kinds.old (kind_entries (Some kind.now) decls.now)) }
 {
     'decls: for decl in decls {
-        insert_new(alloc, kinds, &decl.name, copy_kind(alloc, kind)?)?;
+        insert_new(alloc, kinds, &decl.name, kind.share()?)?;
     }
     Ok(())
 }
@@ -103,7 +83,7 @@ fn add_all_kinds(
     Ok(())
 }
 
-#[tactic(auto, unfolding(crate::specs::Sheets::own_kind))]
+#[tactic(auto, unfolding(fm_rules::specs::Sheets::own_kind))]
 fn add_own_kind(alloc: Global, heading: &Stmt, kinds: &mut NameMap<Kind>) -> Result<(), NoMemory>
     ensures { OnOk result (kinds.new ≡ with_all kinds.old (own_kind heading.now)) }
 {
@@ -212,7 +192,7 @@ fn add_inputs(
     Ok(())
 }
 
-#[tactic(auto, unfolding(crate::specs::Sheets::intents_in))]
+#[tactic(auto, unfolding(fm_rules::specs::Sheets::intents_in))]
 fn add_intents(alloc: Global, stmt: &Stmt, inputs: &mut NameMap<bool>) -> Result<(), NoMemory>
     ensures { OnOk result (inputs.new ≡ with_all inputs.old (intents_in stmt.now)) }
 {

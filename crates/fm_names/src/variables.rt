@@ -4,15 +4,14 @@ ghost use Rattle.std.specs.Prelude.{◌≡◌, ◌+◌, IfOk, OnOk, unwrap_or, f
 ghost use Rattle.std.specs.FinMap.{get};
 ghost use Rattle.fm_tree.specs.declared.port_type.Kind.TheVariants.{Integer};
 ghost use Rattle.fm_names.specs.Layouts.{with_variable};
-ghost use Rattle.fm_names.specs.Variables.{all_words, bounds_by, is_variable, laid_out, variable, variables_among, words_of};
+ghost use Rattle.fm_rules.specs.Variables.{all_words, bounds_by, is_variable, laid_out, variable, variables_among, words_of};
 
-use crate::sheet::Sheet;
 use fm_base::{Name, NoMemory, Seq};
-use fm_facts::is_other_function;
-use fm_maps::NameMap;
-use fm_occurrences::Occurrence;
+use fm_finmap::NameMap;
+use fm_names_declared::is_other_function;
+use fm_rules::{Occurrence, Sheet};
 use fm_symbols::Variable;
-use fm_tree::{Kind, Stmt, copy_kind};
+use fm_tree::{Kind, Stmt};
 use std::alloc::Global;
 
 /// Variables one behind the other, and all their words.
@@ -53,11 +52,11 @@ fn bounds_in(alloc: Global, sheet: &Sheet, name: &Name) -> Result<Seq<(i64, i64)
     }
 }
 
-fn kind_of(alloc: Global, sheet: &Sheet, name: &Name) -> Result<Kind, NoMemory>
+fn kind_of(sheet: &Sheet, name: &Name) -> Result<Kind, NoMemory>
     ensures { IfOk result (λ k. k ≡ unwrap_or (get sheet.now.kinds name.now) Integer) }
 {
     match sheet.kinds.get(name) {
-        Some(kind) => copy_kind(alloc, kind),
+        Some(kind) => kind.share(),
         None => Ok(Kind::Integer),
     }
 }
@@ -85,7 +84,7 @@ fn variable(alloc: Global, sheet: &Sheet, first: u32, name: &Name) -> Result<Var
 {
     Ok(Variable {
         name: name.copy(alloc)?,
-        kind: kind_of(alloc, sheet, name)?,
+        kind: kind_of(sheet, name)?,
         bounds: bounds_in(alloc, sheet, name)?,
         first,
         words: words_of(sheet, name),

@@ -3,8 +3,8 @@ use Rattle.std.proofs.Common.{◌≡◌, ℕ, Option, Some, None, List, [], ◌�
 use Rattle.std.specs.FinMap.{get, insert}
 use Rattle.fm_base.specs.declared.path.ChanName.{ChanName}
 use Rattle.fm_base.specs.Channels.{Chan, ChannelOp, is_ready, changed, spills, spills_at, fresh, all_shed}
-use Rattle.fm_maps.specs.Changes.{alter, alters}
-use Rattle.fm_maps.proofs.Adjusts.{adjust-insert}
+use Rattle.fm_finmap.specs.Changes.{alter, alters}
+use Rattle.fm_finmap.proofs.Adjusts.{adjust-insert}
 use Rattle.fm_net.specs.Machine.{Place, Procs, Need, Nothing, Event, New, Reply, Onward, Ask, Stop, Go, State, made, reply_with, reply_at, served, served_at, start_changes, going, act, act_of, finished}
 use Rattle.fm_net.specs.Language.{Language, language_step}
 use Rattle.fm_net.specs.Owned.{name_of}

@@ -7,12 +7,12 @@ use Rattle.fm_base.specs.declared.port.PortValue.{PortValue}
 use Rattle.fm_base.specs.declared.port.PortValue.TheVariants.{Writer, Reader}
 use Rattle.fm_base.specs.PathOrder.{channel_cmp}
 use Rattle.fm_base.specs.Channels.{Chan, Chans, spills_at, fresh, numbers_from, changed, gives, channel_of, discarded}
-use Rattle.fm_maps.specs.Changes.{adjust}
-use Rattle.fm_maps.specs.Sums.{total, value_or_zero}
-use Rattle.fm_maps.proofs.Keys.{decide, tie}
-use Rattle.fm_maps.proofs.Inserts.{insert_here, insert_there}
-use Rattle.fm_maps.proofs.Adjusts.{get-adjust}
-use Rattle.fm_maps.proofs.Sums.{total-insert}
+use Rattle.fm_finmap.specs.Changes.{adjust}
+use Rattle.fm_finmap.specs.Sums.{total, value_or_zero}
+use Rattle.fm_finmap.proofs.Keys.{decide, tie}
+use Rattle.fm_finmap.proofs.Inserts.{insert_here, insert_there}
+use Rattle.fm_finmap.proofs.Adjusts.{get-adjust}
+use Rattle.fm_finmap.proofs.Sums.{total-insert}
 use Rattle.fm_net.specs.Machine.{Place, Procs, Need, Nothing, Event, New, Children, Reply, made, chans_after, spilt, reply_with, served}
 use Rattle.fm_net.specs.Owned.{one, count, queued, has, open_at, opened, present, name_of}
 use Rattle.fm_net.specs.Lawful.{Brings, MayBring, given_by, made_by, ports_from, got}

@@ -2,8 +2,8 @@
 use Rattle.std.proofs.Common.{◌≡◌, ◌≢◌, ℕ, zero, suc, ◌+◌, ◌≤◌, ◌<◌, Option, Some, None, List, [], ◌∷◌, ◌++◌, Bool, true, false, cond, option_map, refl, sym, ap, ap₂, ◌∙◌, arith}
 use Rattle.std.specs.FinMap.{get}
 use Rattle.fm_base.specs.Channels.{Chans}
-use Rattle.fm_maps.specs.Changes.{Change, Off, Apart}
-use Rattle.fm_maps.proofs.Alters.{Off-append, Apart-append}
+use Rattle.fm_finmap.specs.Changes.{Change, Off, Apart}
+use Rattle.fm_finmap.proofs.Alters.{Off-append, Apart-append}
 use Rattle.fm_net.specs.Machine.{Place, Procs, Need, Nothing, Event, New, Children, Reply, Onward, child, reply_with, with_child, gathered, served, start_changes, child_changes, need_changes, changes}
 use native.Mathlib.Decide.{ℕ_discrete}
 

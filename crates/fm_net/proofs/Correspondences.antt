@@ -4,9 +4,9 @@ use Rattle.std.specs.FinMap.{get, empty, get-empty, get-insert}
 use Rattle.std.specs.Ordering.{eq_by_cmp}
 use Rattle.fm_base.specs.PathOrder.{path_cmp}
 use Rattle.fm_base.specs.Channels.{Chan, Chans, ChannelOp, is_ready, all_shed}
-use Rattle.fm_maps.specs.Changes.{alter, alters}
-use Rattle.fm_maps.proofs.Keys.{decide}
-use Rattle.fm_maps.proofs.Alters.{alter_here, alter_there, alters_there, alters-append}
+use Rattle.fm_finmap.specs.Changes.{alter, alters}
+use Rattle.fm_finmap.proofs.Keys.{decide}
+use Rattle.fm_finmap.proofs.Alters.{alter_here, alter_there, alters_there, alters-append}
 use Rattle.fm_sched.specs.Schedule.{Can, next, cost, IsLegal}
 use Rattle.fm_sched.specs.Simulation.{IsBisimulation}
 use Rattle.fm_sched.proofs.Runs.{next-Some, cost-Some}

@@ -6,11 +6,11 @@ use Rattle.fm_base.specs.declared.path.ChanName.{ChanName}
 use Rattle.fm_base.specs.declared.port.PortValue.{PortValue}
 use Rattle.fm_base.specs.declared.port.PortValue.TheVariants.{Writer, Reader}
 use Rattle.fm_base.specs.Channels.{Message, message_ports, Chan, Chans, ChannelOp, Limits, fits_limits, Push, Pop, Look, changed, gives, spills, queue_ports, channel_of, discarded, freed, behind_first, first_message, without, shut, shut_at}
-use Rattle.fm_maps.specs.Changes.{adjust, adjust_found}
-use Rattle.fm_maps.specs.Sums.{total, value_or_zero}
-use Rattle.fm_maps.proofs.Keys.{tie, tie_self, decide}
-use Rattle.fm_maps.proofs.Adjusts.{adjust_here, adjust_there}
-use Rattle.fm_maps.proofs.Sums.{total-adjust}
+use Rattle.fm_finmap.specs.Changes.{adjust, adjust_found}
+use Rattle.fm_finmap.specs.Sums.{total, value_or_zero}
+use Rattle.fm_finmap.proofs.Keys.{tie, tie_self, decide}
+use Rattle.fm_finmap.proofs.Adjusts.{adjust_here, adjust_there}
+use Rattle.fm_finmap.proofs.Sums.{total-adjust}
 use Rattle.fm_net.specs.Owned.{same_port, queued, has, opened}
 use Rattle.fm_net.specs.Owned.{one, count, open_at}
 use Rattle.fm_net.specs.Lawful.{sent_ports, got}

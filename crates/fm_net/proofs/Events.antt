@@ -5,8 +5,8 @@ use Rattle.fm_base.specs.declared.path.ChanName.{ChanName}
 use Rattle.fm_base.specs.declared.port.PortValue.{PortValue}
 use Rattle.fm_base.specs.declared.port.PortValue.TheVariants.{Writer, Reader}
 use Rattle.fm_base.specs.Channels.{Message, message_ports, Chan, Chans, ChannelOp, Limits, fits_limits, Push, Pop, Look, can_pop, is_ready, changed, gives, exceeds, tells, spills, queue_ports, channel_of, discarded, freed, without}
-use Rattle.fm_maps.proofs.Keys.{decide}
-use Rattle.fm_maps.proofs.Adjusts.{adjust_there}
+use Rattle.fm_finmap.proofs.Keys.{decide}
+use Rattle.fm_finmap.proofs.Adjusts.{adjust_there}
 use Rattle.fm_net.specs.Owned.{count, has, open_at}
 use Rattle.fm_net.specs.Lawful.{port_of, Brings}
 use Rattle.fm_net.specs.Plain.{IsSure}

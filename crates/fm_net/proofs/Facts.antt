@@ -4,10 +4,10 @@ use Rattle.std.specs.FinMap.{FinMap, get}
 use Rattle.std.specs.Ordering.{eq_by_cmp}
 use Rattle.std.specs.declared.cmp.Ordering.{Ordering}
 use Rattle.fm_base.specs.Channels.{Chans}
-use Rattle.fm_maps.specs.Keys.{IsKeyOrder}
-use Rattle.fm_maps.specs.Changes.{Change, adjust, alter, alters}
-use Rattle.fm_maps.proofs.Adjusts.{get-adjust}
-use Rattle.fm_maps.proofs.Alters.{get-alter}
+use Rattle.fm_finmap.specs.Keys.{IsKeyOrder}
+use Rattle.fm_finmap.specs.Changes.{Change, adjust, alter, alters}
+use Rattle.fm_finmap.proofs.Adjusts.{get-adjust}
+use Rattle.fm_finmap.proofs.Alters.{get-alter}
 use Rattle.fm_net.specs.Machine.{Place, Procs, Need, Nothing, Event, New, Children, Reply, Onward, child, reply_with, gathered, served, start_changes, child_changes, need_changes, changes}
 use Rattle.fm_net.specs.Typed.{AllIn}
 use Rattle.fm_net.proofs.Keys.{path_order}

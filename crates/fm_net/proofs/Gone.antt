@@ -7,7 +7,7 @@ use Rattle.fm_base.specs.declared.port.PortValue.{PortValue}
 use Rattle.fm_base.specs.declared.port.PortValue.TheVariants.{Writer, Reader}
 use Rattle.fm_base.specs.PathOrder.{channel_cmp}
 use Rattle.fm_base.specs.Channels.{Message, Chan, Chans, ChannelOp, Limits, Push, Pop, Look, changed, fresh, channel_of, discarded, behind_first}
-use Rattle.fm_maps.specs.Changes.{adjust}
+use Rattle.fm_finmap.specs.Changes.{adjust}
 use Rattle.fm_net.specs.Machine.{Place, Need, Nothing, Event, New, Children, chans_after}
 use Rattle.fm_net.specs.Language.{Language}
 use Rattle.fm_net.specs.Owned.{name_of, GoneIsEmpty}

@@ -4,8 +4,8 @@ use Rattle.std.specs.FinMap.{get}
 use Rattle.fm_base.specs.declared.path.ChanName.{ChanName}
 use Rattle.fm_base.specs.declared.port.PortValue.{PortValue}
 use Rattle.fm_base.specs.Channels.{Chan, ChannelOp, Push, Pop, Look, channel_of}
-use Rattle.fm_maps.specs.Sums.{total, value_or_zero}
-use Rattle.fm_maps.proofs.Sums.{one_of_total, two_of_total, holder}
+use Rattle.fm_finmap.specs.Sums.{total, value_or_zero}
+use Rattle.fm_finmap.proofs.Sums.{one_of_total, two_of_total, holder}
 use Rattle.fm_net.specs.Machine.{Place, State, Event, Reply, Onward, Go}
 use Rattle.fm_net.specs.Language.{Language}
 use Rattle.fm_net.specs.Owned.{queued, open_at, opened, IsOwned}

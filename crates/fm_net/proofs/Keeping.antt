@@ -3,8 +3,8 @@ use Rattle.std.proofs.Common.{◌≡◌, ℕ, None, inl, inr, ap, ◌∙◌, sub
 use Rattle.std.specs.FinMap.{get}
 use Rattle.fm_base.specs.declared.path.ChanName.{ChanName}
 use Rattle.fm_base.specs.declared.port.PortValue.TheVariants.{Writer}
-use Rattle.fm_maps.specs.Changes.{alters}
-use Rattle.fm_maps.specs.Sums.{value_or_zero}
+use Rattle.fm_finmap.specs.Changes.{alters}
+use Rattle.fm_finmap.specs.Sums.{value_or_zero}
 use Rattle.fm_net.specs.Machine.{Place, New, child, made, spilt, changes}
 use Rattle.fm_net.specs.Language.{Language}
 use Rattle.fm_net.specs.Owned.{count, opened, name_of, HasOneWriter}

@@ -6,13 +6,13 @@ use Rattle.fm_base.specs.declared.path.ChanName.{ChanName}
 use Rattle.fm_base.specs.declared.port.PortValue.{PortValue}
 use Rattle.fm_base.specs.declared.port.PortValue.TheVariants.{Writer, Reader}
 use Rattle.fm_base.specs.Channels.{Chan, ChannelOp, Push, Pop, Look, is_ready, changed, channel_of, discarded, freed, fresh, spills_at}
-use Rattle.fm_maps.specs.Changes.{Change, adjust, alters, Off, Apart}
-use Rattle.fm_maps.specs.Sums.{total, value_or_zero}
-use Rattle.fm_maps.proofs.Keys.{decide}
-use Rattle.fm_maps.proofs.Inserts.{insert_there}
-use Rattle.fm_maps.proofs.Adjusts.{adjust_there, adjust_swap, adjust_past_insert}
-use Rattle.fm_maps.proofs.Alters.{alters_there, alters_swap}
-use Rattle.fm_maps.proofs.Sums.{one_of_total, two_of_total}
+use Rattle.fm_finmap.specs.Changes.{Change, adjust, alters, Off, Apart}
+use Rattle.fm_finmap.specs.Sums.{total, value_or_zero}
+use Rattle.fm_finmap.proofs.Keys.{decide}
+use Rattle.fm_finmap.proofs.Inserts.{insert_there}
+use Rattle.fm_finmap.proofs.Adjusts.{adjust_there, adjust_swap, adjust_past_insert}
+use Rattle.fm_finmap.proofs.Alters.{alters_there, alters_swap}
+use Rattle.fm_finmap.proofs.Sums.{one_of_total, two_of_total}
 use Rattle.fm_sched.proofs.Moves.{MovesMeet}
 use Rattle.fm_net.specs.Machine.{Place, Need, Nothing, Event, New, Children, Reply, Onward, child, made, chans_after, reply_with, spilt, with_child, gathered, served_at, served, changes}
 use Rattle.fm_net.specs.Language.{Language}

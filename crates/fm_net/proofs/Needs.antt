@@ -3,10 +3,10 @@ use Rattle.std.proofs.Common.{◌≡◌, ◌≢◌, ℕ, ◌≤◌, Option, Some
 use Rattle.std.specs.FinMap.{get}
 use Rattle.fm_base.specs.declared.path.ChanName.{ChanName}
 use Rattle.fm_base.specs.Channels.{Message, Chan, Chans, ChannelOp, is_ready, changed, spills_at, fresh}
-use Rattle.fm_maps.specs.Changes.{adjust}
-use Rattle.fm_maps.proofs.Keys.{decide}
-use Rattle.fm_maps.proofs.Inserts.{insert_there, insert_swap}
-use Rattle.fm_maps.proofs.Adjusts.{adjust_there, adjust_swap, adjust_past_insert}
+use Rattle.fm_finmap.specs.Changes.{adjust}
+use Rattle.fm_finmap.proofs.Keys.{decide}
+use Rattle.fm_finmap.proofs.Inserts.{insert_there, insert_swap}
+use Rattle.fm_finmap.proofs.Adjusts.{adjust_there, adjust_swap, adjust_past_insert}
 use Rattle.fm_net.specs.Machine.{Place, Need, Nothing, Event, New, Children, Reply, chans_after, reply_at, served_at}
 use Rattle.fm_net.specs.Owned.{present, name_of}
 use Rattle.fm_net.proofs.Keys.{channel_order}

@@ -4,10 +4,10 @@ use Rattle.std.specs.Prelude.{slice_get}
 use Rattle.std.proofs.lemmas.Grind.{replicate_next}
 use Rattle.std.specs.FinMap.{get, empty, get-empty}
 use Rattle.fm_base.specs.PathOrder.{path_cmp}
-use Rattle.fm_maps.specs.Changes.{Change, alter, alters}
-use Rattle.fm_maps.proofs.Keys.{decide}
-use Rattle.fm_maps.proofs.Alters.{alter_here, alter_there, alters-append}
-use Rattle.fm_maps.proofs.Inserts.{insert_cases, insert_here}
+use Rattle.fm_finmap.specs.Changes.{Change, alter, alters}
+use Rattle.fm_finmap.proofs.Keys.{decide}
+use Rattle.fm_finmap.proofs.Alters.{alter_here, alter_there, alters-append}
+use Rattle.fm_finmap.proofs.Inserts.{insert_cases, insert_here}
 use Rattle.fm_sched.specs.Schedule.{Can, next, play, IsLegal}
 use Rattle.fm_net.specs.Machine.{Place, Procs, State, Need, Nothing, Event, New, Children, Onward, child, changes, start_changes, child_changes, need_changes, made}
 use Rattle.fm_net.specs.Language.{Language, language_step}
@@ -19,7 +19,7 @@ use Rattle.fm_net.proofs.Children.{other_child}
 use Rattle.fm_net.proofs.First.{main_owned}
 use Rattle.fm_net.proofs.Needs.{no_value}
 use Rattle.fm_net.proofs.Steps.{step_keeps}
-use Rattle.fm_maps.specs.Sums.{value_or_zero}
+use Rattle.fm_finmap.specs.Sums.{value_or_zero}
 use Rattle.fm_net.proofs.Taken.{Starts, out_of, onward_is, no_onward, state_is, start_of}
 
 -- ---- lists

@@ -4,11 +4,11 @@ use Rattle.std.specs.FinMap.{get}
 use Rattle.std.specs.Ordering.{eq_by_cmp}
 use Rattle.fm_base.specs.PathOrder.{path_cmp}
 use Rattle.fm_base.specs.Channels.{Chans}
-use Rattle.fm_maps.specs.Changes.{alters}
-use Rattle.fm_maps.specs.Sums.{total, value_or_zero}
-use Rattle.fm_maps.proofs.Keys.{tie}
-use Rattle.fm_maps.proofs.Alters.{Off-append, alters_there, alter_here, get-alter, alters-append}
-use Rattle.fm_maps.proofs.Sums.{total-alter}
+use Rattle.fm_finmap.specs.Changes.{alters}
+use Rattle.fm_finmap.specs.Sums.{total, value_or_zero}
+use Rattle.fm_finmap.proofs.Keys.{tie}
+use Rattle.fm_finmap.proofs.Alters.{Off-append, alters_there, alter_here, get-alter, alters-append}
+use Rattle.fm_finmap.proofs.Sums.{total-alter}
 use Rattle.fm_net.specs.Machine.{Place, Procs, Need, Nothing, Event, New, Children, Reply, Onward, child, reply_with, gathered, served, start_changes, child_changes, need_changes, changes}
 use Rattle.fm_net.specs.Owned.{present}
 use Rattle.fm_net.specs.Lawful.{sum_of}

@@ -5,8 +5,8 @@ use Rattle.fm_base.specs.declared.path.ChanName.{ChanName}
 use Rattle.fm_base.specs.declared.port.PortValue.TheVariants.{Writer, Reader}
 use Rattle.fm_base.specs.PathOrder.{path_cmp}
 use Rattle.fm_base.specs.Channels.{Chan, Chans, Item, Push, Pop, fresh, all_shed}
-use Rattle.fm_maps.proofs.Keys.{decide}
-use Rattle.fm_maps.proofs.Inserts.{insert_here, insert_there, insert_again}
+use Rattle.fm_finmap.proofs.Keys.{decide}
+use Rattle.fm_finmap.proofs.Inserts.{insert_here, insert_there, insert_again}
 use Rattle.fm_sched.specs.Schedule.{IsEnding, Leads}
 use Rattle.fm_sched.proofs.Runs.{leads_nowhere, leads_first}
 use Rattle.fm_net.specs.Machine.{Place, State}

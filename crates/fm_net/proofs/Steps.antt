@@ -4,7 +4,7 @@ use mathlib.Core.Path.{fun_ext}
 use Rattle.std.specs.FinMap.{get}
 use Rattle.fm_base.specs.declared.port.PortValue.{PortValue}
 use Rattle.fm_base.specs.Channels.{Chans, channel_of, freed, shut, shed, weight}
-use Rattle.fm_maps.proofs.Keys.{decide}
+use Rattle.fm_finmap.proofs.Keys.{decide}
 use Rattle.fm_sched.specs.Schedule.{price, Can, next, IsEnding, NotIn, Stays, Diamond, Leads}
 use Rattle.fm_sched.proofs.Runs.{leads_nowhere, leads_first, leads_on}
 use Rattle.fm_sched.proofs.Along.{good_after, can_after, stays_after}

@@ -8,11 +8,11 @@ use Rattle.fm_base.specs.declared.port.PortValue.{PortValue}
 use Rattle.fm_base.specs.declared.port.PortValue.TheVariants.{Writer, Reader}
 use Rattle.fm_base.specs.PathOrder.{channel_cmp}
 use Rattle.fm_base.specs.Channels.{Message, message_ports, Chan, Chans, ChannelOp, Limits, fits_limits, Push, Pop, Look, changed, gives, channel_of, discarded, queue_ports, behind_first, first_message, fresh}
-use Rattle.fm_maps.specs.Changes.{adjust}
-use Rattle.fm_maps.specs.Sums.{total, value_or_zero}
-use Rattle.fm_maps.proofs.Keys.{tie, tie_self, tie_not}
-use Rattle.fm_maps.proofs.Adjusts.{get-adjust}
-use Rattle.fm_maps.proofs.Sums.{one_of_total}
+use Rattle.fm_finmap.specs.Changes.{adjust}
+use Rattle.fm_finmap.specs.Sums.{total, value_or_zero}
+use Rattle.fm_finmap.proofs.Keys.{tie, tie_self, tie_not}
+use Rattle.fm_finmap.proofs.Adjusts.{get-adjust}
+use Rattle.fm_finmap.proofs.Sums.{one_of_total}
 use Rattle.fm_sched.specs.Schedule.{Can, next, Throughout}
 use Rattle.fm_sched.proofs.Along.{throughout}
 use Rattle.fm_net.specs.Machine.{Place, Procs, Need, Nothing, Event, New, Children, Reply, State, made, chans_after, served}

@@ -8,10 +8,10 @@ use Rattle.fm_base.specs.declared.port.PortValue.{PortValue}
 use Rattle.fm_base.specs.declared.port.PortValue.TheVariants.{Writer, Reader}
 use Rattle.fm_base.specs.PathOrder.{channel_cmp}
 use Rattle.fm_base.specs.Channels.{Message, Limits, Chan, Chans, ChannelOp, Push, Pop, Look, can_pop, is_ready, changed, behind_first, channel_of, discarded, freed, fresh, shut, shed, weight}
-use Rattle.fm_maps.specs.Changes.{Change, alters}
-use Rattle.fm_maps.proofs.Keys.{decide}
-use Rattle.fm_maps.proofs.Adjusts.{adjust_there}
-use Rattle.fm_maps.proofs.Alters.{alter_here, alter_there, alters_there, alters-append}
+use Rattle.fm_finmap.specs.Changes.{Change, alters}
+use Rattle.fm_finmap.proofs.Keys.{decide}
+use Rattle.fm_finmap.proofs.Adjusts.{adjust_there}
+use Rattle.fm_finmap.proofs.Alters.{alter_here, alter_there, alters_there, alters-append}
 use Rattle.fm_sched.specs.Schedule.{Can, next}
 use Rattle.fm_net.specs.Machine.{Place, State, Need, Nothing, Event, New, Children, Reply, Onward, Ask, Stop, Go, child, chans_after, spilt, reply_with, reply_at, with_child, gathered, served_at, served, changes, start_changes, child_changes, need_changes}
 use Rattle.fm_net.specs.Language.{Language, language_step}

@@ -6,7 +6,7 @@ use Rattle.fm_base.specs.declared.path.ChanName.{ChanName}
 use Rattle.fm_base.specs.declared.port.PortValue.{PortValue}
 use Rattle.fm_base.specs.PathOrder.{path_cmp}
 use Rattle.fm_base.specs.Channels.{Message, Chan, Chans, ChannelOp, is_ready, changed, gives, exceeds, tells, spills_at, fresh, all_shed}
-use Rattle.fm_maps.specs.Changes.{Change, adjust, alters}
+use Rattle.fm_finmap.specs.Changes.{Change, adjust, alters}
 
 -- where a process stands in the tree of processes
 abbrev pub Place : Type 0

@@ -9,7 +9,7 @@ use Rattle.fm_base.specs.declared.port.PortValue.{PortValue}
 use Rattle.fm_base.specs.declared.port.PortValue.TheVariants.{Writer, Reader}
 use Rattle.fm_base.specs.PathOrder.{channel_cmp}
 use Rattle.fm_base.specs.Channels.{Chan, Chans, queue_ports, channel_of}
-use Rattle.fm_maps.specs.Sums.{total, value_or_zero}
+use Rattle.fm_finmap.specs.Sums.{total, value_or_zero}
 use Rattle.fm_net.specs.Machine.{Place, State, child}
 use Rattle.fm_net.specs.Language.{Language}
 

@@ -14,10 +14,10 @@ use Rattle.fm_mean.specs.Process as mean
 use Rattle.fm_mean.specs.Process.{Execution, framed}
 use Rattle.fm_mean.specs.declared.place.Back.{Back}
 use Rattle.fm_mean.specs.Actions.{Action, Own, at_entry, opens}
-use Rattle.fm_frame.specs.Frames.{frame_of}
-use Rattle.fm_frame.specs.Units.{unit_of}
-use Rattle.fm_frame.specs.declared.frame.Frame.{Frame}
-use Rattle.fm_frame.proofs.LeavingLaws.{last_frame}
+use Rattle.fm_plain_frame.specs.Frames.{frame_of}
+use Rattle.fm_plain_frame.specs.Units.{unit_of}
+use Rattle.fm_plain_frame.specs.declared.frame.Frame.{Frame}
+use Rattle.fm_plain_frame.proofs.LeavingLaws.{last_frame}
 use Rattle.fm_plain.specs.declared.here.Here.{Here}
 use Rattle.fm_plain.specs.Standing.{StandsIn, below_of, program_in, standing, waiting}
 

@@ -14,10 +14,10 @@ use Rattle.fm_mean.specs.declared.place.Span.{Span}
 use Rattle.fm_mean.specs.Actions.{channel_places, seat_at, sends, sent, two_places}
 use Rattle.fm_mean.specs.Evaluate.{Scope, actuals_of, place_of, refs_in_all, refs_in_var}
 use Rattle.fm_map.specs.Placement.{Seat, fitted}
-use Rattle.fm_eval.specs.declared.failure.Failure.{Failure}
-use Rattle.fm_eval.specs.declared.failure.Failure.TheVariants as failure
-use Rattle.fm_eval.specs.Outcomes.{IsFailure}
-use Rattle.fm_eval.specs.Operands.{seated}
+use Rattle.fm_plain_eval.specs.declared.failure.Failure.{Failure}
+use Rattle.fm_plain_eval.specs.declared.failure.Failure.TheVariants as failure
+use Rattle.fm_plain_eval.specs.Outcomes.{IsFailure}
+use Rattle.fm_plain_eval.specs.Operands.{seated}
 use Rattle.fm_plain.specs.Operands.{arguments_and_seat}
 use Rattle.std.specs.Prelude.{Option}
 

@@ -21,15 +21,15 @@ use Rattle.fm_mean.specs.Names.{ProgramUnit, Point, unit_at}
 use Rattle.fm_mean.specs.Evaluate.{Scope, Reference, Element, Call, Built, Unknown}
 use Rattle.fm_mean.specs.Process.{Frame, Execution, Phase, Running, Joining, Ended, Faulted, Proc}
 use Rattle.fm_map.specs.Placement.{Seat}
-use Rattle.fm_mean.specs.Actions.{Event, Fail, Make, Send, Receive, Probe, Begin, Join, End, Action, Rest, Own, Meets, assigns, prints, tests, loops, adds, loop_turns, calls, returns, sends, sent, closes, closed, moves, probes, probes_at, makes, merges, starts_one, refers, process_calls, action_in, action_of, action_at, action_by, point_action, next_reference, running, joining}
+use Rattle.fm_mean.specs.Actions.{Event, Fail, Make, Send, Receive, Probe, Begin, Join, End, Action, Rest, Own, Meets, assigns, prints, tests, loops, adds, loop_trips, calls, returns, sends, sent, closes, closed, moves, probes, probes_at, makes, merges, starts_one, refers, process_calls, action_in, action_of, action_at, action_by, point_action, next_reference, running, joining}
 use Rattle.fm_mean.specs.Steps.{ask_event, ask_for}
 use Rattle.fm_mean.specs.Outcome.{need_in, need_of}
-use Rattle.fm_frame.specs.declared.frame.Frame as memory
-use Rattle.fm_frame.specs.declared.let_go.LetGo.{LetGo}
-use Rattle.fm_frame.specs.declared.process.PlainProc.{PlainProc}
-use Rattle.fm_frame.specs.declared.process.Phase.TheVariants as phase
-use Rattle.fm_frame.specs.Frames.{frame_of, phase_of, execution_of, proc_of}
-use Rattle.fm_frame.specs.Units.{unit_of}
+use Rattle.fm_plain_frame.specs.declared.frame.Frame as memory
+use Rattle.fm_plain_frame.specs.declared.let_go.LetGo.{LetGo}
+use Rattle.fm_plain_frame.specs.declared.process.PlainProc.{PlainProc}
+use Rattle.fm_plain_frame.specs.declared.process.Phase.TheVariants as phase
+use Rattle.fm_plain_frame.specs.Frames.{frame_of, phase_of, execution_of, proc_of}
+use Rattle.fm_plain_frame.specs.Units.{unit_of}
 use Rattle.fm_plain.specs.declared.event.Event as code
 use Rattle.fm_plain.specs.declared.event.Event.TheVariants as event
 use Rattle.fm_plain.specs.declared.here.Here.{Here}
@@ -67,9 +67,9 @@ adds_free : (w : Execution) (e : Point) (f : Frame) (below : List Frame) (opener
 adds_free w e f below opener body place count by (Err fault) = refl
 adds_free w e f below opener body place count by (Ok n) = refl
 
-pub loop_turns_free : (w : Execution) (e : Point) (f : Frame) (below : List Frame) (opener body : ℕ) (place : Span) (l : Option (ℕ × ℤ)) → goes_free (loop_turns w e f below opener body place l) ≡ true
-loop_turns_free w e f below opener body place None = refl
-loop_turns_free w e f below opener body place (Some l) = adds_free w e f below opener body place l.0 l.1 _
+pub loop_trips_free : (w : Execution) (e : Point) (f : Frame) (below : List Frame) (opener body : ℕ) (place : Span) (l : Option (ℕ × ℤ)) → goes_free (loop_trips w e f below opener body place l) ≡ true
+loop_trips_free w e f below opener body place None = refl
+loop_trips_free w e f below opener body place (Some l) = adds_free w e f below opener body place l.0 l.1 _
 
 pub calls_free : (w : Execution) (e : Point) (f : Frame) (below : List Frame) (u : ℕ × ProgramUnit) (args : Result (List Actual) Fault) → goes_free (calls w e f below (Some u) args) ≡ true
 calls_free w e f below u (Err fault) = refl

@@ -9,13 +9,13 @@ use Rattle.fm_mean.specs.Names.{point_at, unit_at}
 use Rattle.fm_mean.specs.Process as mean
 use Rattle.fm_mean.specs.Process.{Execution, Proc, framed}
 use Rattle.fm_mean.specs.Actions.{Action, Join, Rest, Meets, action_at, action_in, action_of, after_at, joining, next_reference, point_action, running}
-use Rattle.fm_frame.specs.Frames.{execution_of, frames_of, kid_of, phase_of, proc_of}
-use Rattle.fm_frame.specs.Units.{unit_of}
-use Rattle.fm_frame.specs.declared.frame.Frame.{Frame}
-use Rattle.fm_frame.specs.declared.process.Kid.{Kid}
-use Rattle.fm_frame.specs.declared.process.Phase.{Phase}
-use Rattle.fm_frame.specs.declared.process.Phase.TheVariants as phase
-use Rattle.fm_frame.specs.declared.process.PlainProc.{PlainProc}
+use Rattle.fm_plain_frame.specs.Frames.{execution_of, frames_of, kid_of, phase_of, proc_of}
+use Rattle.fm_plain_frame.specs.Units.{unit_of}
+use Rattle.fm_plain_frame.specs.declared.frame.Frame.{Frame}
+use Rattle.fm_plain_frame.specs.declared.process.Kid.{Kid}
+use Rattle.fm_plain_frame.specs.declared.process.Phase.{Phase}
+use Rattle.fm_plain_frame.specs.declared.process.Phase.TheVariants as phase
+use Rattle.fm_plain_frame.specs.declared.process.PlainProc.{PlainProc}
 use Rattle.fm_plain.specs.declared.event.Event.TheVariants as event
 use Rattle.fm_plain.specs.declared.here.Here.{Here}
 use Rattle.fm_plain.specs.declared.local.Acted.{Acted}

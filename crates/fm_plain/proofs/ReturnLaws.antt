@@ -14,12 +14,12 @@ use Rattle.fm_mean.specs.Process as mean
 use Rattle.fm_mean.specs.Process.{Execution, framed, frame_ports, started_ports}
 use Rattle.fm_mean.specs.declared.place.Span.{Span}
 use Rattle.fm_mean.specs.Actions.{Own, gives_back, results_in, scalar_place}
-use Rattle.fm_frame.specs.Frames.{frame_of}
-use Rattle.fm_frame.specs.Memory.{values_of}
-use Rattle.fm_frame.specs.Units.{unit_of}
-use Rattle.fm_frame.specs.declared.frame.Frame.{Frame}
-use Rattle.fm_frame.specs.declared.word.Word.{Word}
-use Rattle.fm_frame.proofs.LeavingLaws.{last_frame}
+use Rattle.fm_plain_frame.specs.Frames.{frame_of}
+use Rattle.fm_plain_frame.specs.Memory.{values_of}
+use Rattle.fm_plain_frame.specs.Units.{unit_of}
+use Rattle.fm_plain_frame.specs.declared.frame.Frame.{Frame}
+use Rattle.fm_plain_frame.specs.declared.word.Word.{Word}
+use Rattle.fm_plain_frame.proofs.LeavingLaws.{last_frame}
 use Rattle.fm_plain.specs.declared.here.Here.{Here}
 use Rattle.fm_plain.specs.Standing.{HasGivenBack, StandsIn, below_of, given_back, program_in, standing}
 use Rattle.fm_plain.proofs.CallLaws.{own_alike, variables_here}

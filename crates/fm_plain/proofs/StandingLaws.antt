@@ -8,8 +8,8 @@ use Rattle.fm_mean.specs.Actions.{Action, action_by, simple_action, statement_ac
 use Rattle.fm_tree.specs.Tree.{Tree}
 use Rattle.fm_tree.specs.declared.statement.Simple.{Simple}
 use Rattle.fm_tree.specs.declared.statement.Stmt.{Stmt}
-use Rattle.fm_frame.specs.Units.{unit_of}
-use Rattle.fm_frame.specs.declared.frame.Frame.{Frame}
+use Rattle.fm_plain_frame.specs.Units.{unit_of}
+use Rattle.fm_plain_frame.specs.declared.frame.Frame.{Frame}
 use Rattle.fm_plain.specs.declared.here.Here.{Here}
 use Rattle.fm_plain.specs.declared.step.Step.{Step}
 use Rattle.fm_plain.specs.Standing.{ActsAt, ActsOn, SitsAt, below_in, frame_in, point_in, program_in, scope_in, standing}

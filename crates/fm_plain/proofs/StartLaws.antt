@@ -16,12 +16,12 @@ use Rattle.fm_mean.specs.Process as mean
 use Rattle.fm_mean.specs.Process.{Execution, framed}
 use Rattle.fm_mean.specs.declared.place.Back.{Back}
 use Rattle.fm_mean.specs.Actions.{Own, at_entry, pended}
-use Rattle.fm_frame.specs.Frames.{frame_of, start_of}
-use Rattle.fm_frame.specs.Memory.{values_of}
-use Rattle.fm_frame.specs.Units.{unit_of}
-use Rattle.fm_frame.specs.declared.frame.Frame.{Frame}
-use Rattle.fm_frame.specs.declared.frame.Start.{Start}
-use Rattle.fm_frame.specs.declared.word.Word.{Word}
+use Rattle.fm_plain_frame.specs.Frames.{frame_of, start_of}
+use Rattle.fm_plain_frame.specs.Memory.{values_of}
+use Rattle.fm_plain_frame.specs.Units.{unit_of}
+use Rattle.fm_plain_frame.specs.declared.frame.Frame.{Frame}
+use Rattle.fm_plain_frame.specs.declared.frame.Start.{Start}
+use Rattle.fm_plain_frame.specs.declared.word.Word.{Word}
 use Rattle.fm_plain.specs.declared.here.Here.{Here}
 use Rattle.fm_plain.specs.Standing.{StandsIn, program_in}
 use Rattle.fm_plain.proofs.CallLaws.{own_alike, set_last, variables_here}

@@ -5,7 +5,7 @@ use Rattle.fm_rules.specs.declared.program.Program.{Program}
 use Rattle.fm_mean.specs.Process.{Proc}
 use Rattle.fm_mean.specs.Actions as action
 use Rattle.fm_mean.specs.Actions.{action_of, local_step}
-use Rattle.fm_frame.specs.LetGo.{let_go_ports}
+use Rattle.fm_plain_frame.specs.LetGo.{let_go_ports}
 use Rattle.fm_plain.specs.declared.advancing.Advanced.{Advanced}
 use Rattle.fm_plain.specs.declared.advancing.Stop.{Stop}
 use Rattle.fm_plain.specs.declared.advancing.Stop.TheVariants.{More, Rest, Event, LetsGo, Short}

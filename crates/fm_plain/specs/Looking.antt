@@ -9,8 +9,8 @@ use Rattle.fm_mean.specs.Process as process
 use Rattle.fm_mean.specs.Actions as mean
 use Rattle.fm_mean.specs.Actions.{Action, action_of}
 use Rattle.fm_mean.specs.Outcome.{need_of}
-use Rattle.fm_frame.specs.declared.frame.Frame.{Frame}
-use Rattle.fm_frame.specs.Frames.{frame_of}
+use Rattle.fm_plain_frame.specs.declared.frame.Frame.{Frame}
+use Rattle.fm_plain_frame.specs.Frames.{frame_of}
 use Rattle.fm_plain.specs.declared.event.Event as code
 use Rattle.fm_plain.specs.declared.event.Event.TheVariants as event
 use Rattle.fm_plain.specs.declared.looking.Next.{Next}

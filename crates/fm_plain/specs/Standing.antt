@@ -11,9 +11,9 @@ use Rattle.fm_mean.specs.Process as process
 use Rattle.fm_mean.specs.Process.{Execution}
 use Rattle.fm_mean.specs.Actions as actions
 use Rattle.fm_mean.specs.Actions.{Action, Loop, at_entry}
-use Rattle.fm_frame.specs.Frames.{frame_of}
-use Rattle.fm_frame.specs.Units.{unit_of}
-use Rattle.fm_frame.specs.declared.frame.Frame.{Frame}
+use Rattle.fm_plain_frame.specs.Frames.{frame_of}
+use Rattle.fm_plain_frame.specs.Units.{unit_of}
+use Rattle.fm_plain_frame.specs.declared.frame.Frame.{Frame}
 use Rattle.fm_plain.specs.declared.here.Here.{Here}
 use Rattle.fm_plain.specs.declared.looping.Loop as code
 use Rattle.fm_plain.specs.declared.looping.Loop.TheVariants as opened

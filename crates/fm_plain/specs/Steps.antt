@@ -9,9 +9,9 @@ use Rattle.fm_mean.specs.Process.{Execution, Frame, Running, Proc, framed}
 use Rattle.fm_mean.specs.Actions as mean
 use Rattle.fm_mean.specs.Actions.{Action, Own, Meets, at_entry, gone_on}
 use Rattle.fm_mean.specs.Evaluate.{Reference, Element, Call, Built, Unknown}
-use Rattle.fm_frame.specs.LetGo.{let_go_ports}
-use Rattle.fm_eval.specs.declared.failure.Failure.{Failure}
-use Rattle.fm_eval.specs.declared.failure.Failure.TheVariants as failure
+use Rattle.fm_plain_frame.specs.LetGo.{let_go_ports}
+use Rattle.fm_plain_eval.specs.declared.failure.Failure.{Failure}
+use Rattle.fm_plain_eval.specs.declared.failure.Failure.TheVariants as failure
 use Rattle.fm_plain.specs.declared.event.Event.TheVariants as event
 use Rattle.fm_plain.specs.declared.step.Step.{Step}
 use Rattle.fm_plain.specs.declared.step.Step.TheVariants as step

@@ -1,13 +1,13 @@
 //! Local steps of a process, one after the other.
 
 ghost use Rattle.std.specs.Prelude.{◌≡◌, IfOk, OnErr};
-ghost use Rattle.fm_frame.specs.Frames.{proc_of};
+ghost use Rattle.fm_plain_frame.specs.Frames.{proc_of};
 ghost use Rattle.fm_plain.specs.Advance.{IsAdvanced};
 
 use crate::event::Event;
 use crate::local::{Acted, act};
 use fm_base::NoMemory;
-use fm_frame::{LetGo, PlainProc};
+use fm_plain_frame::{LetGo, PlainProc};
 use fm_rules::Program;
 use std::alloc::Global;
 

@@ -3,16 +3,16 @@
 ghost use Rattle.std.specs.Prelude.{◌≡◌, IfOk, OnErr};
 ghost use Rattle.fm_mean.specs.Actions.{assigns, prints};
 ghost use Rattle.fm_mean.specs.Evaluate.{place_of, printed_all, refs_in_var, value_of};
-ghost use Rattle.fm_eval.specs.Outcomes.{IsDone};
+ghost use Rattle.fm_plain_eval.specs.Outcomes.{IsDone};
 ghost use Rattle.fm_plain.specs.Operands.{target_and_value};
 ghost use Rattle.fm_plain.specs.Standing.{ActsOn, StandsIn, frame_in, point_in, scope_in};
 
 use crate::here::Here;
 use crate::step::{Step, failed};
 use fm_base::NoMemory;
-use fm_eval::{Failure, line, place, value};
-use fm_frame::Frame;
 use fm_mean::Span;
+use fm_plain_eval::{Failure, line, place, value};
+use fm_plain_frame::Frame;
 use fm_tree::{Expr, Item, Var};
 use fm_values::Value;
 use std::alloc::Global;

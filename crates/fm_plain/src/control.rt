@@ -3,14 +3,14 @@
 ghost use Rattle.std.specs.Prelude.{◌≡◌, IfOk, OnErr};
 ghost use Rattle.fm_mean.specs.Actions.{goes_to, jumps, tests};
 ghost use Rattle.fm_mean.specs.Evaluate.{value_of};
-ghost use Rattle.fm_eval.specs.Outcomes.{IsDone};
+ghost use Rattle.fm_plain_eval.specs.Outcomes.{IsDone};
 ghost use Rattle.fm_plain.specs.Standing.{ActsOn, StandsIn, frame_in, point_in, scope_in};
 
 use crate::here::{Here, go_to};
 use crate::step::{Step, failed};
 use fm_base::NoMemory;
-use fm_eval::{Failure, value};
-use fm_frame::Frame;
+use fm_plain_eval::{Failure, value};
+use fm_plain_frame::Frame;
 use fm_tree::Expr;
 use fm_values::Value;
 use std::alloc::Global;

@@ -7,18 +7,17 @@ ghost use Rattle.fm_mean.specs.Actions as actions;
 ghost use Rattle.fm_mean.specs.Actions.{at_entry};
 ghost use Rattle.fm_mean.specs.Names.{unit_at, point_at};
 ghost use Rattle.fm_mean.specs.Places.{port_at, put_port, written};
-ghost use Rattle.fm_frame.specs.Frames.{frame_of};
-ghost use Rattle.fm_frame.specs.Units.{unit_of};
-ghost use Rattle.fm_eval.specs.Scopes.{scope_of};
+ghost use Rattle.fm_plain_frame.specs.Frames.{frame_of};
+ghost use Rattle.fm_plain_frame.specs.Units.{unit_of};
+ghost use Rattle.fm_plain_eval.specs.Scopes.{scope_of};
 ghost use Rattle.fm_plain.specs.Standing.{StandsIn, StandsAt, frame_in, scope_in};
 
 use fm_base::{Line, Machine, PortValue};
-use fm_eval::Scope;
-use fm_frame::memory::{exchange, port_at, put_number};
-use fm_frame::{Frame, UnitView};
-use fm_links::EntryLinks;
 use fm_mean::Span;
-use fm_rules::Program;
+use fm_plain_eval::Scope;
+use fm_plain_frame::memory::{exchange, port_at, put_number};
+use fm_plain_frame::{Frame, UnitView};
+use fm_rules::{EntryLinks, Program};
 use fm_tree::Entry;
 
 /// Where a process is: its unit, its entry and where that leads besides, its machine and its node.

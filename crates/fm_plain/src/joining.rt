@@ -4,7 +4,7 @@ ghost use Rattle.std.specs.Prelude.{◌≡◌};
 ghost use Rattle.fm_mean.specs.Actions.{after_at};
 ghost use Rattle.fm_mean.specs.Names.{unit_at};
 
-use fm_frame::{Frame, UnitView};
+use fm_plain_frame::{Frame, UnitView};
 use fm_rules::Program;
 
 /// The entry behind the one at which a frame is, or 0 where it is at none.

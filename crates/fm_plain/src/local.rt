@@ -6,8 +6,8 @@ ghost use Rattle.std.specs.Option.{option_copied};
 ghost use Rattle.fm_mean.specs.Actions.{Action, action_by, action_of, next_reference, running};
 ghost use Rattle.fm_mean.specs.Process as mean;
 ghost use Rattle.fm_mean.specs.Process.{Execution, Proc};
-ghost use Rattle.fm_frame.specs.Frames.{execution_of, frame_of, phase_of, proc_of};
-ghost use Rattle.fm_frame.specs.Units.{unit_of};
+ghost use Rattle.fm_plain_frame.specs.Frames.{execution_of, frame_of, phase_of, proc_of};
+ghost use Rattle.fm_plain_frame.specs.Units.{unit_of};
 ghost use Rattle.fm_plain.specs.Standing.{SitsAt, StandsIn, below_in, frame_in, point_in, program_in, standing, IsRaised};
 ghost use Rattle.fm_plain.specs.Steps.{IsActed, IsStep, runs_with};
 
@@ -18,10 +18,10 @@ use crate::joining::after_at;
 use crate::statements::statement;
 use crate::step::Step;
 use fm_base::{NoMemory, Seq};
-use fm_frame::{Frame, LetGo, Phase, PlainProc};
-use fm_reference::reference_at;
+use fm_plain_frame::{Frame, LetGo, Phase, PlainProc};
 use fm_rules::Program;
 use fm_tree::{Entry, Expr};
+use fm_tree_reference::reference_at;
 use std::alloc::Global;
 
 /// What a step was.

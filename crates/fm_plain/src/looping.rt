@@ -2,21 +2,21 @@
 
 ghost use Rattle.std.specs.Prelude.{◌≡◌, pred, slice_get, IfOk, OnErr};
 ghost use Rattle.std.specs.FinMap as finite;
-ghost use Rattle.fm_mean.specs.Actions.{adds, end_by, end_of, ends_loop, loop_bounds, loop_end, loop_of, loop_turns, loops, scalar_place};
+ghost use Rattle.fm_mean.specs.Actions.{adds, end_by, end_of, ends_loop, loop_bounds, loop_end, loop_of, loop_trips, loops, scalar_place};
 ghost use Rattle.fm_mean.specs.Names.{variable_of};
-ghost use Rattle.fm_frame.specs.Frames.{trips_left, turns_of};
-ghost use Rattle.fm_frame.specs.Units.{unit_of, variable_read};
-ghost use Rattle.fm_eval.specs.Outcomes.{IsDone};
+ghost use Rattle.fm_plain_frame.specs.Frames.{trips_left, trips_of};
+ghost use Rattle.fm_plain_frame.specs.Units.{unit_of, variable_read};
+ghost use Rattle.fm_plain_eval.specs.Outcomes.{IsDone};
 ghost use Rattle.fm_plain.specs.Standing.{ActsOn, StandsIn, frame_in, loop_read, point_in, scope_in};
 
 use crate::control::goes_to;
 use crate::here::Here;
 use crate::step::{Step, failed, fails};
 use fm_base::{Name, NoMemory};
-use fm_eval::{Failure, loop_bounds};
-use fm_frame::memory::number_at;
-use fm_frame::{Frame, Turns};
 use fm_mean::Span;
+use fm_plain_eval::{Failure, loop_bounds};
+use fm_plain_frame::memory::number_at;
+use fm_plain_frame::{Frame, Trips};
 use fm_symbols::Variable;
 use fm_tree::{Entry, LoopHead, Stmt};
 use fm_values::{add, trips_behind};
@@ -60,7 +60,7 @@ fn begin(
                 here.links.other
             };
             let by = bounds.2;
-            top.set_turns(top.entry, Turns { behind, by })?;
+            top.set_trips(top.entry, Trips { behind, by })?;
             here.put_number(top, place, bounds.0, next);
             Ok(Step::Made(1))
         }
@@ -138,38 +138,38 @@ fn adds(
     top: &mut Frame,
     end: LoopEnd,
     place: Span,
-    turns: Turns,
+    trips: Trips,
 ) -> Result<Step, NoMemory>
     requires { StandsIn here.now top.old }
-    ensures acts { IfOk result (λ r. ActsOn here.now (λ w below. loop_turns w (point_in here.now) (frame_in here.now top.old) below end.opener end.body place (Some (turns_of turns))) top.old r top.new) }
+    ensures acts { IfOk result (λ r. ActsOn here.now (λ w below. loop_trips w (point_in here.now) (frame_in here.now top.old) below end.opener end.body place (Some (trips_of trips))) top.old r top.new) }
     ensures err { OnErr result (frame_in here.now top.new ≡ frame_in here.now top.old) }
 {
     let word = number_at(top.memory.as_slice(), here.unit.variables(), place);
-    match add(word, turns.by) {
+    match add(word, trips.by) {
         Err(fault) => Ok(fails(here.line(), fault)),
         Ok(sum) => {
-            let behind = one_less(turns.behind);
+            let behind = one_less(trips.behind);
             let next = if behind.is_some() {
                 end.body
             } else {
                 here.entry.after
             };
-            let by = turns.by;
-            top.set_turns(end.opener, Turns { behind, by })?;
+            let by = trips.by;
+            top.set_trips(end.opener, Trips { behind, by })?;
             here.put_number(top, place, sum, next);
             Ok(Step::Made(1))
         }
     }
 }
 
-fn loop_turns(here: &Here<'_>, top: &mut Frame, end: LoopEnd, place: Span) -> Result<Step, NoMemory>
+fn loop_trips(here: &Here<'_>, top: &mut Frame, end: LoopEnd, place: Span) -> Result<Step, NoMemory>
     requires { StandsIn here.now top.old }
-    ensures acts { IfOk result (λ r. ActsOn here.now (λ w below. loop_turns w (point_in here.now) (frame_in here.now top.old) below end.opener end.body place (finite.get (frame_in here.now top.old).loops end.opener)) top.old r top.new) }
+    ensures acts { IfOk result (λ r. ActsOn here.now (λ w below. loop_trips w (point_in here.now) (frame_in here.now top.old) below end.opener end.body place (finite.get (frame_in here.now top.old).loops end.opener)) top.old r top.new) }
     ensures err { OnErr result (frame_in here.now top.new ≡ frame_in here.now top.old) }
 {
-    match top.turns_at(end.opener) {
+    match top.trips_at(end.opener) {
         None => Ok(goes_to(here, top, here.entry.after)),
-        Some(turns) => adds(here, top, end, place, turns),
+        Some(trips) => adds(here, top, end, place, trips),
     }
 }
 
@@ -186,14 +186,14 @@ fn ends_loop(
     match opened {
         Loop::Counted(name) => {
             let place = scalar_place(here.unit.variable(name));
-            loop_turns(here, top, end, place)
+            loop_trips(here, top, end, place)
         }
         Loop::While => Ok(goes_to(here, top, end.opener)),
         Loop::NoLoop => Ok(Step::Rest),
     }
 }
 
-/// The end of a loop turns it, or goes back to the test of a DOWHILE.
+/// The end of a loop ends a trip of it, or goes back to the test of a DOWHILE.
 pub(crate) fn loop_end(here: &Here<'_>, top: &mut Frame) -> Result<Step, NoMemory>
     requires { StandsIn here.now top.old }
     ensures acts { IfOk result (λ r. ActsOn here.now (λ w below. loop_end w (unit_of here.now.unit) (point_in here.now) (frame_in here.now top.old) below) top.old r top.new) }

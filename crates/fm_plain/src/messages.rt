@@ -5,8 +5,8 @@ ghost use Rattle.std.specs.Option.{option_copied};
 ghost use Rattle.fm_tree.specs.Tree.{trees_from};
 ghost use Rattle.fm_mean.specs.Actions.{channel_places, elements_from, elements_of, iostat_of, makes, merger_places, merges, probes, probes_at, receive_places, receives, receives_at, sends, sent, two_places};
 ghost use Rattle.fm_mean.specs.Evaluate.{actuals_of, place_of, refs_in_var};
-ghost use Rattle.fm_eval.specs.Outcomes.{IsDone};
-ghost use Rattle.fm_eval.specs.Scopes.{scope_of};
+ghost use Rattle.fm_plain_eval.specs.Outcomes.{IsDone};
+ghost use Rattle.fm_plain_eval.specs.Scopes.{scope_of};
 ghost use Rattle.fm_plain.specs.Operands.{port_and_items};
 ghost use Rattle.fm_plain.specs.Standing.{ActsOn, StandsIn, frame_in, point_in, scope_in};
 
@@ -15,9 +15,9 @@ use crate::here::Here;
 use crate::ports::two_places;
 use crate::step::{Step, failed, fails};
 use fm_base::{Fault, NoMemory, PortValue, Seq};
-use fm_eval::{Failure, Scope, actuals, place, places};
-use fm_frame::Frame;
 use fm_mean::{Actual, Span};
+use fm_plain_eval::{Failure, Scope, actuals, place, places};
+use fm_plain_frame::Frame;
 use fm_tree::{Expr, Extra, Var};
 use std::alloc::Global;
 

@@ -3,15 +3,15 @@
 ghost use Rattle.std.specs.Prelude.{◌≡◌, ◌∷◌, [], Ok, None, IfOk, OnErr};
 ghost use Rattle.fm_mean.specs.Actions.{closes, moves, two_places};
 ghost use Rattle.fm_mean.specs.Evaluate.{place_of};
-ghost use Rattle.fm_eval.specs.Outcomes.{IsDone};
+ghost use Rattle.fm_plain_eval.specs.Outcomes.{IsDone};
 ghost use Rattle.fm_plain.specs.Standing.{ActsOn, StandsIn, frame_in, point_in, scope_in};
 
 use crate::here::{Here, go_to};
 use crate::step::{Step, failed, fails, lets_go, put_out};
 use fm_base::{Fault, NoMemory, PortValue};
-use fm_eval::{Failure, place};
-use fm_frame::Frame;
 use fm_mean::Span;
+use fm_plain_eval::{Failure, place};
+use fm_plain_frame::Frame;
 use fm_tree::Var;
 use std::alloc::Global;
 

@@ -8,8 +8,8 @@ ghost use Rattle.fm_mean.specs.Calls.{backs_of, entered};
 ghost use Rattle.fm_mean.specs.Evaluate.{actuals_of, refs_in_all};
 ghost use Rattle.fm_mean.specs.Names.{unit_named};
 ghost use Rattle.fm_map.specs.Placement.{fitted};
-ghost use Rattle.fm_frame.specs.Units.{unit_of};
-ghost use Rattle.fm_eval.specs.Outcomes.{IsDone};
+ghost use Rattle.fm_plain_frame.specs.Units.{unit_of};
+ghost use Rattle.fm_plain_eval.specs.Outcomes.{IsDone};
 ghost use Rattle.fm_plain.specs.Operands.{arguments_and_seat};
 ghost use Rattle.fm_plain.specs.Standing.{ActsAt, ActsOn, StandsIn, frame_in, point_in, program_in, scope_in};
 
@@ -17,10 +17,10 @@ use crate::calling::frame_cost;
 use crate::here::{Here, go_to};
 use crate::step::{Step, failed, lets_go, put_out};
 use fm_base::{Machine, Name, NoMemory, Seq};
-use fm_eval::{Failure, actuals, seat};
-use fm_frame::{Frame, Start, UnitView, unit_named};
 use fm_mean::Actual;
-use fm_passing::{backs_of, enter};
+use fm_plain_eval::{Failure, actuals, seat};
+use fm_plain_frame::{Frame, Start, UnitView, unit_named};
+use fm_plain_passing::{backs_of, enter};
 use fm_tree::{CallPart, Expr, Where};
 use std::alloc::Global;
 

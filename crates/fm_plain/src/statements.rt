@@ -3,7 +3,7 @@
 ghost use Rattle.std.specs.Prelude.{◌≡◌, IfOk, OnErr};
 ghost use Rattle.fm_mean.specs.Actions.{simple_action, statement_action};
 ghost use Rattle.fm_mean.specs.Process.{Execution};
-ghost use Rattle.fm_frame.specs.Units.{unit_of};
+ghost use Rattle.fm_plain_frame.specs.Units.{unit_of};
 ghost use Rattle.fm_plain.specs.Standing.{SitsAt, StandsIn, below_in, frame_in, point_in, program_in, scope_in, standing};
 ghost use Rattle.fm_plain.specs.Steps.{IsStep};
 
@@ -19,7 +19,7 @@ use crate::returning::returns;
 use crate::starting::{arguments_in, process_calls, where_in};
 use crate::step::Step;
 use fm_base::NoMemory;
-use fm_frame::Frame;
+use fm_plain_frame::Frame;
 use fm_tree::{Simple, Stmt};
 use std::alloc::Global;
 

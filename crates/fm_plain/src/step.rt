@@ -5,9 +5,9 @@ ghost use Rattle.fm_mean.specs.Actions.{Action, Own};
 ghost use Rattle.fm_mean.specs.Places.{live};
 ghost use Rattle.fm_mean.specs.Process as mean;
 ghost use Rattle.fm_mean.specs.Process.{Execution, frame_ports, framed};
-ghost use Rattle.fm_frame.specs.Frames.{frame_of};
+ghost use Rattle.fm_plain_frame.specs.Frames.{frame_of};
 ghost use Rattle.fm_rules.specs.declared.program.Program as declared;
-ghost use Rattle.fm_frame.specs.LetGo.{let_go_ports};
+ghost use Rattle.fm_plain_frame.specs.LetGo.{let_go_ports};
 ghost use Rattle.fm_plain.specs.declared.event.Event.TheVariants as event;
 ghost use Rattle.fm_plain.specs.declared.step.Step.TheVariants as step;
 ghost use Rattle.fm_plain.specs.Standing.{program_in};
@@ -16,8 +16,8 @@ ghost use Rattle.fm_plain.specs.Steps.{IsFailed, IsStep};
 use crate::event::Event;
 use crate::here::Here;
 use fm_base::{Fault, Line, NoMemory, PortValue, Seq};
-use fm_eval::Failure;
-use fm_frame::{Frame, LetGo};
+use fm_plain_eval::Failure;
+use fm_plain_frame::{Frame, LetGo};
 use std::alloc::Global;
 
 /// What the next step of a process is.

@@ -3,8 +3,8 @@ use Rattle.std.proofs.Common.{◌≡◌, ◌⊎◌, inl, inr, Bool, false, List,
 use Rattle.std.proofs.Math.Nat.{suc-ne-zero}
 use Rattle.fm_symbols.specs.declared.names.UnitNames.{UnitNames}
 use Rattle.fm_symbols.specs.declared.symbol.Formal.{Formal}
-use Rattle.fm_typing.specs.declared.typing.ExprType.{ExprType}
-use Rattle.fm_ports.specs.Fitting.{break_formals}
+use Rattle.fm_rules.specs.declared.typing.ExprType.{ExprType}
+use Rattle.fm_rules.specs.PortFitting.{break_formals}
 
 none_broken : {X : Type 0} (callee n : UnitNames) (f : X → ExprType) (xs : List X) (fs : List Formal) → (length xs ≡ 0) ⊎ (length fs ≡ 0) → break_formals callee n (map f xs) fs ≡ false
 none_broken callee n f [] fs e = refl

@@ -4,8 +4,8 @@ use Rattle.std.proofs.Math.Seq.{drop-cons}
 use Rattle.fm_tree.specs.PortReading.{fields_of, kind_of}
 use Rattle.fm_tree.specs.declared.port_type.Field.{Field}
 use Rattle.fm_symbols.specs.declared.names.UnitNames.{UnitNames}
-use Rattle.fm_typing.specs.declared.typing.ExprType.{ExprType}
-use Rattle.fm_ports.specs.Fitting.{fit_fields, fits_field}
+use Rattle.fm_rules.specs.declared.typing.ExprType.{ExprType}
+use Rattle.fm_rules.specs.PortFitting.{fit_fields, fits_field}
 
 and_false : (b : Bool) → false ≡ (b && false)
 and_false true = refl

@@ -1,4 +1,3 @@
 pub mod Items
 pub mod Formals
 pub mod Walks
-pub mod Any

@@ -11,7 +11,7 @@ use Rattle.fm_tree.specs.declared.program_unit.Unit as program
 use Rattle.fm_symbols.specs.declared.context.Context.{Context}
 use Rattle.fm_symbols.specs.declared.context.Scope.{Scope}
 use Rattle.fm_symbols.specs.declared.names.UnitNames.{UnitNames}
-use Rattle.fm_ports.specs.Broken.{broken_at, broken_body, broken_from, broken_unit}
+use Rattle.fm_rules.specs.BrokenPorts.{broken_at, broken_body, broken_from, broken_unit}
 
 -- one more entry
 pub entry_next :

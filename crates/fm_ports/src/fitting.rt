@@ -4,11 +4,11 @@ ghost use Rattle.std.specs.Prelude.{◌≡◌, option_map};
 ghost use Rattle.std.specs.List.{slice_get};
 ghost use Rattle.fm_tree.specs.PortReading.{kind_of};
 ghost use Rattle.fm_tree.specs.Same.{same_kind};
-ghost use Rattle.fm_ports.specs.Fitting.{fits_field, fits_formal, goes, has_elements, is_array_in, is_as_long, is_kind_of, is_one_port, is_port_to, is_scalar, is_scalar_kind, is_whole, lacks_port, lacks_ports, message_in, message_of, messages_differ, number_in, port_variable, ports_differ};
+ghost use Rattle.fm_rules.specs.PortFitting.{fits_field, fits_formal, goes, has_elements, is_array_in, is_as_long, is_kind_of, is_one_port, is_port_to, is_scalar, is_scalar_kind, is_whole, lacks_port, lacks_ports, message_in, message_of, messages_differ, number_in, port_variable, ports_differ};
 
+use fm_rules::ExprType;
 use fm_symbols::{Direction, Scalar, UnitNames, Variable};
 use fm_tree::{Bound, Expr, ExprNode, Field, Kind, PortType};
-use fm_typing::ExprType;
 
 pub(crate) fn variable_at(names: &UnitNames, place: u32) -> Option<&Variable>
     ensures { option_map (λ v. v.now) result ≡ slice_get names.now.variables place }

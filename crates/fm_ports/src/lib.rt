@@ -4,7 +4,6 @@
 mod fitting;
 mod judged;
 mod lookup;
-mod references;
 mod rules;
 mod walk;
 

@@ -1,13 +1,13 @@
 //! The parts of statements.
 
 ghost use Rattle.std.specs.Prelude.{◌≡◌, option_map, [], length};
-ghost use Rattle.fm_ports.specs.Rules.{actuals_in, actuals_or, call_in, call_in_simple, location_by, location_in, rank, simple_in, values_in};
+ghost use Rattle.fm_rules.specs.PortRules.{actuals_in, actuals_or, call_in, call_in_simple, location_by, location_in, rank, simple_in, values_in};
 
 use fm_base::{Name, Seq};
 use fm_tree::{CallPart, Expr, Simple, Stmt, Where};
 
 // The statement of an entry that may stand behind a logical IF.
-#[tactic(auto, unfolding(crate::specs::Rules::simple_in))]
+#[tactic(auto, unfolding(fm_rules::specs::PortRules::simple_in))]
 pub(crate) fn simple_in(stmt: &Stmt) -> Option<&Simple>
     ensures { option_map (λ x. x.now) result ≡ simple_in stmt.now }
 {
@@ -35,7 +35,7 @@ fn actuals_in(part: &Option<CallPart>) -> &[Expr]
     }
 }
 
-#[tactic(auto, unfolding(crate::specs::Rules::call_in_simple))]
+#[tactic(auto, unfolding(fm_rules::specs::PortRules::call_in_simple))]
 fn call_in_simple(simple: &Simple) -> Option<(&Name, &[Expr])>
     ensures { option_map (λ x. (x.0.now, x.1.now)) result ≡ call_in_simple simple.now }
 {
@@ -46,7 +46,7 @@ fn call_in_simple(simple: &Simple) -> Option<(&Name, &[Expr])>
 }
 
 // The subroutine or the process that is called, with its actuals.
-#[tactic(auto, unfolding(crate::specs::Rules::call_in))]
+#[tactic(auto, unfolding(fm_rules::specs::PortRules::call_in))]
 pub(crate) fn call_in(stmt: &Stmt) -> Option<(&Name, &[Expr])>
     ensures { option_map (λ x. (x.0.now, x.1.now)) result ≡ call_in stmt.now }
 {
@@ -77,7 +77,7 @@ fn location_by(part: &Option<CallPart>) -> Option<&[Expr]>
 }
 
 // The values of a LOCATION.
-#[tactic(auto, unfolding(crate::specs::Rules::location_in))]
+#[tactic(auto, unfolding(fm_rules::specs::PortRules::location_in))]
 pub(crate) fn location_in(stmt: &Stmt) -> Option<&[Expr]>
     ensures { option_map (λ x. x.now) result ≡ location_in stmt.now }
 {

@@ -6,9 +6,9 @@ ghost use Rattle.std.specs.FinMap.{get};
 ghost use Rattle.std.specs.List.{slice_get};
 ghost use Rattle.fm_symbols.specs.declared.symbol.Direction.TheVariants.{Out};
 ghost use Rattle.fm_tree.specs.PortReading.{fields_of};
-ghost use Rattle.fm_ports.specs.Judged.{type_of, variable_type};
-ghost use Rattle.fm_ports.specs.Fitting.{break_formals, breaks_formal, fit_fields, lacks_ports, messages_differ};
-ghost use Rattle.fm_ports.specs.Rules.{actuals_break, breaks_call, breaks_fields, breaks_message, breaks_move, breaks_rank, breaks_type, breaks_unit, call_in, in_simple, lacks_direction, location_in, message_at, simple_in};
+ghost use Rattle.fm_rules.specs.JudgedStatements.{type_of, variable_type};
+ghost use Rattle.fm_rules.specs.PortFitting.{break_formals, breaks_formal, fit_fields, lacks_ports, messages_differ};
+ghost use Rattle.fm_rules.specs.PortRules.{actuals_break, breaks_call, breaks_fields, breaks_message, breaks_move, breaks_rank, breaks_type, breaks_unit, call_in, in_simple, lacks_direction, location_in, message_at, simple_in};
 
 use crate::fitting::{
     fits_field, fits_formal, is_one_port, lacks_port, lacks_ports, message_of, messages_differ,
@@ -16,9 +16,9 @@ use crate::fitting::{
 };
 use crate::judged::{Site, type_of, variable_type};
 use crate::lookup::{call_in, location_in, rank, simple_in};
+use fm_rules::ExprType;
 use fm_symbols::{Direction, Formal, UnitNames};
 use fm_tree::{Expr, Field, PortType, Simple, Stmt, Var};
-use fm_typing::ExprType;
 
 fn lack_outports(site: &Site, ports: &[Var]) -> bool
     ensures { result ≡ list_any (λ v. lacks_ports Out site.now.names.now (variable_type site.now.context.now site.now.scope.now v)) ports.now }
@@ -31,7 +31,7 @@ fn lack_outports(site: &Site, ports: &[Var]) -> bool
     false
 }
 
-#[tactic(auto, unfolding(crate::specs::Rules::lacks_direction))]
+#[tactic(auto, unfolding(fm_rules::specs::PortRules::lacks_direction))]
 fn lacks_direction(site: &Site, simple: &Simple) -> bool
     ensures { result ≡ lacks_direction site.now.names.now site.now.context.now site.now.scope.now simple.now }
 {
@@ -114,17 +114,17 @@ fn message_at<'a>(site: &Site<'a>, port: &Var) -> Option<&'a PortType>
     message_of(port_variable(site.names, variable_type(site, port)))
 }
 
-#[tactic(auto, unfolding(crate::specs::Rules::breaks_message))]
+#[tactic(auto, unfolding(fm_rules::specs::PortRules::breaks_message))]
 fn breaks_message(site: &Site, simple: &Simple) -> bool
     ensures { result ≡ breaks_message site.now.names.now site.now.context.now site.now.scope.now simple.now }
 {
     match simple {
         Simple::Send { port, items, .. } => match message_at(site, port) {
-            Some(message) => { !expressions_fit(site, items.as_slice(), message.fields.as_slice()) }
+            Some(message) => { !expressions_fit(site, items.as_slice(), message.as_slice()) }
             None => false,
         },
         Simple::Receive { port, items, .. } => match message_at(site, port) {
-            Some(message) => { !variables_fit(site, items.as_slice(), message.fields.as_slice()) }
+            Some(message) => { !variables_fit(site, items.as_slice(), message.as_slice()) }
             None => false,
         },
         _ => false,
@@ -150,7 +150,7 @@ fn outports_differ(site: &Site, message: Option<&PortType>, ports: &[Var]) -> bo
     false
 }
 
-#[tactic(auto, unfolding(crate::specs::Rules::breaks_type))]
+#[tactic(auto, unfolding(fm_rules::specs::PortRules::breaks_type))]
 fn breaks_type(site: &Site, simple: &Simple) -> bool
     ensures { result ≡ breaks_type site.now.names.now site.now.context.now site.now.scope.now simple.now }
 {
@@ -174,8 +174,7 @@ fn breaks_type(site: &Site, simple: &Simple) -> bool
     }
 }
 
-// A formal that is a port, by the names of its unit, and an actual that doesn't fit it. No other actual is judged again, so
-// that references in references cost no more than their text.
+// A formal that is a port, by the names of its unit, and an actual that doesn't fit it. No other actual is judged again.
 fn breaks_formal(callee: &UnitNames, site: &Site, actual: &Expr, formal: Formal) -> bool
     ensures { result ≡ breaks_formal callee.now site.now.names.now (type_of site.now.context.now site.now.scope.now actual.now) formal }
 {
@@ -200,7 +199,7 @@ fn break_formals(callee: &UnitNames, site: &Site, actuals: &[Expr], formals: &[F
     false
 }
 
-pub(crate) fn breaks_unit(site: &Site, actuals: &[Expr], unit: u32) -> bool
+fn breaks_unit(site: &Site, actuals: &[Expr], unit: u32) -> bool
     ensures { result ≡ actuals_break site.now.names.now (map (type_of site.now.context.now site.now.scope.now) actuals.now) (slice_get site.now.all.now.units unit) (slice_get site.now.context.now.scopes unit) }
 {
     let callee = site.all.units.as_slice().get(unit as usize);

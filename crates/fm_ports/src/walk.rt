@@ -3,10 +3,9 @@
 ghost use Rattle.std.specs.Prelude.{◌≡◌, Contains, option_map};
 ghost use Rattle.std.specs.List.{slice_get};
 ghost use Rattle.fm_base.specs.Verdict.{IsVerdict, least, least_from, place, when};
-ghost use Rattle.fm_ports.specs.Broken.{broken_at, broken_body, broken_from, broken_ports, broken_unit};
+ghost use Rattle.fm_rules.specs.BrokenPorts.{broken_at, broken_body, broken_from, broken_ports, broken_unit};
 
 use crate::judged::{Site, has_stray_port};
-use crate::references::breaks_references;
 use crate::rules::{
     breaks_call, breaks_rank, has_wrong_direction, has_wrong_message, has_wrong_type,
 };
@@ -39,8 +38,6 @@ fn statement(site: &Site, entry: &Entry, best: Option<Refusal>) -> Option<Refusa
     let best = keep_if(best, kind, line, Rule::E53);
     let call = breaks_call(site, stmt);
     let best = keep_if(best, call, line, Rule::E53);
-    let reference = breaks_references(site, stmt);
-    let best = keep_if(best, reference, line, Rule::E53);
     keep_if(best, breaks_rank(site.names, stmt), line, Rule::E54)
 }
 

@@ -7,16 +7,16 @@ use Rattle.fm_base.specs.Channels.{Chans}
 use Rattle.fm_code.specs.declared.ask.Ask.TheVariants as ask
 use Rattle.fm_code.specs.declared.body.Body.{Body}
 use Rattle.fm_code.specs.declared.body.Start.{Start}
-use Rattle.fm_calling.specs.declared.looking.Look.TheVariants.{Asks}
+use Rattle.fm_machine_calls.specs.declared.looking.Look.TheVariants.{Asks}
 use Rattle.fm_discards.proofs.Shedding.{all_shed-nil}
 use Rattle.fm_net.specs.Machine.{Place, Nothing, reply_with}
-use Rattle.fm_bodies.specs.Slots.{Slots}
-use Rattle.fm_bodies.specs.Processes.{CodeProc, Kid, Joining, kid_of, child_of, children_of, began}
+use Rattle.fm_proc_language.specs.Slots.{Slots}
+use Rattle.fm_proc_language.specs.Processes.{CodeProc, Kid, Joining, kid_of, child_of, children_of, began}
 use Rattle.fm_proc.specs.declared.beginning.Draft.{Draft}
 use Rattle.fm_proc.specs.Drafts.{IsReady, blank, child_in, begun, all_begun}
-use Rattle.fm_events.specs.Told.{look_of, is_running}
-use Rattle.fm_events.specs.Performs.{Performs}
-use Rattle.fm_events.proofs.Asked.{asks_running}
+use Rattle.fm_proc_events.specs.Told.{look_of, is_running}
+use Rattle.fm_proc_events.specs.Performs.{Performs}
+use Rattle.fm_proc_events.proofs.Asked.{asks_running}
 
 -- The children.
 

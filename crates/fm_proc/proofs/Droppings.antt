@@ -12,10 +12,10 @@ use Rattle.fm_code.specs.declared.code.Span.{Span}
 use Rattle.fm_code.specs.Acts.{span_of}
 use Rattle.fm_code.specs.Passing.{is_port, live, ports_in}
 use Rattle.fm_code.specs.Statements.{ports_of}
-use Rattle.fm_bodies.specs.Slots.{Slots, all_left, vacated}
-use Rattle.fm_bodies.specs.Processes.{frame_words}
-use Rattle.fm_slots.specs.Joins.{SamePorts}
-use Rattle.fm_slots.proofs.Vacated.{same_vacated, vacated-append}
+use Rattle.fm_proc_language.specs.Slots.{Slots, all_left, vacated}
+use Rattle.fm_proc_language.specs.Processes.{frame_words}
+use Rattle.fm_proc_slots.specs.Joins.{SamePorts}
+use Rattle.fm_proc_slots.proofs.Vacated.{same_vacated, vacated-append}
 use Rattle.fm_proc.specs.Rooms.{Sheds, frame_room, frames_room, words_by}
 
 -- One after the other.

@@ -10,26 +10,26 @@ use Rattle.fm_code.specs.declared.body.Back.{Back}
 use Rattle.fm_code.specs.declared.body.Body.{Body}
 use Rattle.fm_code.specs.Passing.{back_words}
 use Rattle.fm_code.specs.Statements.{at_statement, left_ports, with_words}
-use Rattle.fm_calling.specs.declared.looking.Look.TheVariants.{Asks}
+use Rattle.fm_machine_calls.specs.declared.looking.Look.TheVariants.{Asks}
 use Rattle.fm_net.specs.Machine.{Place}
-use Rattle.fm_bodies.specs.Slots.{Slots, vacated}
-use Rattle.fm_bodies.specs.Frames.{Held, Joined}
-use Rattle.fm_bodies.specs.Processes.{CodeProc, Kid, Running, given_back, rest_dropped, kid_back, kids_back, joining_words, joined, holding, frame_words}
-use Rattle.fm_slots.specs.declared.joining.Gains.{Gains}
-use Rattle.fm_slots.specs.declared.joining.Child.{Child}
-use Rattle.fm_slots.specs.Helds.{held}
-use Rattle.fm_slots.specs.Joins as by
-use Rattle.fm_slots.specs.Joins.{GivesAlike, GivesSo, HasRoomFor, LeavesRoomFor}
-use Rattle.fm_slots.specs.Rooms.{slots_in}
-use Rattle.fm_slots.proofs.RoomLaws.{fewer}
-use Rattle.fm_slots.proofs.Roomy.{room_within}
-use Rattle.fm_slots.proofs.Vacated.{same_vacated}
+use Rattle.fm_proc_language.specs.Slots.{Slots, vacated}
+use Rattle.fm_proc_language.specs.Frames.{Held, Joined}
+use Rattle.fm_proc_language.specs.Processes.{CodeProc, Kid, Running, given_back, rest_dropped, kid_back, kids_back, joining_words, joined, holding, frame_words}
+use Rattle.fm_proc_slots.specs.declared.joining.Gains.{Gains}
+use Rattle.fm_proc_slots.specs.declared.joining.Child.{Child}
+use Rattle.fm_proc_slots.specs.Helds.{held}
+use Rattle.fm_proc_slots.specs.Joins as by
+use Rattle.fm_proc_slots.specs.Joins.{GivesAlike, GivesSo, HasRoomFor, LeavesRoomFor}
+use Rattle.fm_proc_slots.specs.Rooms.{slots_in}
+use Rattle.fm_proc_slots.proofs.RoomLaws.{fewer}
+use Rattle.fm_proc_slots.proofs.Roomy.{room_within}
+use Rattle.fm_proc_slots.proofs.Vacated.{same_vacated}
 use Rattle.fm_proc.specs.declared.joining.OpenJoin.{OpenJoin}
 use Rattle.fm_proc.specs.Lefts.{left_by}
-use Rattle.fm_events.specs.Performs.{Joins}
+use Rattle.fm_proc_events.specs.Performs.{Joins}
 use Rattle.fm_proc.specs.Gains.{alone, gained, mine_of, first_kid, other_kids, lefts_back}
 use Rattle.fm_proc.specs.Joinings.{HasJoined, HasRoomToJoin, kids_of}
-use Rattle.fm_events.proofs.Asked.{asks_joining}
+use Rattle.fm_proc_events.proofs.Asked.{asks_joining}
 
 -- What the parent has doesn't depend on the child before.
 

@@ -4,12 +4,12 @@ use Rattle.std.specs.Prelude.{◌≡◌, ℕ, Option, Some, None, List, [], ◌�
 use Rattle.fm_code.specs.declared.body.Body.{Body}
 use Rattle.fm_code.specs.declared.body.Start.{Start}
 use Rattle.fm_code.specs.Statements.{ports_of, unit_at}
-use Rattle.fm_bodies.specs.Slots.{Slots, no_slots}
-use Rattle.fm_bodies.specs.Frames.{moved_over}
-use Rattle.fm_bodies.specs.Processes.{CodeProc, Running, first_frame}
-use Rattle.fm_slots.specs.Rooms.{HasRoom, slots_in, span_words}
+use Rattle.fm_proc_language.specs.Slots.{Slots, no_slots}
+use Rattle.fm_proc_language.specs.Frames.{moved_over}
+use Rattle.fm_proc_language.specs.Processes.{CodeProc, Running, first_frame}
+use Rattle.fm_proc_slots.specs.Rooms.{HasRoom, slots_in, span_words}
 use Rattle.fm_proc.specs.declared.beginning.Draft.{Draft}
-use Rattle.fm_events.specs.Phases.{boxed_of}
+use Rattle.fm_proc_events.specs.Phases.{boxed_of}
 
 -- the body with which a child begins, before the words of its start come and what it gives back
 abbrev pub blank_body : Body → Start → Body

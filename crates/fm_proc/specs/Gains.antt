@@ -3,12 +3,12 @@
 use Rattle.std.specs.Prelude.{Option, List, [], ◌∷◌}
 use Rattle.fm_base.specs.declared.port.PortValue.{PortValue}
 use Rattle.fm_code.specs.declared.body.Body.{Body}
-use Rattle.fm_bodies.specs.Slots.{Slots, no_slots}
-use Rattle.fm_bodies.specs.Frames.{Held, Joined}
-use Rattle.fm_bodies.specs.Processes.{Kid, kid_back}
-use Rattle.fm_slots.specs.declared.joining.Gains.{Gains}
-use Rattle.fm_slots.specs.Helds.{held}
-use Rattle.fm_slots.specs.Rooms.{slots_in}
+use Rattle.fm_proc_language.specs.Slots.{Slots, no_slots}
+use Rattle.fm_proc_language.specs.Frames.{Held, Joined}
+use Rattle.fm_proc_language.specs.Processes.{Kid, kid_back}
+use Rattle.fm_proc_slots.specs.declared.joining.Gains.{Gains}
+use Rattle.fm_proc_slots.specs.Helds.{held}
+use Rattle.fm_proc_slots.specs.Rooms.{slots_in}
 
 -- with nothing of a child
 abbrev pub alone : Held → List PortValue → Joined

@@ -3,15 +3,15 @@
 use Rattle.std.specs.Prelude.{◌≡◌, ℕ, ◌+◌, Option, Some, List, length, map, drop}
 use Rattle.fm_code.specs.declared.ask.Ask.TheVariants as ask
 use Rattle.fm_code.specs.declared.body.Body.{Body}
-use Rattle.fm_calling.specs.declared.looking.Look.TheVariants.{Asks}
-use Rattle.fm_bodies.specs.Slots.{Slots}
-use Rattle.fm_bodies.specs.Frames.{Held}
-use Rattle.fm_bodies.specs.Processes.{CodeProc, Kid, Running, Joining, joining_words}
-use Rattle.fm_slots.specs.Joins.{HasRoomFor}
+use Rattle.fm_machine_calls.specs.declared.looking.Look.TheVariants.{Asks}
+use Rattle.fm_proc_language.specs.Slots.{Slots}
+use Rattle.fm_proc_language.specs.Frames.{Held}
+use Rattle.fm_proc_language.specs.Processes.{CodeProc, Kid, Running, Joining, joining_words}
+use Rattle.fm_proc_slots.specs.Joins.{HasRoomFor}
 use Rattle.fm_proc.specs.declared.joining.OpenJoin.{OpenJoin}
 use Rattle.fm_proc.specs.Gains.{gained, joined_by, mine_of}
-use Rattle.fm_events.specs.Phases.{kid_of}
-use Rattle.fm_events.specs.Told.{look_of}
+use Rattle.fm_proc_events.specs.Phases.{kid_of}
+use Rattle.fm_proc_events.specs.Told.{look_of}
 
 -- the children that aren't joined yet
 abbrev pub kids_of : OpenJoin → List Kid

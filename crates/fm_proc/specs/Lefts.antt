@@ -2,8 +2,8 @@
 -- Source: this profile.
 use Rattle.std.specs.Prelude.{Option}
 use Rattle.fm_code.specs.declared.body.Body.{Body}
-use Rattle.fm_bodies.specs.Slots.{Slots}
-use Rattle.fm_bodies.specs.Processes.{CodeProc}
+use Rattle.fm_proc_language.specs.Slots.{Slots}
+use Rattle.fm_proc_language.specs.Processes.{CodeProc}
 use Rattle.fm_proc.specs.declared.joining.Left.{Left}
 
 -- what a process leaves to its parent: its body, and its slots

@@ -9,8 +9,8 @@ use Rattle.fm_code.specs.declared.body.Start.{Start}
 use Rattle.fm_code.specs.declared.code.Code.{Code}
 use Rattle.fm_code.specs.Passing.{ports_in}
 use Rattle.fm_code.specs.Statements.{ports_of}
-use Rattle.fm_bodies.specs.Slots.{Slots, vacated}
-use Rattle.fm_slots.specs.Rooms.{span_words}
+use Rattle.fm_proc_language.specs.Slots.{Slots, vacated}
+use Rattle.fm_proc_slots.specs.Rooms.{span_words}
 
 -- as many ports as the words of a unit name at most
 abbrev pub unit_room : Code → ℕ → ℕ

@@ -3,7 +3,7 @@
 use Rattle.std.specs.Prelude.{◌≡◌, ℕ, Some, ◌++◌}
 use Rattle.fm_code.specs.declared.body.Body.{Body}
 use Rattle.fm_code.specs.Statements.{Ran, run}
-use Rattle.fm_bodies.specs.Processes.{CodeProc, Running}
+use Rattle.fm_proc_language.specs.Processes.{CodeProc, Running}
 
 -- a process whose body has run so far, with the lines that it added
 abbrev pub with_ran : CodeProc → Ran → CodeProc

@@ -1,16 +1,16 @@
 //! Statements of a process that touch nothing but the process.
 
 ghost use Rattle.std.specs.Prelude.{◌≡◌, ◌≢◌, ◌≤◌, ◌++◌, true, false, IfOk, OnOk};
-ghost use Rattle.fm_bodies.specs.Needs.{is_local};
-ghost use Rattle.fm_events.specs.Phases.{proc_of};
+ghost use Rattle.fm_proc_language.specs.Needs.{is_local};
+ghost use Rattle.fm_proc_events.specs.Phases.{proc_of};
 ghost use Rattle.fm_proc.specs.Runs.{Runs};
-ghost use Rattle.fm_events.specs.Told.{is_running, look_of};
+ghost use Rattle.fm_proc_events.specs.Told.{is_running, look_of};
 
 use fm_base::{NoMemory, Seq};
-use fm_calling::Look;
-use fm_events::Process;
-use fm_instructions::Work;
 use fm_machine::{Made, proceed};
+use fm_machine_calls::Look;
+use fm_machine_instr::Work;
+use fm_proc_events::Process;
 use std::alloc::Global;
 use std::mem::replace;
 

@@ -4,29 +4,29 @@ ghost use Rattle.std.specs.Prelude.{◌≡◌, ◌≤◌, ◌+◌, [], true, len
 ghost use Rattle.std.specs.List.{AllByRecursion};
 ghost use Rattle.fm_base.specs.Channels.{Chans};
 ghost use Rattle.fm_code.specs.declared.ask.Ask.TheVariants as ask;
-ghost use Rattle.fm_calling.specs.declared.looking.Look.TheVariants.{Asks};
-ghost use Rattle.fm_bodies.specs.Processes as code;
-ghost use Rattle.fm_bodies.specs.Processes.{children_of, loops_in};
-ghost use Rattle.fm_bodies.specs.Slots.{no_slots};
-ghost use Rattle.fm_slots.specs.Rooms.{HasRoom, LeavesRoom, slots_in};
+ghost use Rattle.fm_machine_calls.specs.declared.looking.Look.TheVariants.{Asks};
+ghost use Rattle.fm_proc_language.specs.Processes as code;
+ghost use Rattle.fm_proc_language.specs.Processes.{children_of, loops_in};
+ghost use Rattle.fm_proc_language.specs.Slots.{no_slots};
+ghost use Rattle.fm_proc_slots.specs.Rooms.{HasRoom, LeavesRoom, slots_in};
 ghost use Rattle.fm_proc.specs.Drafts.{IsReady, all_begun, begun, blank, blank_body, child_in, filled, ports_room, room_of, rooms};
-ghost use Rattle.fm_events.specs.Phases.{boxed_of, kid_of, proc_of};
-ghost use Rattle.fm_events.specs.Told.{is_running, look_of};
-ghost use Rattle.fm_events.specs.Performs.{Performs};
+ghost use Rattle.fm_proc_events.specs.Phases.{boxed_of, kid_of, proc_of};
+ghost use Rattle.fm_proc_events.specs.Told.{is_running, look_of};
+ghost use Rattle.fm_proc_events.specs.Performs.{Performs};
 
-use crate::performing::Done;
+use crate::performing::StepEnd;
 use fm_base::{NoMemory, Path, Seq};
-use fm_code::{Body, Frame, Pile, Row, SharedCode, Start, Turns};
-use fm_events::{Kid, Phase, Process, loops_at, ports_at};
-use fm_slots::{OpenSlots, Slots, move_over, span_words};
+use fm_code::{Body, Frame, Pile, Row, SharedCode, Start, Trips};
+use fm_proc_events::{Kid, Phase, Process, loops_at, ports_at};
+use fm_proc_slots::{OpenSlots, Slots, move_over, span_words};
 use std::alloc::Global;
 use std::collections::VecDeque;
 
 /// The loops of a unit, none of them begun.
-fn no_loops(alloc: Global, count: u32) -> Result<Row<Option<Turns>>, NoMemory>
+fn no_loops(alloc: Global, count: u32) -> Result<Row<Option<Trips>>, NoMemory>
     ensures { IfOk result (λ l. l ≡ replicate count None) }
 {
-    let none: Option<Turns> = None;
+    let none: Option<Trips> = None;
     let loops = vec![in alloc; none; count as usize]?;
     Ok(Row::from_vec(loops))
 }
@@ -249,7 +249,7 @@ fn cost_of(starts: usize) -> Result<u64, NoMemory>
 #[derive(Drop)]
 struct Block {
     kids: Seq<Kid>,
-    done: Done,
+    done: StepEnd,
 }
 
 /// All starts of the innermost frame begin. After want of memory nothing is changed.
@@ -272,7 +272,7 @@ fn begin_block(
     body.frame.address = next;
     Ok(Block {
         kids,
-        done: Done { children, cost },
+        done: StepEnd { children, cost },
     })
 }
 
@@ -282,7 +282,7 @@ pub(crate) fn begin(
     path: &Path,
     process: &mut Process,
     next: u32,
-) -> Result<Done, NoMemory>
+) -> Result<StepEnd, NoMemory>
     requires look { look_of (proc_of process.old) ≡ Asks (ask.Begin next) }
     requires running { is_running (proc_of process.old) ≡ true }
     ensures performs { IfOk result (λ d. (cs : Chans) → Performs path.now (proc_of process.old) cs (proc_of process.new) (map boxed_of d.children.items) cs d.cost) }

@@ -4,14 +4,14 @@ ghost use Rattle.std.specs.Prelude.{◌≡◌, ◌++◌, ◌+◌, ◌≤◌, sli
 ghost use Rattle.fm_code.specs.Acts.{span_of};
 ghost use Rattle.fm_code.specs.Passing.{live, ports_in};
 ghost use Rattle.fm_code.specs.Statements.{ports_of};
-ghost use Rattle.fm_bodies.specs.Slots.{vacated};
-ghost use Rattle.fm_bodies.specs.Processes.{body_words};
+ghost use Rattle.fm_proc_language.specs.Slots.{vacated};
+ghost use Rattle.fm_proc_language.specs.Processes.{body_words};
 ghost use Rattle.fm_proc.specs.Rooms.{Sheds, body_room, frame_room, unit_room, words_by};
 
 use fm_chan::Port;
 use fm_code::{Body, Frame, SharedCode, Span};
-use fm_events::ports_at;
-use fm_slots::{Slots, vacate_words, words_of};
+use fm_proc_events::ports_at;
+use fm_proc_slots::{Slots, vacate_words, words_of};
 
 /// Lets go the ports at the words of a span.
 fn drop_span(words: &[i64], span: Span, slots: &mut Slots, drops: &mut Vec<Port>)

@@ -2,20 +2,20 @@
 
 ghost use Rattle.std.specs.Prelude.{◌≡◌, ◌++◌, [], true, IfOk, OnErr, OnOk};
 ghost use Rattle.fm_code.specs.declared.ask.Ask.TheVariants as ask;
-ghost use Rattle.fm_calling.specs.declared.looking.Look.TheVariants.{Asks};
+ghost use Rattle.fm_machine_calls.specs.declared.looking.Look.TheVariants.{Asks};
 ghost use Rattle.fm_chan.specs.Bodies.{chans_of};
 ghost use Rattle.fm_chan.specs.Woken.{WakesAll};
-ghost use Rattle.fm_bodies.specs.Processes.{ended_frame};
-ghost use Rattle.fm_events.specs.Phases.{proc_of};
-ghost use Rattle.fm_events.specs.Told.{is_running, look_of};
-ghost use Rattle.fm_events.specs.Performs.{Performs};
+ghost use Rattle.fm_proc_language.specs.Processes.{ended_frame};
+ghost use Rattle.fm_proc_events.specs.Phases.{proc_of};
+ghost use Rattle.fm_proc_events.specs.Told.{is_running, look_of};
+ghost use Rattle.fm_proc_events.specs.Performs.{Performs};
 
 use fm_base::{NoMemory, Path};
-use fm_calling::{push_frame_ports, push_start_ports};
 use fm_chan::Channels;
 use fm_code::{Body, Frame, Row};
-use fm_events::{Phase, Process, formals_at, ports_at, shed, vacate};
-use fm_slots::{Slots, keep};
+use fm_machine_calls::{push_frame_ports, push_start_ports};
+use fm_proc_events::{Phase, Process, formals_at, ports_at, shed, vacate};
+use fm_proc_slots::{Slots, keep};
 use std::alloc::Global;
 
 /// What a process leaves when it ends.

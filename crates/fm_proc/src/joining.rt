@@ -5,18 +5,18 @@ ghost use Rattle.fm_code.specs.declared.ask.Ask.TheVariants as ask;
 ghost use Rattle.fm_code.specs.declared.body.Body as declared_body;
 ghost use Rattle.fm_code.specs.Passing.{back_words};
 ghost use Rattle.fm_code.specs.Statements.{with_words};
-ghost use Rattle.fm_calling.specs.declared.looking.Look.TheVariants.{Asks};
+ghost use Rattle.fm_machine_calls.specs.declared.looking.Look.TheVariants.{Asks};
 ghost use Rattle.fm_chan.specs.Bodies.{chans_of};
 ghost use Rattle.fm_chan.specs.Woken.{WakesAll};
 ghost use Rattle.fm_net.specs.Machine.{Place};
-ghost use Rattle.fm_bodies.specs.Processes.{CodeProc, emptied, given_back, joining_words, kid_back};
-ghost use Rattle.fm_bodies.specs.Slots as bodies;
-ghost use Rattle.fm_slots.specs.Helds.{held};
-ghost use Rattle.fm_slots.specs.Joins.{GivesSo, HasRoomFor, LeavesRoomFor, joined};
-ghost use Rattle.fm_events.specs.Phases.{kid_of, proc_of};
+ghost use Rattle.fm_proc_language.specs.Processes.{CodeProc, emptied, given_back, joining_words, kid_back};
+ghost use Rattle.fm_proc_language.specs.Slots as bodies;
+ghost use Rattle.fm_proc_slots.specs.Helds.{held};
+ghost use Rattle.fm_proc_slots.specs.Joins.{GivesSo, HasRoomFor, LeavesRoomFor, joined};
+ghost use Rattle.fm_proc_events.specs.Phases.{kid_of, proc_of};
 ghost use Rattle.fm_proc.specs.Lefts.{left_by, left_of};
-ghost use Rattle.fm_events.specs.Told.{is_joining, look_of};
-ghost use Rattle.fm_events.specs.Performs.{Joins};
+ghost use Rattle.fm_proc_events.specs.Told.{is_joining, look_of};
+ghost use Rattle.fm_proc_events.specs.Performs.{Joins};
 ghost use Rattle.fm_proc.specs.Gains.{alone, first_kid, gained, mine_of, other_kids};
 ghost use Rattle.fm_proc.specs.Joinings.{HasJoined, HasRoomToJoin};
 ghost use Rattle.fm_proc.specs.Rooms.{body_room, left_room};
@@ -26,8 +26,8 @@ use crate::measuring::{joining_words, room_with};
 use fm_base::{NoMemory, Seq};
 use fm_chan::{Channels, Port};
 use fm_code::{Back, Body, Row};
-use fm_events::{Kid, Phase, Process, go_on, shed};
-use fm_slots::{Child, Gains, Slots, give_back};
+use fm_proc_events::{Kid, Phase, Process, set_address, shed};
+use fm_proc_slots::{Child, Gains, Slots, give_back};
 use std::alloc::Global;
 use std::collections::VecDeque;
 use std::mem::replace;
@@ -227,7 +227,7 @@ fn put_words(body: &mut Option<Body>, words: Vec<i64>, next: u32)
     match body {
         Some(body) => {
             body.frame.words = Row::from_vec(words);
-            go_on(body, next);
+            set_address(body, next);
         }
         None => {}
     }

@@ -1,6 +1,6 @@
 //! What one process of stack code does: statements of its own, its event, starting, joining, ending.
 //!
-//! Contracts say that it is what `code_language` of `fm_bodies` says, for every process, however its words and slots stand.
+//! Contracts say that it is what `code_language` of `fm_proc_language` says, for every process, however its words and slots stand.
 #![tactic(auto)]
 
 mod advancing;
@@ -14,4 +14,4 @@ mod performing;
 pub use advancing::{Advanced, advance};
 pub use joining::{Left, OpenJoin, open_join, release};
 pub use measuring::left_room;
-pub use performing::{Done, perform};
+pub use performing::{StepEnd, perform};

@@ -2,14 +2,14 @@
 
 ghost use Rattle.std.specs.Prelude.{◌≡◌, ◌+◌, IfOk, map};
 ghost use Rattle.fm_code.specs.Passing.{back_words};
-ghost use Rattle.fm_bodies.specs.Processes.{joining_words};
-ghost use Rattle.fm_events.specs.Phases.{kid_of, proc_of};
+ghost use Rattle.fm_proc_language.specs.Processes.{joining_words};
+ghost use Rattle.fm_proc_events.specs.Phases.{kid_of, proc_of};
 ghost use Rattle.fm_proc.specs.Rooms.{body_room, frame_room, frames_room, left_room, unit_room};
 
 use fm_base::NoMemory;
 use fm_code::{Back, Body, Frame, SharedCode};
-use fm_events::{Kid, Process, ports_at};
-use fm_slots::span_words;
+use fm_proc_events::{Kid, Process, ports_at};
+use fm_proc_slots::span_words;
 
 fn back_words(backs: &[Back]) -> Result<u64, NoMemory>
     ensures { IfOk result (λ n. n ≡ back_words backs.now) }

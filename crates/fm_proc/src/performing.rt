@@ -1,36 +1,36 @@
 //! A process does its event.
 
 ghost use Rattle.std.specs.Prelude.{◌≡◌, [], map, true, IfOk, IsOk, OnErr, OnOk};
-ghost use Rattle.fm_calling.specs.declared.looking.Look.TheVariants.{Asks};
+ghost use Rattle.fm_machine_calls.specs.declared.looking.Look.TheVariants.{Asks};
 ghost use Rattle.fm_chan.specs.Bodies.{chans_of};
 ghost use Rattle.fm_chan.specs.Woken.{WakesAll};
-ghost use Rattle.fm_events.specs.Performs.{CanPerform, MakesNew, Performs, StaysOnWant, is_at_port};
-ghost use Rattle.fm_events.specs.Phases.{boxed_of, proc_of};
-ghost use Rattle.fm_events.specs.Told.{look_of};
+ghost use Rattle.fm_proc_events.specs.Performs.{CanPerform, MakesNew, Performs, StaysOnWant, is_at_port};
+ghost use Rattle.fm_proc_events.specs.Phases.{boxed_of, proc_of};
+ghost use Rattle.fm_proc_events.specs.Told.{look_of};
 
 use crate::beginning::begin;
 use crate::ending::end;
 use fm_base::{NoMemory, Path};
 use fm_chan::Channels;
 use fm_code::Ask;
-use fm_events::{Process, fail, let_go, make_channel, make_merger, probe, receive, send};
-use fm_instructions::Work;
+use fm_machine_instr::Work;
+use fm_proc_events::{Process, fail, let_go, make_channel, make_merger, probe, receive, send};
 use std::alloc::Global;
 
 /// What an event leaves to be done: the children to put at their places. And its cost.
 #[derive(Drop)]
-pub struct Done {
+pub struct StepEnd {
     /// The children that start, in order.
     pub children: Vec<Box<Process>>,
     /// The cost in turns.
     pub cost: u64,
 }
 
-fn alone(alloc: Global, cost: u64) -> Done
+fn alone(alloc: Global, cost: u64) -> StepEnd
     ensures children { result.children.items ≡ [] }
     ensures cost { result.cost ≡ cost }
 {
-    Done {
+    StepEnd {
         children: Vec::new(alloc),
         cost,
     }
@@ -87,7 +87,7 @@ pub fn perform(
     process: &mut Process,
     channels: &mut Channels,
     ask: Ask,
-) -> Result<Done, NoMemory>
+) -> Result<StepEnd, NoMemory>
     requires look { look_of (proc_of process.old) ≡ Asks ask }
     requires can { CanPerform (proc_of process.old) (chans_of channels.old) }
     requires new { MakesNew path.now (proc_of process.old) (chans_of channels.old) }

@@ -6,7 +6,7 @@ use Rattle.std.specs.Prelude.{Option, Some, None, is_some}
 use Rattle.fm_base.specs.declared.name.Line.{Line}
 use Rattle.fm_tree.specs.declared.program_unit.Unit.{Unit}
 use Rattle.fm_symbols.specs.declared.context.Context.{Context}
-use Rattle.fm_det.specs.Race.{IsDeterministic, IsRaceVerdict}
+use Rattle.fm_rules.specs.Race.{IsDeterministic, IsRaceVerdict}
 
 pub decides : (us : List Unit) (c : Context) (v : Option Line) (b : Bool) → ∥ IsRaceVerdict us c v ∥₁ → is_some v ≡ not b → (b ≡ true) ↔ IsDeterministic us c
 decides us c None true known e = ((λ h line race. ∥∥₁_elim known (λ x y. absurd x) (λ none. none line race)), (λ d. refl))

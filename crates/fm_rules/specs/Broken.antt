@@ -8,13 +8,13 @@ use Rattle.fm_tree.specs.declared.program_unit.Unit.{Unit}
 use Rattle.fm_symbols.specs.declared.names.UnitNames.{UnitNames}
 use Rattle.fm_symbols.specs.declared.context.Context.{Context}
 use Rattle.fm_symbols.specs.Context.{context_of}
-use Rattle.fm_unit.specs.Units.{units_of}
-use Rattle.fm_unit.specs.Broken.{broken_structure}
-use Rattle.fm_names.specs.Names.{names_of}
-use Rattle.fm_names.specs.Broken.{broken_names}
-use Rattle.fm_types.specs.Types.{broken_types}
-use Rattle.fm_det.specs.Recursion.{IsRecursion}
-use Rattle.fm_ports.specs.Broken.{broken_ports}
+use Rattle.fm_rules.specs.Units.{units_of}
+use Rattle.fm_rules.specs.BrokenStructure.{broken_structure}
+use Rattle.fm_rules.specs.Names.{names_of}
+use Rattle.fm_rules.specs.BrokenNames.{broken_names}
+use Rattle.fm_rules.specs.BrokenTypes.{broken_types}
+use Rattle.fm_rules.specs.Recursion.{IsRecursion}
+use Rattle.fm_rules.specs.BrokenPorts.{broken_ports}
 
 -- broken by the first, or by the second, which is asked only where the first breaks nothing
 abbrev pub Then : (Refusal → Type 0) → (Refusal → Type 0) → Refusal → Type 0

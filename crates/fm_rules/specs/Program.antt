@@ -9,13 +9,13 @@ use Rattle.fm_tree.specs.declared.program_unit.Unit.{Unit}
 use Rattle.fm_tree.specs.declared.program_unit.Units.{Units}
 use Rattle.fm_tree.specs.Statements.{IsWellShapedStatement}
 use Rattle.fm_symbols.specs.Headings.{heading_kind}
-use Rattle.fm_links.specs.declared.entry_links.EntryLinks.{EntryLinks}
-use Rattle.fm_links.specs.Links.{links_of}
+use Rattle.fm_rules.specs.declared.entry_links.EntryLinks.{EntryLinks}
+use Rattle.fm_rules.specs.Links.{links_of}
 use Rattle.fm_symbols.specs.declared.names.Names.{Names}
-use Rattle.fm_unit.specs.Units.{units_of}
-use Rattle.fm_unit.specs.Broken.{broken_structure}
-use Rattle.fm_names.specs.Names.{names_of}
-use Rattle.fm_names.specs.Broken.{broken_names}
+use Rattle.fm_rules.specs.Units.{units_of}
+use Rattle.fm_rules.specs.BrokenStructure.{broken_structure}
+use Rattle.fm_rules.specs.Names.{names_of}
+use Rattle.fm_rules.specs.BrokenNames.{broken_names}
 use Rattle.fm_rules.specs.Broken.{IsBrokenStatement}
 
 -- each statement has a form of the grammar

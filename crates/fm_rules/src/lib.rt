@@ -1,8 +1,22 @@
-//! Programs that break no rule, and what is looked up in them.
+//! What a lawful program is: the rules that the statements of a source may break, as definitions in `specs/`, the plain types
+//! that they speak of, and programs that break none. The meaning of programs stands on these, and the checkers that find what is
+//! broken stand beside it.
 #![tactic(auto)]
 
-mod checking;
+mod calls;
+mod constants;
+mod entry_links;
+mod flags;
 mod program;
+mod sheet;
+mod titles;
+mod typing;
 
-pub use checking::check;
+pub use calls::{Call, CallKind};
+pub use constants::{Known, Shape, Types};
+pub use entry_links::EntryLinks;
+pub use flags::Flags;
 pub use program::Program;
+pub use sheet::{ArrayShape, Aspect, Occurrence, Sheet};
+pub use titles::Title;
+pub use typing::{Arguments, ExprType, Judgement, OperatorKind, Referent};

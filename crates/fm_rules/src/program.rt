@@ -1,15 +1,14 @@
 //! A program that breaks no rule.
 
 ghost use Rattle.std.specs.Prelude.{◌≡◌, ◌↔◌, true, IfOk};
-ghost use Rattle.fm_det.specs.Race.{IsDeterministic, IsRaceVerdict};
+ghost use Rattle.fm_rules.specs.Race.{IsDeterministic, IsRaceVerdict};
 ghost use Rattle.fm_symbols.specs.Context.{context_of};
 ghost use Rattle.fm_rules.specs.Program.{IsLawful, all_links, is_main, main_of};
 
+use crate::entry_links::EntryLinks;
 use fm_base::{Line, NoMemory, Seq};
-use fm_links::{EntryLinks, links};
 use fm_symbols::{Context, Names, heading_kind};
 use fm_tree::{Unit, UnitKind, Units};
-use std::alloc::Global;
 
 /// A program that breaks no rule: its units, its names, and what is looked up in them.
 pub struct Program {
@@ -57,33 +56,23 @@ fn main_number(units: &[Unit]) -> usize
     0
 }
 
-fn make_links(alloc: Global, units: &[Unit]) -> Result<Seq<Seq<EntryLinks>>, NoMemory>
-    ensures { IfOk result (λ v. v ≡ all_links units.now) }
-{
-    let mut all = Seq::new(alloc);
-    'units: for unit in units {
-        all.push(links(alloc, unit.body.as_slice())?)?;
-    }
-    Ok(all)
-}
-
 impl Program {
-    /// The program of units and names that break no rule. `context` is what the names mean, `race` the least line of a
-    /// MERGER or PROBE that a process may come to.
-    pub(crate) fn new(
-        alloc: Global,
+    /// The program of units and names that break no rule. `context` is what the names mean, `links` where the entries of
+    /// each unit lead to, `race` the least line of a MERGER or PROBE that a process may come to.
+    pub fn new(
         units: Units,
         names: Names,
         context: Context,
+        links: Seq<Seq<EntryLinks>>,
         race: Option<Line>,
     ) -> Result<Program, NoMemory>
         requires lawful { ∥ IsLawful units names ∥₁ }
         requires context { context ≡ context_of units.units names.units }
+        requires links { links ≡ all_links units.units }
         requires race { ∥ IsRaceVerdict units.units context race ∥₁ }
         ensures units { IfOk result (λ p. p.units ≡ units) }
         ensures names { IfOk result (λ p. p.names ≡ names) }
     {
-        let links = make_links(alloc, units.units.as_slice())?;
         let main = u32::try_from(main_number(units.units.as_slice())).map_err(|_| NoMemory)?;
         Ok(Program {
             units,

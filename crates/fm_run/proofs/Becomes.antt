@@ -8,9 +8,9 @@ use Rattle.fm_chan.specs.declared.channels.Channels.{Channels}
 use Rattle.fm_chan.specs.Bodies.{chans_of}
 use Rattle.fm_chan.specs.Woken.{WakesAll, woken_of}
 use Rattle.fm_base.specs.declared.schedule.Turn.{Turn}
-use Rattle.fm_maps.specs.Sums.{total, value_or_zero}
-use Rattle.fm_maps.proofs.Inserts.{insert_here}
-use Rattle.fm_maps.proofs.Sums.{one_of_total}
+use Rattle.fm_finmap.specs.Sums.{total, value_or_zero}
+use Rattle.fm_finmap.proofs.Inserts.{insert_here}
+use Rattle.fm_finmap.proofs.Sums.{one_of_total}
 use Rattle.fm_sched.specs.Schedule.{IsLegal, play}
 use Rattle.fm_net.specs.Lawful.{holds}
 use Rattle.fm_net.specs.Machine.{Place, State, child}

@@ -9,7 +9,7 @@ use Rattle.fm_chan.specs.Bodies.{chans_of}
 use Rattle.fm_chan.specs.Received.{pops_at}
 use Rattle.fm_chan.specs.Woken.{WakesAll, waiting_reader, woken_of}
 use Rattle.fm_chan.proofs.Waking.{waits_in_vain}
-use Rattle.fm_maps.proofs.Keys.{decide}
+use Rattle.fm_finmap.proofs.Keys.{decide}
 use Rattle.fm_sched.specs.Schedule.{IsLegal, play}
 use Rattle.fm_net.specs.Machine.{Place, Procs, State, Need, Nothing, Event, New, Children, child, gathered, with_child}
 use Rattle.fm_net.specs.Owned.{IsOwned}

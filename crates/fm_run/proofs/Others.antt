@@ -2,9 +2,9 @@
 use Rattle.std.proofs.Common.{◌≡◌, ◌≢◌, ◌⊎◌, inl, inr, ℕ, zero, suc, Option, Some, None, ◌++◌, Bool, true, false, length, replicate, refl, sym, ap, ◌∙◌, subst}
 use Rattle.std.specs.Prelude.{option_map}
 use Rattle.std.specs.FinMap.{get}
-use Rattle.fm_maps.specs.Changes.{alters}
-use Rattle.fm_maps.proofs.Alters.{alter_here, alter_there, alters_there, alters-append}
-use Rattle.fm_maps.proofs.Keys.{decide}
+use Rattle.fm_finmap.specs.Changes.{alters}
+use Rattle.fm_finmap.proofs.Alters.{alter_here, alter_there, alters_there, alters-append}
+use Rattle.fm_finmap.proofs.Keys.{decide}
 use Rattle.fm_sched.specs.Schedule.{Can, IsLegal, next, play}
 use Rattle.fm_net.specs.Machine.{Place, Procs, State, Need, Nothing, Event, New, Children, Reply, Onward, child, changes, child_changes, need_changes, start_changes, served}
 use Rattle.fm_net.specs.Owned.{IsOwned}

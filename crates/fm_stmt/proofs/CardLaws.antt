@@ -16,7 +16,7 @@ use Rattle.fm_tree.specs.declared.program_unit.Placed.{Placed}
 use Rattle.fm_tree.specs.declared.statement.Stmt.{Stmt}
 use Rattle.fm_base.specs.declared.parse_fail.ParseFail.{ParseFail}
 use Rattle.fm_base.specs.declared.parse_fail.ParseFail.TheVariants.{Bad}
-use Rattle.fm_parts.specs.Gives.{Fails}
+use Rattle.fm_stmt_parts.specs.Gives.{Fails}
 use Rattle.fm_stmt.specs.Statements.{statement_at}
 use Rattle.fm_stmt.specs.Names.{names_of, has_long}
 use Rattle.fm_stmt.specs.Checked.{IsTreeOf, HasCut, IsRead, IsBroken, BreaksRule, OneTree, OneStatement, AllOfPhaseOne, has_big, known, rule_of}

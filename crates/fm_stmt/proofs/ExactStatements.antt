@@ -11,19 +11,19 @@ use Rattle.fm_tree.specs.declared.statement.Stmt.{Stmt}
 use Rattle.fm_tree.specs.declared.statement.Stmt.TheVariants as stmt
 use Rattle.fm_tree.specs.Forms.{Form}
 use Rattle.fm_tree.specs.Statements.{simple_form, simple_spelling, IsWellShapedSimple, spelling_of, IsWellShapedStatement}
-use Rattle.fm_parts.specs.declared.mark.Mark.TheVariants as mark
-use Rattle.fm_parts.specs.declared.mark.Mark.TheVariants.{Open, Close, Comma, Equals, Star}
-use Rattle.fm_parts.specs.declared.mark.Word.{Word}
-use Rattle.fm_parts.specs.declared.mark.Word.TheVariants as word
-use Rattle.fm_parts.specs.Reading.{Part, Ends, no_token, opens, is_word_token, name, label, expr, behind, before, parens, assigned, pair, optional_behind, swapped, more, some_of, listed, whole}
-use Rattle.fm_parts.specs.Parts.{var_part, decl_part, array_part, defined_part, way_part, loop_part, item_part, unit_part, port_part, extras_part, call_part_part}
-use Rattle.fm_parts.specs.Fields.{port_type_part}
+use Rattle.fm_stmt_parts.specs.declared.mark.Mark.TheVariants as mark
+use Rattle.fm_stmt_parts.specs.declared.mark.Mark.TheVariants.{Open, Close, Comma, Equals, Star}
+use Rattle.fm_stmt_parts.specs.declared.mark.Word.{Word}
+use Rattle.fm_stmt_parts.specs.declared.mark.Word.TheVariants as word
+use Rattle.fm_stmt_parts.specs.Reading.{Part, Ends, no_token, opens, is_word_token, name, label, expr, behind, before, parens, assigned, pair, optional_behind, swapped, more, some_of, listed, whole}
+use Rattle.fm_stmt_parts.specs.Parts.{var_part, decl_part, array_part, defined_part, way_part, loop_part, item_part, unit_part, port_part, extras_part, call_part_part}
+use Rattle.fm_stmt_parts.specs.Fields.{port_type_part}
 use Rattle.fm_stmt.specs.Statements.{heading_part, function_part, declaration_part, dimension_part, parameter_part, ports_part, intent_part, processors_part, assignment_part, then_part, call_part, print_part, write_part, channel_part, merger_part, send_part, receive_part, end_channel_part, move_port_part, probe_part, process_call_part, made, all, alone, keyed_simple, simple_at, simple_part, logical_if_part, keyed_statement, statement_at}
-use Rattle.fm_parts.specs.Exact.{IsExact}
-use Rattle.fm_parts.proofs.Exact.{Begins, Leads, bind_some, same_value, ends_any, exact_name, exact_label, exact_expr, exact_behind, exact_before, exact_pair, exact_optional_behind, whole_sound, whole_complete}
-use Rattle.fm_parts.proofs.ExactLists.{exact_more, exact_some, exact_listed, exact_parens, exact_swapped}
-use Rattle.fm_parts.proofs.ExactParts.{exact_named, exact_var, exact_decl, exact_array, exact_defined, exact_way, exact_loop, exact_item, item_opens, expr_opens, exact_unit, exact_port, exact_extras, exact_call_part}
-use Rattle.fm_parts.proofs.ExactFields.{exact_port_type}
+use Rattle.fm_stmt_parts.specs.Exact.{IsExact}
+use Rattle.fm_stmt_parts.proofs.Exact.{Begins, Leads, bind_some, same_value, ends_any, exact_name, exact_label, exact_expr, exact_behind, exact_before, exact_pair, exact_optional_behind, whole_sound, whole_complete}
+use Rattle.fm_stmt_parts.proofs.ExactLists.{exact_more, exact_some, exact_listed, exact_parens, exact_swapped}
+use Rattle.fm_stmt_parts.proofs.ExactParts.{exact_named, exact_var, exact_decl, exact_array, exact_defined, exact_way, exact_loop, exact_item, item_opens, expr_opens, exact_unit, exact_port, exact_extras, exact_call_part}
+use Rattle.fm_stmt_parts.proofs.ExactFields.{exact_port_type}
 
 name_opens : Begins opens true name
 name_opens n rest s = refl

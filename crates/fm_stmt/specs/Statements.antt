@@ -21,12 +21,12 @@ use Rattle.fm_tree.specs.declared.statement.Simple.TheVariants as simple
 use Rattle.fm_tree.specs.declared.statement.Stmt.{Stmt}
 use Rattle.fm_tree.specs.declared.statement.Stmt.TheVariants as stmt
 use Rattle.fm_tree.specs.Statements as forms
-use Rattle.fm_parts.specs.declared.mark.Mark.TheVariants.{Open, Close, Comma, Equals, Star}
-use Rattle.fm_parts.specs.declared.mark.Mark.TheVariants as mark
-use Rattle.fm_parts.specs.declared.mark.Word.TheVariants as word
-use Rattle.fm_parts.specs.Reading.{Part, no_token, is_word_token, name, label, expr, behind, before, parens, assigned, pair, optional_behind, swapped, more, some_of, listed, whole, nothing_left, ◌>>=◌}
-use Rattle.fm_parts.specs.Parts.{var_part, decl_part, array_part, defined_part, way_part, loop_part, item_part, unit_part, port_part, extras_part, call_part_part}
-use Rattle.fm_parts.specs.Fields.{port_type_part}
+use Rattle.fm_stmt_parts.specs.declared.mark.Mark.TheVariants.{Open, Close, Comma, Equals, Star}
+use Rattle.fm_stmt_parts.specs.declared.mark.Mark.TheVariants as mark
+use Rattle.fm_stmt_parts.specs.declared.mark.Word.TheVariants as word
+use Rattle.fm_stmt_parts.specs.Reading.{Part, no_token, is_word_token, name, label, expr, behind, before, parens, assigned, pair, optional_behind, swapped, more, some_of, listed, whole, nothing_left, ◌>>=◌}
+use Rattle.fm_stmt_parts.specs.Parts.{var_part, decl_part, array_part, defined_part, way_part, loop_part, item_part, unit_part, port_part, extras_part, call_part_part}
+use Rattle.fm_stmt_parts.specs.Fields.{port_type_part}
 
 -- PROCESS name [( [list(name)] )], and SUBROUTINE
 abbrev pub heading_part : Part (List ℕ × Option (List (List ℕ)))

@@ -167,7 +167,7 @@ fn kind_long(kind: &Kind) -> bool
 fn port_type_long(port_type: &PortType) -> bool
     ensures { result ≡ has_long (fields_names port_type.now) }
 {
-    fields_long(port_type.fields.as_slice())
+    fields_long(port_type.as_slice())
 }
 
 impl Named for LoopHead {

@@ -1,13 +1,13 @@
 //! Statements that may stand behind a logical IF.
 
-ghost use Rattle.fm_parts.specs.Gives.{Gives};
-ghost use Rattle.fm_parts.specs.Reading.{assigned, behind, pair, parens_read};
-ghost use Rattle.fm_parts.specs.Parts.{port_part, var_part};
+ghost use Rattle.fm_stmt_parts.specs.Gives.{Gives};
+ghost use Rattle.fm_stmt_parts.specs.Reading.{assigned, behind, pair, parens_read};
+ghost use Rattle.fm_stmt_parts.specs.Parts.{port_part, var_part};
 ghost use Rattle.fm_stmt.specs.Statements.{all, alone, assignment_part, keyed_simple, merged_ports_part, port_and_empty_part, port_and_extras_part, simple_at, two_ports_part};
 ghost use Rattle.fm_tree.specs.declared.statement.Simple.TheVariants as simple;
 
 use fm_base::{Class, ParseFail, Seq, Token};
-use fm_parts::{
+use fm_stmt_parts::{
     ExprForm, Form, ItemForm, Mark, VarForm, Word, a_label, a_mark, a_name, a_port, a_unit,
     an_expr, assigned, at_end, ended_by, extras, listed, more, optional_listed, some, starts_with,
 };

@@ -1,14 +1,14 @@
 //! The forms of statements.
 
-ghost use Rattle.fm_parts.specs.Gives.{Gives};
-ghost use Rattle.fm_parts.specs.Reading.{expr_read, listed_read, name_at, optional_behind_read, parens_read, whole};
-ghost use Rattle.fm_parts.specs.Parts.{call_part_part, loop_part, way_part};
+ghost use Rattle.fm_stmt_parts.specs.Gives.{Gives};
+ghost use Rattle.fm_stmt_parts.specs.Reading.{expr_read, listed_read, name_at, optional_behind_read, parens_read, whole};
+ghost use Rattle.fm_stmt_parts.specs.Parts.{call_part_part, loop_part, way_part};
 ghost use Rattle.fm_stmt.specs.Statements.{keyed_simple, made, declaration_part, function_part, heading_part, keyed_statement, ports_part, statement_at, then_part};
 ghost use Rattle.fm_tree.specs.declared.statement.Stmt.TheVariants as stmt;
 
 use crate::simple::{alone, keyed_simple, simple};
 use fm_base::{Class, Name, ParseFail, Seq, Token};
-use fm_parts::{
+use fm_stmt_parts::{
     ArrayForm, DeclForm, DefinedForm, ExprForm, Mark, NameForm, Word, a_call_part, a_loop_head,
     a_mark, a_name, a_port_type, a_way, an_expr, ended_by, listed_and_closed, optional_listed,
     some, some_in_parens, starts_with,

@@ -12,7 +12,7 @@ use crate::insertion::insert_new;
 use crate::names::{Constant, Names, UnitNames, Variable};
 use crate::symbol::{Direction, Extent, Formal, Scalar, Symbol};
 use fm_base::{Name, NoMemory, Seq};
-use fm_maps::NameMap;
+use fm_finmap::NameMap;
 use fm_tree::{Kind, Stmt, Unit, UnitKind, Units};
 use std::alloc::Global;
 

@@ -4,7 +4,7 @@ ghost use Rattle.std.specs.Prelude.{◌≡◌, OnOk};
 ghost use Rattle.fm_symbols.specs.ByName.{with_new};
 
 use fm_base::{Name, NoMemory};
-use fm_maps::NameMap;
+use fm_finmap::NameMap;
 use std::alloc::Global;
 
 /// Gives a name a value. A name that has one keeps it.

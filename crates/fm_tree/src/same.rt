@@ -136,7 +136,7 @@ fn same_kind(left: &Kind, right: &Kind) -> bool
 fn same_type(left: &PortType, right: &PortType) -> bool
     ensures { result ≡ same_fields left.now right.now }
 {
-    same_fields(left.fields.as_slice(), right.fields.as_slice())
+    same_fields(left.as_slice(), right.as_slice())
 }
 
 impl PartialEq for PortType {

@@ -9,10 +9,10 @@ use Rattle.fm_base.proofs.Least.{least_from_append}
 use Rattle.fm_tree.specs.declared.program_unit.Unit.{Unit}
 use Rattle.fm_symbols.specs.declared.names.UnitNames.{UnitNames}
 use Rattle.fm_symbols.specs.declared.context.Context.{Context}
-use Rattle.fm_typing.specs.declared.flags.Flags.{Flags}
-use Rattle.fm_typing.specs.Flags.{both}
-use Rattle.fm_types.specs.Statements.{any_from}
-use Rattle.fm_types.specs.Types.{broken_at, broken_from}
+use Rattle.fm_rules.specs.declared.flags.Flags.{Flags}
+use Rattle.fm_rules.specs.Flags.{both}
+use Rattle.fm_rules.specs.TypeStatements.{any_from}
+use Rattle.fm_rules.specs.BrokenTypes.{broken_at, broken_from}
 
 -- one statement more
 pub least_more : {X : Type 0} (g : X → List Refusal) (xs : List X) (i : ℕ) (x : X) (best next old : Option Refusal) → i < length xs → x ≡ get_or xs i x → next ≡ least_from best (g x)

@@ -2,20 +2,14 @@
 
 ghost use Rattle.std.specs.Prelude.{◌≡◌, [], unwrap_or};
 ghost use Rattle.std.specs.List.{slice_get};
-ghost use Rattle.fm_types.specs.Statements.{call_flags, callee_at, callee_in, callee_of, calls, position_flags, process_call_flags};
+ghost use Rattle.fm_rules.specs.TypeStatements.{call_flags, callee_at, callee_in, callee_of, calls, position_flags, process_call_flags};
 
 use crate::parts::{any_integer_flags, integer_flags};
 use fm_base::{Name, Seq};
+use fm_rules::{CallKind, Flags, Referent};
 use fm_symbols::{Context, Scope};
 use fm_tree::{CallPart, Expr, UnitKind, Where};
-use fm_typing::{Flags, Referent, both, judge_arguments, judge_reference, no_flags};
-
-/// The statement that calls a unit.
-#[derive(Clone, Copy)]
-pub enum CallKind {
-    Call,
-    ProcessCall,
-}
+use fm_types_expr::{both, judge_arguments, judge_reference, no_flags};
 
 fn calls(kind: CallKind, unit: UnitKind) -> bool
     ensures { result ≡ calls kind unit }

@@ -7,6 +7,6 @@ mod parts;
 mod program;
 mod statements;
 
-pub use calls::{CallKind, callee_of};
+pub use calls::callee_of;
 pub use program::types;
 pub use statements::judge_statement;

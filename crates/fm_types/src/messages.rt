@@ -1,12 +1,13 @@
 //! The judgement of statements that make channels, send and receive.
 
 ghost use Rattle.std.specs.Prelude.{◌≡◌};
-ghost use Rattle.fm_types.specs.Statements.{merger_flags, probe_flags, receive_flags, send_flags, two_ports_flags};
+ghost use Rattle.fm_rules.specs.TypeStatements.{merger_flags, probe_flags, receive_flags, send_flags, two_ports_flags};
 
 use crate::parts::{any_expr_flags, any_extra_flags, any_port_flags, any_target_flags, port_flags};
+use fm_rules::Flags;
 use fm_symbols::{Context, Scalar, Scope};
 use fm_tree::{Expr, Extra, Var};
-use fm_typing::{Flags, both, judge_target, operand};
+use fm_types_expr::{both, judge_target, operand};
 
 pub(crate) fn two_ports_flags(context: &Context, scope: &Scope, first: &Var, second: &Var) -> Flags
     ensures { result ≡ two_ports_flags context.now scope.now first.now second.now }

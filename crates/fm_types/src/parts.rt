@@ -1,13 +1,14 @@
 //! What is broken in the parts of a statement, and in lists of them: `any_` stands for what is broken in one of a list.
 
 ghost use Rattle.std.specs.Prelude.{◌≡◌};
-ghost use Rattle.fm_types.specs.Statements.{declaration_flags, extra_flags, in_any, integer_flags, is_other_type, is_wrongly_declared, item_flags, logical_flags, optional_flags, port_flags, printed, target_flags, expr_flags};
+ghost use Rattle.fm_rules.specs.TypeStatements.{declaration_flags, extra_flags, in_any, integer_flags, is_other_type, is_wrongly_declared, item_flags, logical_flags, optional_flags, port_flags, printed, target_flags, expr_flags};
 
+use fm_rules::{ExprType, Flags};
 use fm_symbols::{Context, Scalar, Scope, Symbol, symbol_in};
 use fm_tree::{Decl, Expr, Extra, Item, Var};
-use fm_typing::{
-    ExprType, Flags, both, e40, e42, e50, judge, judge_target, judge_variable, no_flags, operand,
-    result_of, same_scalar,
+use fm_types_expr::{
+    both, e40, e42, e50, judge, judge_target, judge_variable, no_flags, operand, result_of,
+    same_scalar,
 };
 
 pub(crate) fn integer_flags(context: &Context, scope: &Scope, expr: &Expr) -> Flags

@@ -3,13 +3,13 @@
 ghost use Rattle.std.specs.Prelude.{◌≡◌, Contains};
 ghost use Rattle.std.specs.List.{flat_map, slice_get};
 ghost use Rattle.fm_base.specs.Verdict.{IsVerdict, least, least_from, place, when};
-ghost use Rattle.fm_types.specs.Types.{broken_at, broken_in_entry, broken_in_statement, broken_in_unit, broken_types, flagged};
+ghost use Rattle.fm_rules.specs.BrokenTypes.{broken_at, broken_in_entry, broken_in_statement, broken_in_unit, broken_types, flagged};
 
 use crate::statements::judge_statement;
 use fm_base::{Line, Refusal, Rule, keep_earlier, least_law};
+use fm_rules::Flags;
 use fm_symbols::{Context, Names, Scope, UnitNames, Variable};
 use fm_tree::{Entry, Placed, Unit, Units};
-use fm_typing::Flags;
 
 fn keep_if(best: Option<Refusal>, broken: bool, line: Line, rule: Rule) -> Option<Refusal>
     ensures { result ≡ least_from best (when broken (place line.0 rule)) }

@@ -2,19 +2,19 @@
 
 ghost use Rattle.std.specs.Prelude.{◌≡◌};
 ghost use Rattle.std.specs.List.{slice_get};
-ghost use Rattle.fm_types.specs.Statements.{assignment_flags, changes_formal, flags_of, is_barred, is_barred_simple, is_formal, is_formal_at, loop_flags, loop_variable_flags, simple_flags, symbol_place, typed_flags, value_for};
+ghost use Rattle.fm_rules.specs.TypeStatements.{assignment_flags, changes_formal, flags_of, is_barred, is_barred_simple, is_formal, is_formal_at, loop_flags, loop_variable_flags, simple_flags, symbol_place, typed_flags, value_for};
 
-use crate::calls::{CallKind, call_flags, process_call_flags, written};
+use crate::calls::{call_flags, process_call_flags, written};
 use crate::messages::{merger_flags, probe_flags, receive_flags, send_flags, two_ports_flags};
 use crate::parts::{
     any_declaration_flags, any_item_flags, integer_flags, logical_flags, optional_flags, port_flags,
 };
 use fm_base::Name;
+use fm_rules::{CallKind, ExprType, Flags, Judgement};
 use fm_symbols::{Context, Scalar, Scope, Symbol, Variable, is_function, symbol_in};
 use fm_tree::{Expr, LoopHead, Simple, Stmt, Var};
-use fm_typing::{
-    ExprType, Flags, Judgement, both, e40, e46, e50, judge, judge_target, needed_value, no_flags,
-    operand, target_named,
+use fm_types_expr::{
+    both, e40, e46, e50, judge, judge_target, needed_value, no_flags, operand, target_named,
 };
 
 fn symbol_place(symbol: Option<Symbol>) -> Option<u32>
@@ -109,7 +109,7 @@ fn loop_flags(context: &Context, scope: &Scope, variables: &[Variable], head: &L
     both(variable, both(both(from, to), step))
 }
 
-#[tactic(auto, unfolding(crate::specs::Statements::simple_flags))]
+#[tactic(auto, unfolding(fm_rules::specs::TypeStatements::simple_flags))]
 fn simple_flags(context: &Context, scope: &Scope, variables: &[Variable], simple: &Simple) -> Flags
     ensures { result ≡ simple_flags context.now scope.now variables.now simple.now }
 {
@@ -147,7 +147,7 @@ fn simple_flags(context: &Context, scope: &Scope, variables: &[Variable], simple
     }
 }
 
-#[tactic(auto, unfolding(crate::specs::Statements::typed_flags))]
+#[tactic(auto, unfolding(fm_rules::specs::TypeStatements::typed_flags))]
 fn typed_flags(context: &Context, scope: &Scope, variables: &[Variable], stmt: &Stmt) -> Flags
     ensures { result ≡ typed_flags context.now scope.now variables.now stmt.now }
 {
@@ -170,7 +170,7 @@ fn typed_flags(context: &Context, scope: &Scope, variables: &[Variable], stmt: &
     }
 }
 
-#[tactic(auto, unfolding(crate::specs::Statements::is_barred_simple))]
+#[tactic(auto, unfolding(fm_rules::specs::TypeStatements::is_barred_simple))]
 fn is_barred_simple(simple: &Simple) -> bool
     ensures { result ≡ is_barred_simple simple.now }
 {
@@ -183,7 +183,7 @@ fn is_barred_simple(simple: &Simple) -> bool
     }
 }
 
-#[tactic(auto, unfolding(crate::specs::Statements::is_barred))]
+#[tactic(auto, unfolding(fm_rules::specs::TypeStatements::is_barred))]
 fn is_barred(stmt: &Stmt) -> bool
     ensures { result ≡ is_barred stmt.now }
 {

@@ -16,12 +16,12 @@ use Rattle.fm_tree.specs.Structure.{form_of, is_end, is_executable}
 use Rattle.fm_tree.specs.Blocks.{innermost}
 use Rattle.fm_tree.specs.Layout.{laid_out}
 use Rattle.fm_tree.specs.Units.{cut_of, put_first, unit_of}
-use Rattle.fm_structure.specs.Broken.{broken_from, broken_in_unit, place_at}
-use Rattle.fm_structure.specs.Forms.{misplaced, opener_of}
-use Rattle.fm_structure.specs.Lookups.{is_before}
-use Rattle.fm_structure.specs.Rules.{is_badly_ended, is_foreign, is_misplaced, is_unmatched, jumps_into_block, lacks_target, repeats_label}
-use Rattle.fm_structure.proofs.Walks.{kept_more}
-use Rattle.fm_unit.specs.Broken.{broken_in_units}
+use Rattle.fm_rules.specs.BrokenUnit.{broken_from, broken_in_unit, place_at}
+use Rattle.fm_rules.specs.StructureForms.{misplaced, opener_of}
+use Rattle.fm_rules.specs.StructureLookups.{is_before}
+use Rattle.fm_rules.specs.StructureRules.{is_badly_ended, is_foreign, is_misplaced, is_unmatched, jumps_into_block, lacks_target, repeats_label}
+use Rattle.fm_unit_structure.proofs.Walks.{kept_more}
+use Rattle.fm_rules.specs.BrokenStructure.{broken_in_units}
 use Rattle.fm_unit.specs.Entries.{built}
 use Rattle.fm_unit.proofs.Laying.{IsBegun, laid_begun}
 

@@ -1,6 +1,3 @@
-pub mod Titles
-pub mod Broken
-pub mod Found
+pub mod Finding
 pub mod Pieces
 pub mod Entries
-pub mod Units

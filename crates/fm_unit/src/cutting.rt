@@ -5,13 +5,14 @@ ghost use Rattle.fm_tree.specs.Structure.{form_of, is_end, is_executable};
 ghost use Rattle.fm_tree.specs.Units.{cut_of};
 
 use fm_base::{NoMemory, Seq};
-use fm_tree::{Form, Placed, Stmt, form_of};
+use fm_tree::{Placed, Stmt, form_of, is_end};
 use std::alloc::Global;
 
-pub(crate) fn is_end(stmt: &Stmt) -> bool
+/// Whether a statement is END.
+pub(crate) fn ends_unit(stmt: &Stmt) -> bool
     ensures { result ≡ is_end (form_of stmt.now) }
 {
-    matches!(form_of(stmt), Form::End)
+    is_end(form_of(stmt))
 }
 
 /// The statements of each unit, in the order of the source.
@@ -21,7 +22,7 @@ pub(crate) fn cut(alloc: Global, statements: Vec<Placed>) -> Result<Vec<Seq<Plac
     let mut units = Vec::new(alloc);
     let mut unit = Seq::new(alloc);
     'statements: for placed in statements {
-        let ends = is_end(&placed.stmt);
+        let ends = ends_unit(&placed.stmt);
         unit.push(placed)?;
         if ends {
             units.push(unit)?;

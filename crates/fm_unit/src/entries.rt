@@ -5,16 +5,16 @@ ghost use Rattle.fm_tree.specs.Layout.{laid_out};
 ghost use Rattle.fm_tree.specs.References.{reference_places};
 ghost use Rattle.fm_tree.specs.Units.{body_of};
 ghost use Rattle.fm_unit.specs.Entries.{assembled, built, entries_with, entry_by, links_with};
-ghost use Rattle.fm_unit.specs.Titles.{is_function_named};
+ghost use Rattle.fm_rules.specs.UnitTitles.{is_function_named};
 
-use crate::links::{Body, branch_in, number, number_if, place_in};
+use crate::linking::{Body, branch_in, number, number_if, place_in};
 use crate::owned::{push, push_if, together};
-use crate::pieces::{is_executable, next_piece, parts};
+use crate::pieces::{next_piece, parts};
 use crate::references::references;
-use crate::titles::Title;
 use fm_base::{Label, Line, NoMemory, Seq};
-use fm_maps::NameMap;
-use fm_tree::{Entry, EntryMark, Placed, Stmt, Unit};
+use fm_finmap::NameMap;
+use fm_rules::Title;
+use fm_tree::{Entry, EntryMark, Placed, Stmt, Unit, is_executable};
 use std::alloc::Global;
 
 /// The entries from the first executable one on.

@@ -3,12 +3,12 @@
 ghost use Rattle.std.specs.Prelude.{◌≡◌, IfOk, map};
 ghost use Rattle.fm_base.specs.declared.rule.Rule.TheVariants.{E26, E27};
 ghost use Rattle.fm_base.specs.Verdict.{least, least_from, place, when};
-ghost use Rattle.fm_unit.specs.Broken.{is_own, is_program, is_taken, missing_end, program_line, program_lines, wrong_programs, wrong_title, wrong_titles};
+ghost use Rattle.fm_rules.specs.BrokenStructure.{is_own, is_program, is_taken, missing_end, program_line, program_lines, wrong_programs, wrong_title, wrong_titles};
 
-use crate::cutting::is_end;
-use crate::titles::Title;
+use crate::cutting::ends_unit;
 use fm_base::{Line, Name, NoMemory, Refusal, Rule, Seq, keep_earlier};
-use fm_maps::NameMap;
+use fm_finmap::NameMap;
+use fm_rules::Title;
 use fm_symbols::heading_name;
 use fm_tree::{Placed, Stmt};
 use fm_values::Intrinsic;
@@ -87,7 +87,7 @@ pub(crate) fn missing_end(statements: &[Placed], best: Option<Refusal>) -> Optio
     match statements.last() {
         None => best,
         Some(last) => {
-            if is_end(&last.stmt) {
+            if ends_unit(&last.stmt) {
                 return best;
             }
             let refusal = Refusal {

@@ -5,12 +5,14 @@
 
 mod cutting;
 mod entries;
+mod entry_links;
 mod headings;
-mod links;
+mod linking;
 mod owned;
 mod pieces;
 mod references;
 mod source;
 mod titles;
 
+pub use entry_links::all_links;
 pub use source::units;

@@ -7,17 +7,8 @@ ghost use Rattle.fm_unit.specs.Pieces.{body_in, made, piece, pieces_in, pieces_l
 
 use crate::owned::{push, push_both};
 use fm_base::NoMemory;
-use fm_tree::{Form, Placed, Simple, Stmt, form_of};
+use fm_tree::{Form, Placed, Simple, Stmt, form_of, is_executable};
 use std::alloc::Global;
-
-pub(crate) fn is_executable(form: Form) -> bool
-    ensures { result ≡ is_executable form }
-{
-    !matches!(
-        form,
-        Form::Heading(_) | Form::Declaration | Form::Processors
-    )
-}
 
 /// The statements of a statement's own entries.
 #[tactic(auto, unfolding(crate::specs::Pieces::pieces_of))]

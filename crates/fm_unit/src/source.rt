@@ -4,20 +4,21 @@ ghost use Rattle.std.specs.Prelude.{◌≡◌, IfOk, IfErr, Contains};
 ghost use Rattle.std.specs.List.{flat_map};
 ghost use Rattle.fm_base.specs.Verdict.{IsClean, IsRefusal, least, least_from};
 ghost use Rattle.fm_tree.specs.Units.{cut_of};
-ghost use Rattle.fm_unit.specs.Broken.{broken_in_units, broken_structure};
+ghost use Rattle.fm_rules.specs.BrokenStructure.{broken_in_units, broken_structure};
 ghost use Rattle.fm_unit.specs.Entries.{built};
-ghost use Rattle.fm_unit.specs.Titles.{is_function_named, titles_of};
-ghost use Rattle.fm_unit.specs.Units.{units_of};
+ghost use Rattle.fm_rules.specs.UnitTitles.{is_function_named, titles_of};
+ghost use Rattle.fm_rules.specs.Units.{units_of};
 
 use crate::cutting::cut;
 use crate::entries::add_unit;
 use crate::headings::{missing_end, wrong_programs, wrong_titles};
-use crate::titles::{Title, make_titles};
+use crate::titles::make_titles;
 use fm_base::{CheckFail, NoMemory, Refusal, Seq, least_law};
-use fm_layout::lay_out;
-use fm_maps::NameMap;
-use fm_structure::structure;
+use fm_finmap::NameMap;
+use fm_rules::Title;
 use fm_tree::{Placed, Unit, Units};
+use fm_unit_layout::lay_out;
+use fm_unit_structure::structure;
 use std::alloc::Global;
 
 /// The units of these statements, and the least of the best so far and of what one of them breaks.

@@ -2,21 +2,14 @@
 
 ghost use Rattle.std.specs.Prelude.{◌≡◌, IfOk, OnOk};
 ghost use Rattle.fm_symbols.specs.ByName.{with_all};
-ghost use Rattle.fm_unit.specs.Titles.{is_function_named, is_function_title, title_entry, titled, titles_of};
+ghost use Rattle.fm_rules.specs.UnitTitles.{is_function_named, is_function_title, title_entry, titled, titles_of};
 
 use fm_base::{Name, NoMemory, Seq};
-use fm_maps::NameMap;
+use fm_finmap::NameMap;
+use fm_rules::Title;
 use fm_symbols::{heading_kind, heading_name, insert_new, is_function};
-use fm_tree::{Placed, UnitKind};
+use fm_tree::Placed;
 use std::alloc::Global;
-
-/// A unit that a name stands for.
-#[derive(Clone, Copy)]
-pub struct Title {
-    /// The number of the unit, from 0.
-    pub number: usize,
-    pub kind: UnitKind,
-}
 
 fn add_title(
     alloc: Global,

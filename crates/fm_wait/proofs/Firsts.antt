@@ -10,9 +10,9 @@ use Rattle.std.specs.declared.cmp.Ordering.TheVariants.{Less, Equal, Greater}
 use Rattle.std.proofs.lemmas.List.{get_or-map}
 use Rattle.fm_base.proofs.PathLaws.{path_total}
 use Rattle.fm_base.specs.PathOrder.{path_cmp}
-use Rattle.fm_maps.specs.Map.{map_values}
-use Rattle.fm_maps.proofs.Keys.{path_order, same, tie, tie_self}
-use Rattle.fm_maps.proofs.Maps.{entries-map_values, get-map_values}
+use Rattle.fm_finmap.specs.Map.{map_values}
+use Rattle.fm_finmap.proofs.Keys.{path_order, same, tie, tie_self}
+use Rattle.fm_finmap.proofs.Maps.{entries-map_values, get-map_values}
 use Rattle.fm_wait.specs.Places.{IsFirst, next_places, path_at, place_of, places_from}
 use Rattle.fm_wait.specs.Waits.{Pairs, first_waits, next_path, waits_for}
 use Rattle.fm_mean.specs.declared.outcome.Outcome.{Outcome}

@@ -8,7 +8,7 @@ use Rattle.std.proofs.lemmas.List.{drop_more}
 use Rattle.fm_base.proofs.PathLaws.{channel_total}
 use Rattle.fm_base.specs.PathOrder.{channel_cmp, path_cmp}
 use Rattle.fm_base.specs.declared.path.ChanName.{ChanName}
-use Rattle.fm_maps.proofs.Keys.{channel_order, tie}
+use Rattle.fm_finmap.proofs.Keys.{channel_order, tie}
 use Rattle.fm_wait.specs.Places.{places_from}
 use Rattle.fm_wait.specs.Waits.{least_holder, lesser}
 use Rattle.fm_mean.specs.declared.outcome.Holder.{Holder}

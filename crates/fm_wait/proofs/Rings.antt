@@ -14,7 +14,7 @@ use Rattle.std.specs.declared.cmp.Ordering.TheVariants.{Less}
 use Rattle.fm_base.proofs.PathLaws.{path_total}
 use Rattle.fm_base.specs.PathOrder.{path_cmp}
 use Rattle.fm_graph.specs.Graph.{IsComponents}
-use Rattle.fm_maps.proofs.Keys.{nat_order, tie, tie_self}
+use Rattle.fm_finmap.proofs.Keys.{nat_order, tie, tie_self}
 use Rattle.fm_wait.specs.Cycles.{cycle_from, cycles_of, from_least, others_on_ring, way}
 use Rattle.fm_wait.specs.Places.{IsFirst, is_name, is_on_ring, leads_back, next_places, path_at, place_behind, place_of, places_from, unless_is}
 use Rattle.fm_wait.specs.Waits.{Pairs, next_path}

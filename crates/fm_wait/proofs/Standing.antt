@@ -12,7 +12,7 @@ use Rattle.std.proofs.lemmas.Map.Views.{Contains-from_any}
 use Rattle.fm_base.proofs.PathLaws.{path_total}
 use Rattle.fm_base.specs.PathOrder.{path_cmp}
 use Rattle.fm_graph.specs.Graph.{IsEdge, IsWalk, Reaches, edges_of}
-use Rattle.fm_maps.proofs.Keys.{path_order, tie}
+use Rattle.fm_finmap.proofs.Keys.{path_order, tie}
 use Rattle.fm_wait.specs.Cycles.{others_on_ring, way}
 use Rattle.fm_wait.specs.Places.{next_places, place_of, places_from}
 use Rattle.fm_wait.specs.Waits.{Pairs, next_path, waits_for}

@@ -4,7 +4,7 @@ use Rattle.std.specs.Prelude.{Option, Some, None, option_map, option_and_then}
 use Rattle.std.specs.List.{AllByRecursion, IsDistinct}
 use Rattle.std.specs.Ordering.{eq_by_cmp}
 use Rattle.fm_base.specs.PathOrder.{path_cmp}
-use Rattle.fm_maps.proofs.Keys.{decide, path_order, tie, tie_not, tie_self}
+use Rattle.fm_finmap.proofs.Keys.{decide, path_order, tie, tie_not, tie_self}
 use Rattle.fm_wait.specs.Cycles.{way}
 use Rattle.fm_wait.specs.Waits.{Pairs}
 use Rattle.fm_wait.proofs.Members.{Has, same_some}

@@ -5,11 +5,11 @@ ghost use Rattle.std.specs.Option.{option_copied};
 ghost use Rattle.std.specs.FinMap.{get};
 ghost use Rattle.fm_base.specs.PathOrder.{channel_cmp};
 ghost use Rattle.fm_base.specs.declared.path.ChanName.{ChanName};
-ghost use Rattle.fm_maps.specs.Map.{map_of};
+ghost use Rattle.fm_finmap.specs.Map.{map_of};
 ghost use Rattle.fm_wait.specs.Waits.{lesser, least_holder, waits_for, MatchAt};
 
 use fm_base::{ChanName, NoMemory, Path};
-use fm_maps::Map;
+use fm_finmap::Map;
 use fm_mean::{At, Holder, Outcome};
 use std::alloc::Global;
 

@@ -4,11 +4,11 @@ ghost use Rattle.std.specs.Prelude.{◌≡◌, IfOk, map};
 ghost use Rattle.std.specs.FinMap.{entries};
 ghost use Rattle.std.specs.Option.{option_to_list};
 ghost use Rattle.fm_base.specs.PathOrder.{path_cmp};
-ghost use Rattle.fm_maps.specs.Map.{map_of};
+ghost use Rattle.fm_finmap.specs.Map.{map_of};
 ghost use Rattle.fm_wait.specs.Places.{place_of, places_from};
 
 use fm_base::{NoMemory, Path, Seq};
-use fm_maps::Map;
+use fm_finmap::Map;
 use fm_mean::Wait;
 use std::alloc::Global;
 

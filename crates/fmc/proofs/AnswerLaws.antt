@@ -14,9 +14,9 @@ use Rattle.fm_tree.specs.declared.program_unit.Placed.{Placed}
 use Rattle.fm_tree.specs.declared.program_unit.Unit.{Unit}
 use Rattle.fm_symbols.specs.declared.names.UnitNames.{UnitNames}
 use Rattle.fm_symbols.specs.Context.{context_of}
-use Rattle.fm_unit.specs.Units.{units_of}
-use Rattle.fm_names.specs.Names.{names_of}
-use Rattle.fm_det.specs.Race.{IsRaceVerdict}
+use Rattle.fm_rules.specs.Units.{units_of}
+use Rattle.fm_rules.specs.Names.{names_of}
+use Rattle.fm_rules.specs.Race.{IsRaceVerdict}
 use Rattle.fm_net.specs.Machine.{Place}
 use Rattle.fm_mean.specs.declared.outcome.FaultAt.{FaultAt}
 use Rattle.fm_mean.specs.Steps.{step, first}

@@ -23,13 +23,13 @@ use Rattle.fm_mean.specs.Steps.{language, step, first}
 use Rattle.fm_mean.specs.Outcome.{outcome_of}
 use Rattle.fm_report.specs.Report.{report_text}
 use Rattle.fm_symbols.specs.Context.{context_of}
-use Rattle.fm_unit.specs.Units.{units_of}
-use Rattle.fm_names.specs.Names.{names_of}
-use Rattle.fm_det.specs.Race.{IsRaceVerdict}
+use Rattle.fm_rules.specs.Units.{units_of}
+use Rattle.fm_rules.specs.Names.{names_of}
+use Rattle.fm_rules.specs.Race.{IsRaceVerdict}
 use Rattle.fm_rules.specs.declared.program.Program.{Program}
 use Rattle.fm_front.specs.Verdict.{IsBroken, AreStatementsOf}
 use Rattle.fm_front.specs.Program.{IsCheckedOf}
-use Rattle.fm_run.specs.Runs.{HaveSteps, IsFrontWithin}
+use Rattle.fm_run.specs.Runs.{HaveSteps, IsFrontWithin, Follows}
 use Rattle.fm_make.specs.Made.{made_text}
 use Rattle.fm_words.specs.Words.{command_of}
 use Rattle.fm_words.specs.declared.command.Command.{Command}
@@ -317,3 +317,7 @@ IsTooLongExit exit = (exit ≡ TooLong) ⊎ (exit ≡ NoMemory)
 -- what a source that is handed in comes to under choices that are handed in: a run that ended, or was spent
 abbrev pub IsPlayedExit : Exit → Type 0
 IsPlayedExit exit = ((exit ≡ Done) ⊎ ((exit ≡ Faulted) ⊎ (exit ≡ Deadlocked))) ⊎ (exit ≡ Spent)
+
+-- the kept schedule of the source's program follows the choices, in pieces of at most a slice
+abbrev pub FollowsIn : List ℕ → (slice : ℕ) → (choices : List ℕ) → List Turn → Type 0
+FollowsIn source slice choices history = (program : Program) × IsCheckedOf source program × Follows program slice choices history

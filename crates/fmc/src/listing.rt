@@ -4,8 +4,8 @@ ghost use Rattle.std.specs.Prelude.{◌≡◌, ◌++◌, ◌∷◌, [], IfOk, On
 ghost use Rattle.fmc.specs.Listing.{right_in, label_text, listed_line, listed_text};
 
 use fm_base::{Label, NoMemory};
-use fm_spell::spell_text;
 use fm_tree::Placed;
+use fm_tree_spell::spell_text;
 use std::alloc::Global;
 
 /// The columns of a line number.

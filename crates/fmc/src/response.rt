@@ -10,16 +10,16 @@ ghost use Rattle.fmc.specs.Listing.{listed_text};
 ghost use Rattle.fm_run.specs.Orders.{places_of};
 ghost use Rattle.fm_words.specs.declared.command.Command.TheVariants as command;
 ghost use Rattle.fmc.specs.Exits.{is_decided};
-ghost use Rattle.fmc.specs.Answer.{IsListOf, determinism_text, IsUnplayed, IsPlayedExit, SaysDemo, SaysMade, SaysRun, count_line, ended_word, exit_of, report_by, spent_text, source_limit, summary_by};
+ghost use Rattle.fmc.specs.Answer.{FollowsIn, IsListOf, determinism_text, IsUnplayed, IsPlayedExit, SaysDemo, SaysMade, SaysRun, count_line, ended_word, exit_of, report_by, spent_text, source_limit, summary_by};
 ghost use Rattle.fmc.specs.Reply.{bytes_of, places_in, IsReply, IsRunOf, IsSummary, exit_in, text_in};
 
 use crate::answer::{Exit, Ran, Reply, Text};
 use crate::listing::list_text;
 use fm_base::{CheckFail, Line, NoMemory, Path, Refusal, Setup};
-use fm_compiled::Compiled;
 use fm_front::{check_statements, front, statements};
 use fm_make::make;
 use fm_mean::Outcome;
+use fm_outcome_code::Compiled;
 use fm_report::report;
 use fm_run::{Ending, Run, run_program};
 use fm_tree::Placed;
@@ -111,6 +111,7 @@ fn run_source(
     requires size { length bytes.now ≤ source_limit }
     requires some { 1 ≤ slice }
     ensures run { IfOk result (λ run. IsRunOf bytes.now turns run) }
+    ensures follows { IfOk result (λ run. FollowsIn bytes.now slice choices.now run.history.items) }
     ensures refused { IfErr result (IsRefusal (IsBroken bytes.now)) }
 {
     let program = front(alloc, bytes)?;
@@ -143,6 +144,7 @@ pub fn play_source(
     requires size { length bytes.now ≤ source_limit }
     requires some { 1 ≤ slice }
     ensures says { IfOk result (λ r. SaysRun turns (report_by vars) bytes.now r.0.exit r.0.history.items (places_in r.0) r.1.items) }
+    ensures follows { IfOk result (λ r. FollowsIn bytes.now slice choices.now r.0.history.items) }
     ensures exit { IfOk result (λ r. IsPlayedExit r.0.exit) }
     ensures refused { IfErr result (IsRefusal (IsBroken bytes.now)) }
 {

@@ -11,7 +11,7 @@ ghost use Rattle.fm_front.specs.Verdict.{IsBroken};
 ghost use Rattle.fm_words.specs.Words.{command_of};
 ghost use Rattle.fm_words.specs.declared.command.Command.{Command};
 ghost use Rattle.fmc.specs.Exits.{is_usage, is_read};
-ghost use Rattle.fmc.specs.Answer.{Answers, Says, SaysOf, SaysRun, HasHistory, IsReady, IsRefusedBy, IsCompleted, IsRefusedExit, IsTooLongExit, IsPlayedExit, are_reading, is_reading, report_by, source_limit};
+ghost use Rattle.fmc.specs.Answer.{Answers, FollowsIn, Says, SaysOf, SaysRun, HasHistory, IsReady, IsRefusedBy, IsCompleted, IsRefusedExit, IsTooLongExit, IsPlayedExit, are_reading, is_reading, report_by, source_limit};
 ghost use Rattle.fmc.specs.Reply.{bytes_of, places_in};
 
 use crate::answer::{Exit, Ran, Reply, Text};
@@ -148,7 +148,7 @@ pub fn fmc<S: Source, K: Sink>(alloc: Global, words: &[&str], source: &mut S, si
 }
 
 /// Does with a source of these bytes what `run` does, under a schedule of the caller's: piece i, of at
-/// most 1,000 steps and an event, goes to number `choices[i]`, from 0 and modulo their count, of those
+/// most 1,000 steps, its event among them, goes to number `choices[i]`, from 0 and modulo their count, of those
 /// that can step, in their order, and to the first one when the choices are used up. Gives the exit with
 /// the kept schedule, and the text.
 pub fn play_choices(
@@ -162,6 +162,7 @@ pub fn play_choices(
     requires some_turns { 1 ≤ turns }
     requires few_turns { turns ≤ 1_000_000_000 }
     ensures answers { IfOk result (λ r. SaysRun turns (report_by vars) source.now r.0.exit r.0.history.items (places_in r.0) r.1.items) }
+    ensures follows { IfOk result (λ r. FollowsIn source.now 1_000 choices.now r.0.history.items) }
     ensures exit { IfOk result (λ r. IsPlayedExit r.0.exit) }
     ensures refused { IfErr result (IsRefusal (IsBroken source.now)) }
 {

@@ -14,8 +14,8 @@ struct Row {
 
 const DETERMINISTIC: &[u8] = b"deterministic\n";
 
-/// First two rules at once, then the rules in their order, each alone.
-const ROWS: [Row; 36] = [
+/// First two rules at once, then the rules in their order, each alone but for an element with wrong subscripts.
+const ROWS: [Row; 38] = [
     Row {
         broken: b"      PROGRAM P\n      X = 1\n      GOTO 10\n      END\n",
         refusal: b"line 3: E23 label missing\n",
@@ -141,6 +141,12 @@ const ROWS: [Row; 36] = [
         refusal: b"line 2: E40 wrong operand\n",
         lawful: b"      PROGRAM P\n      IF (I .NE. 0) STOP\n      END\n",
     },
+    // An element with wrong subscripts has the type of its array.
+    Row {
+        broken: b"      PROGRAM P\n      LOGICAL B(2)\n      I = B(1,2) - 1\n      END\n",
+        refusal: b"line 3: E40 wrong operand\n",
+        lawful: b"      PROGRAM P\n      INTEGER B(2)\n      I = B(1) - 1\n      END\n",
+    },
     Row {
         broken: b"      PROGRAM P\n      I(1) = 1\n      END\n",
         refusal: b"line 2: E41 wrong subscripts\n",
@@ -155,6 +161,12 @@ const ROWS: [Row; 36] = [
         broken: b"      PROGRAM P\n      CALL S\n      END\n",
         refusal: b"line 2: E43 unknown unit\n",
         lawful: b"      PROGRAM P\n      CALL S\n      END\n      SUBROUTINE S\n      END\n",
+    },
+    // A CALL of what is no SUBROUTINE is no step of a recursion.
+    Row {
+        broken: b"      PROGRAM P\n      CALL S\n      END\n      SUBROUTINE S\n      CALL P\n      END\n",
+        refusal: b"line 5: E43 unknown unit\n",
+        lawful: b"      PROGRAM P\n      CALL S\n      END\n      SUBROUTINE S\n      CALL T\n      END\n      SUBROUTINE T\n      END\n",
     },
     Row {
         broken: b"      PROGRAM P\n      PARAMETER (N = 3)\n      N = 4\n      END\n",

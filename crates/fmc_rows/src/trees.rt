@@ -4,7 +4,7 @@ ghost use Rattle.std.specs.Prelude.{◌≤◌};
 
 use crate::answers::answer;
 use crate::{examples, language, programs};
-use fm_tree_report::tree_text;
+use fm_plain_report::tree_text;
 use fmc::Exit;
 use std::alloc::Global;
 use std::test::Fail;

@@ -1,5 +1,5 @@
 use Rattle.std.proofs.Common.{◌≡◌, ◌++◌, drop}
-use Rattle.fm_det.specs.Calls.{referring}
+use Rattle.fm_rules.specs.Calls.{referring}
 use Rattle.fm_det.proofs.calls.add_references.Given as goal
 
 abbrev pub invariant-places : goal.invariant-places

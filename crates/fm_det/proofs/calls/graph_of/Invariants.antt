@@ -1,5 +1,5 @@
 use Rattle.std.proofs.Common.{◌≡◌, map, take}
-use Rattle.fm_det.specs.Calls.{target_of}
+use Rattle.fm_rules.specs.Calls.{target_of}
 use Rattle.fm_det.proofs.calls.graph_of.Given as goal
 
 abbrev pub invariant-units : goal.invariant-units

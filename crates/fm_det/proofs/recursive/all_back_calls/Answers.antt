@@ -1,6 +1,6 @@
 use Rattle.std.proofs.Common.{◌∙◌, List, ap, arith}
 use Rattle.fm_base.specs.Verdict.{least_from}
-use Rattle.fm_det.specs.declared.calls.Call.{Call}
+use Rattle.fm_rules.specs.declared.calls.Call.{Call}
 use Rattle.fm_det.specs.Search.{back_calls}
 use Rattle.fm_det.proofs.Backs.{all_back_more}
 use Rattle.fm_det.proofs.recursive.all_back_calls.Goals as goal

@@ -1,5 +1,5 @@
 use Rattle.std.proofs.Common.{◌≡◌, ◌+◌, drop, length}
-use Rattle.fm_checked.specs.Sound.{formals_among}
+use Rattle.fm_gen_relation.specs.Sound.{formals_among}
 use Rattle.fm_gen.proofs.describing.formal_count.Given as goal
 
 abbrev pub invariant-variables : goal.invariant-variables

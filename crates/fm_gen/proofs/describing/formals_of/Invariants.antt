@@ -1,6 +1,6 @@
 use Rattle.std.proofs.Common.{◌≡◌, ◌++◌, length}
-use Rattle.fm_checked.specs.Sound.{formals_among}
-use Rattle.fm_standing.specs.Formals.{formals_from}
+use Rattle.fm_gen_relation.specs.Sound.{formals_among}
+use Rattle.fm_gen_relation.specs.Formals.{formals_from}
 use Rattle.fm_gen.proofs.describing.formals_of.Given as goal
 
 abbrev pub decreases-formals : goal.decreases-formals

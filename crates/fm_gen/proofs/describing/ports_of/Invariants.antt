@@ -1,5 +1,5 @@
 use Rattle.std.proofs.Common.{◌≡◌, ◌++◌, drop}
-use Rattle.fm_standing.specs.Formals.{ports_of}
+use Rattle.fm_gen_relation.specs.Formals.{ports_of}
 use Rattle.fm_gen.proofs.describing.ports_of.Given as goal
 
 abbrev pub invariant-variables : goal.invariant-variables

@@ -2,7 +2,7 @@ use Rattle.std.proofs.Common.{List, sym, subst, ap}
 use Rattle.fm_code.specs.declared.code.Entry.{Entry}
 use Rattle.fm_code.specs.declared.code.Unit as code
 use Rattle.fm_code.specs.declared.instr.Instr.{Instr}
-use Rattle.fm_frame.specs.Units.{unit_of}
+use Rattle.fm_plain_frame.specs.Units.{unit_of}
 use Rattle.fm_gen.specs.Kept.{KeepsUnit}
 use Rattle.fm_gen.specs.Units.{TellsLines}
 use Rattle.fm_gen.proofs.KeptUnits.{keeps_unit}

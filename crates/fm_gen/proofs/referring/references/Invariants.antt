@@ -1,5 +1,5 @@
 use Rattle.std.proofs.Common.{◌≡◌, ◌+◌, ◌++◌, drop, length}
-use Rattle.fm_frame.specs.Units.{unit_of}
+use Rattle.fm_plain_frame.specs.Units.{unit_of}
 use Rattle.fm_gen.specs.Entries.{references_code}
 use Rattle.fm_gen.proofs.referring.references.Given as goal
 

@@ -1,7 +1,7 @@
 use Rattle.std.proofs.Common.{◌≡◌, drop}
 use Rattle.std.specs.List.{flat_map}
 use Rattle.fm_base.specs.Verdict.{least_from}
-use Rattle.fm_names.specs.Broken.{untyped_at}
+use Rattle.fm_rules.specs.BrokenNames.{untyped_at}
 use Rattle.fm_names.proofs.judging.judge_untyped.Given as goal
 
 abbrev pub invariant-first : goal.invariant-first

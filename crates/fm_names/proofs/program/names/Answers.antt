@@ -1,4 +1,4 @@
-use Rattle.fm_names.specs.Broken.{broken_names}
+use Rattle.fm_rules.specs.BrokenNames.{broken_names}
 use Rattle.fm_names.proofs.Broken.{all_clean, least_of, not_some, refused_is}
 use Rattle.fm_names.proofs.program.names.Goals as goal
 

@@ -1,5 +1,5 @@
 use Rattle.std.proofs.Common.{refl}
-use Rattle.fm_names.specs.Sheets.{kinds_at, kinds_from}
+use Rattle.fm_rules.specs.Sheets.{kinds_at, kinds_from}
 use Rattle.fm_names.proofs.Maps.{all_more}
 use Rattle.fm_names.proofs.sheet.add_all_kinds.Goals as goal
 

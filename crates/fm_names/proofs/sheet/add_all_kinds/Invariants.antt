@@ -1,6 +1,6 @@
 use Rattle.std.proofs.Common.{◌≡◌, drop}
 use Rattle.fm_symbols.specs.ByName.{with_all}
-use Rattle.fm_names.specs.Sheets.{kinds_from}
+use Rattle.fm_rules.specs.Sheets.{kinds_from}
 use Rattle.fm_names.proofs.sheet.add_all_kinds.Given as goal
 
 abbrev pub invariant-specs : goal.invariant-specs

@@ -1,6 +1,6 @@
 use Rattle.std.proofs.Common.{◌≡◌, ◌+◌, drop}
 use Rattle.fm_symbols.specs.ByName.{with_all}
-use Rattle.fm_names.specs.Sheets.{numbered}
+use Rattle.fm_rules.specs.Sheets.{numbered}
 use Rattle.fm_names.proofs.sheet.add_formals.Given as goal
 
 abbrev pub invariant-names : goal.invariant-names

@@ -1,6 +1,6 @@
 use Rattle.std.proofs.Common.{◌≡◌, drop, map}
 use Rattle.fm_symbols.specs.ByName.{with_all}
-use Rattle.fm_names.specs.Sheets.{is_in}
+use Rattle.fm_rules.specs.Sheets.{is_in}
 use Rattle.fm_names.proofs.sheet.add_inputs.Given as goal
 
 abbrev pub invariant-names : goal.invariant-names

@@ -1,7 +1,7 @@
 use Rattle.std.proofs.Common.{◌≡◌, drop}
 use Rattle.std.specs.Prelude.{Some}
 use Rattle.fm_symbols.specs.ByName.{with_all}
-use Rattle.fm_names.specs.Sheets.{kind_entries}
+use Rattle.fm_rules.specs.Sheets.{kind_entries}
 use Rattle.fm_names.proofs.sheet.add_kinds.Given as goal
 
 abbrev pub invariant-decls : goal.invariant-decls

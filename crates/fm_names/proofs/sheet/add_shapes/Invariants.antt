@@ -1,7 +1,7 @@
 use Rattle.std.proofs.Common.{◌≡◌, drop}
 use Rattle.std.specs.List.{flat_map}
 use Rattle.fm_symbols.specs.ByName.{with_all}
-use Rattle.fm_names.specs.Sheets.{decl_shapes}
+use Rattle.fm_rules.specs.Sheets.{decl_shapes}
 use Rattle.fm_names.proofs.sheet.add_shapes.Given as goal
 
 abbrev pub invariant-decls : goal.invariant-decls

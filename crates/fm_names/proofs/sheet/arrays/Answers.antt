@@ -1,11 +1,11 @@
 use Rattle.std.proofs.Common.{refl, sym, ap, ◌∙◌}
 use Rattle.std.specs.List.{flat_map}
 use Rattle.fm_symbols.specs.ByName.{with_all}
-use Rattle.fm_constants.specs.Parts.{decls_of}
+use Rattle.fm_rules.specs.ConstantParts.{decls_of}
 use Rattle.fm_tree.specs.declared.program_unit.Placed.{Placed}
 use Rattle.fm_tree.specs.declared.statement.Decl.{Decl}
 use Rattle.std.specs.Prelude.{ℕ, List}
-use Rattle.fm_names.specs.Sheets.{decl_shapes, shapes_from}
+use Rattle.fm_rules.specs.Sheets.{decl_shapes, shapes_from}
 use Rattle.fm_names.proofs.Maps.{all_more}
 use Rattle.fm_names.proofs.sheet.arrays.Goals as goal
 

@@ -1,6 +1,6 @@
 use Rattle.std.proofs.Common.{◌≡◌, drop}
 use Rattle.fm_symbols.specs.ByName.{with_all}
-use Rattle.fm_names.specs.Sheets.{arrays_of, shapes_from}
+use Rattle.fm_rules.specs.Sheets.{arrays_of, shapes_from}
 use Rattle.fm_names.proofs.sheet.arrays.Given as goal
 
 abbrev pub invariant-specs : goal.invariant-specs

@@ -2,7 +2,7 @@ use Rattle.std.proofs.Common.{refl}
 use Rattle.std.specs.Prelude.{ℕ, List}
 use Rattle.std.specs.List.{flat_map}
 use Rattle.fm_tree.specs.declared.program_unit.Placed.{Placed}
-use Rattle.fm_names.specs.Sheets.{intents_at}
+use Rattle.fm_rules.specs.Sheets.{intents_at}
 use Rattle.fm_names.proofs.Maps.{all_more}
 use Rattle.fm_names.proofs.sheet.inputs.Goals as goal
 

@@ -1,5 +1,5 @@
 use Rattle.std.proofs.Common.{◌≡◌, ◌≤◌, ◌*◌, Some}
-use Rattle.fm_frame.specs.Frames.{proc_of}
+use Rattle.fm_plain_frame.specs.Frames.{proc_of}
 use Rattle.fm_plain.specs.Advance.{local_steps}
 use Rattle.fm_plain.proofs.advancing.advance.Given as goal
 

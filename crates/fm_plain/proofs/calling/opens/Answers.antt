@@ -1,10 +1,10 @@
 use Rattle.std.proofs.Common.{ap, ◌∙◌, rules}
 use Rattle.fm_mean.specs.Calls.{entered, new_frame}
 use Rattle.fm_mean.specs.Fits.{variables_of}
-use Rattle.fm_frame.specs.Frames.{frame_of}
-use Rattle.fm_frame.specs.LetGo.{let_go_ports}
-use Rattle.fm_frame.specs.Memory.{values_of}
-use Rattle.fm_frame.specs.Units.{unit_of}
+use Rattle.fm_plain_frame.specs.Frames.{frame_of}
+use Rattle.fm_plain_frame.specs.LetGo.{let_go_ports}
+use Rattle.fm_plain_frame.specs.Memory.{values_of}
+use Rattle.fm_plain_frame.specs.Units.{unit_of}
 use Rattle.fm_plain.specs.Standing.{frame_in, program_in, standing, waiting}
 use Rattle.fm_plain.proofs.CallLaws.{opened}
 use Rattle.fm_plain.proofs.calling.opens.Goals as goal

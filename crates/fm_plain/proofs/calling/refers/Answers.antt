@@ -6,7 +6,7 @@ use Rattle.fm_rules.specs.declared.program.Program.{Program}
 use Rattle.fm_mean.specs.Actions.{Action}
 use Rattle.fm_mean.specs.Evaluate.{actuals_of, reference_of, refs_in_all}
 use Rattle.fm_mean.specs.Names.{unit_at}
-use Rattle.fm_frame.specs.Units.{unit_of}
+use Rattle.fm_plain_frame.specs.Units.{unit_of}
 use Rattle.fm_plain.specs.Standing.{below_in, frame_in, line_in, program_in, scope_in, standing}
 use Rattle.fm_plain.specs.Steps.{IsStep}
 use Rattle.fm_plain.proofs.ReferenceLaws.{called_there, refers_to}

@@ -1,4 +1,4 @@
-use Rattle.fm_frame.specs.Frames.{proc_of}
+use Rattle.fm_plain_frame.specs.Frames.{proc_of}
 use Rattle.fm_plain.proofs.LocalLaws.{joins_event, joins_rest}
 use Rattle.fm_plain.proofs.local.act.Goals.{in-None, in-Some}
 use Rattle.fm_plain.proofs.local.act.Goals as goal

@@ -1,5 +1,5 @@
 use Rattle.std.proofs.lemmas.Result.{IfOk-weaker, on_err_weaker}
-use Rattle.fm_frame.specs.Frames.{execution_of, proc_of}
+use Rattle.fm_plain_frame.specs.Frames.{execution_of, proc_of}
 use Rattle.fm_mean.specs.Actions.{running}
 use Rattle.fm_plain.specs.Standing.{below_of, standing}
 use Rattle.fm_plain.proofs.LocalLaws.{run_acts, run_step, run_stood}

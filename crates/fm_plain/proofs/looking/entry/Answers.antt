@@ -3,7 +3,7 @@ use Rattle.std.specs.Option.{option_copied}
 use Rattle.fm_tree.specs.Tree.{Tree}
 use Rattle.fm_mean.specs.Actions.{action_by}
 use Rattle.fm_mean.specs.Process.{Execution, Frame, Running}
-use Rattle.fm_frame.specs.Units.{unit_of}
+use Rattle.fm_plain_frame.specs.Units.{unit_of}
 use Rattle.fm_plain.specs.Looking.{IsSeen}
 use Rattle.fm_plain.specs.Standing.{frame_in, point_in, program_in}
 use Rattle.fm_plain.proofs.looking.entry.Goals as goal

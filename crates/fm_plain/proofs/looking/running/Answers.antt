@@ -1,6 +1,6 @@
 use Rattle.std.proofs.Common.{ap}
 use Rattle.std.specs.Option.{option_copied}
-use Rattle.fm_frame.specs.Frames.{execution_of}
+use Rattle.fm_plain_frame.specs.Frames.{execution_of}
 use Rattle.fm_plain.proofs.Free.{rests_by, seen_by}
 use Rattle.fm_plain.proofs.looking.running.Goals as goal
 

@@ -1,6 +1,6 @@
 use Rattle.std.proofs.Common.{sym, subst}
 use Rattle.fm_mean.specs.Actions.{ends_loop}
-use Rattle.fm_frame.specs.Units.{unit_of}
+use Rattle.fm_plain_frame.specs.Units.{unit_of}
 use Rattle.fm_plain.specs.declared.looping.Loop.{Loop}
 use Rattle.fm_plain.specs.Standing.{ActsOn, frame_in, point_in, loop_read}
 use Rattle.fm_plain.proofs.looping.ends_loop.Goals as goal

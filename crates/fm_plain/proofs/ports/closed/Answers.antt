@@ -1,7 +1,7 @@
 use Rattle.std.proofs.Common.{ap, ◌∙◌, ◌∷◌, []}
 use Rattle.fm_base.specs.declared.fault.Fault.TheVariants.{NullPort}
 use Rattle.fm_mean.specs.Actions.{at_entry}
-use Rattle.fm_frame.specs.LetGo.{let_go_ports}
+use Rattle.fm_plain_frame.specs.LetGo.{let_go_ports}
 use Rattle.fm_plain.specs.Standing.{frame_in, line_in, point_in, program_in}
 use Rattle.fm_plain.proofs.PortLaws.{closed_null, closed_own, none_is, some_is}
 use Rattle.fm_plain.proofs.StepLaws.{failed_step}

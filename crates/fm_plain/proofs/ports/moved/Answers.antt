@@ -1,5 +1,5 @@
 use Rattle.std.proofs.Common.{ap, ◌∙◌, ◌∷◌, []}
-use Rattle.fm_frame.specs.LetGo.{let_go_ports}
+use Rattle.fm_plain_frame.specs.LetGo.{let_go_ports}
 use Rattle.fm_plain.specs.Standing.{frame_in, point_in, program_in}
 use Rattle.fm_plain.proofs.PortLaws.{moved_both}
 use Rattle.fm_plain.proofs.ports.moved.Goals as goal

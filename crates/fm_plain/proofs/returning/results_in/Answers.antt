@@ -1,7 +1,7 @@
 use Rattle.std.proofs.Common.{◌≡◌, ◌++◌, ◌∷◌, [], ℤ, List, ap, refl, ◌∙◌, arith, rules}
 use Rattle.fm_mean.specs.Actions.{results_in, scalar_place}
-use Rattle.fm_frame.specs.Frames.{frame_of}
-use Rattle.fm_frame.specs.Units.{unit_of}
+use Rattle.fm_plain_frame.specs.Frames.{frame_of}
+use Rattle.fm_plain_frame.specs.Units.{unit_of}
 use Rattle.fm_plain.specs.Standing.{below_in, frame_in, program_in, standing}
 use Rattle.fm_plain.proofs.ReturnLaws.{frames_stay, left_result, on_err, word_here}
 use Rattle.fm_plain.proofs.returning.results_in.Goals as goal

@@ -1,7 +1,7 @@
 use Rattle.std.proofs.Common.{rules}
 use Rattle.std.proofs.lemmas.Result.{err_from_is_err_and}
 use Rattle.std.specs.Option.{option_copied}
-use Rattle.fm_frame.specs.Units.{unit_of}
+use Rattle.fm_plain_frame.specs.Units.{unit_of}
 use Rattle.fm_plain.specs.Standing.{scope_in}
 use Rattle.fm_plain.proofs.FailureLaws.{seat_fails}
 use Rattle.fm_plain.proofs.starting.arguments_and_seat.Goals as goal

@@ -3,8 +3,8 @@ use Rattle.fm_base.specs.Channels.{Item}
 use Rattle.fm_mean.specs.Actions.{pended}
 use Rattle.fm_mean.specs.Calls.{backs_of, entered}
 use Rattle.fm_mean.specs.Fits.{variables_of}
-use Rattle.fm_frame.specs.Memory.{values_of}
-use Rattle.fm_frame.specs.Units.{unit_of}
+use Rattle.fm_plain_frame.specs.Memory.{values_of}
+use Rattle.fm_plain_frame.specs.Units.{unit_of}
 use Rattle.fm_plain.specs.Standing.{frame_in, point_in, program_in}
 use Rattle.fm_plain.proofs.StartLaws.{pended_own, start_alike, start_last, take_front, values_after, values_here}
 use Rattle.fm_plain.proofs.starting.pends.Goals as goal

@@ -5,7 +5,7 @@ use Rattle.fm_tree.specs.declared.form.UnitKind.{UnitKind}
 use Rattle.fm_tree.specs.declared.statement.Extra.{Extra}
 use Rattle.fm_tree.specs.declared.statement.Item.{Item}
 use Rattle.fm_tree.specs.declared.statement.Var.{Var}
-use Rattle.fm_frame.specs.Units.{unit_of}
+use Rattle.fm_plain_frame.specs.Units.{unit_of}
 use Rattle.fm_mean.specs.Names.{unit_named}
 use Rattle.fm_mean.specs.Actions.{calls, merger_places, merges, prints, receive_places, receives, returns, sends}
 use Rattle.fm_mean.specs.Evaluate.{actuals_of, place_of, printed_all, refs_in_var}

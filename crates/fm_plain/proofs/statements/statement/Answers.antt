@@ -4,7 +4,7 @@ use Rattle.std.specs.Option.{option_copied}
 use Rattle.fm_tree.specs.Tree.{Tree}
 use Rattle.fm_tree.specs.declared.form.UnitKind.{UnitKind}
 use Rattle.fm_tree.specs.declared.statement.Where.{Where}
-use Rattle.fm_frame.specs.Units.{unit_of}
+use Rattle.fm_plain_frame.specs.Units.{unit_of}
 use Rattle.fm_mean.specs.Names.{unit_named}
 use Rattle.fm_mean.specs.Actions.{arguments_in, process_calls, returns}
 use Rattle.fm_plain.specs.Standing.{ActsAt, frame_in, point_in, program_in, scope_in}

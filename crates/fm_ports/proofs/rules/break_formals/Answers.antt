@@ -1,5 +1,5 @@
-use Rattle.fm_ports.specs.Judged.{type_of}
-use Rattle.fm_ports.specs.Fitting.{break_formals}
+use Rattle.fm_rules.specs.JudgedStatements.{type_of}
+use Rattle.fm_rules.specs.PortFitting.{break_formals}
 use Rattle.fm_ports.proofs.Formals.{formals_done}
 use Rattle.fm_ports.proofs.rules.break_formals.Goals as goal
 

@@ -1,6 +1,6 @@
 use Rattle.std.proofs.Common.{◌≡◌, map}
-use Rattle.fm_ports.specs.Judged.{type_of}
-use Rattle.fm_ports.specs.Fitting.{break_formals}
+use Rattle.fm_rules.specs.JudgedStatements.{type_of}
+use Rattle.fm_rules.specs.PortFitting.{break_formals}
 use Rattle.fm_ports.proofs.rules.break_formals.Given as goal
 
 abbrev pub invariant-actuals : goal.invariant-actuals

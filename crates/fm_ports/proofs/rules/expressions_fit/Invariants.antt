@@ -1,7 +1,7 @@
 use Rattle.std.proofs.Common.{◌≡◌, map, drop}
 use Rattle.fm_tree.specs.PortReading.{fields_of}
-use Rattle.fm_ports.specs.Judged.{type_of}
-use Rattle.fm_ports.specs.Fitting.{fit_fields}
+use Rattle.fm_rules.specs.JudgedStatements.{type_of}
+use Rattle.fm_rules.specs.PortFitting.{fit_fields}
 use Rattle.fm_ports.proofs.rules.expressions_fit.Given as goal
 
 abbrev pub invariant-items : goal.invariant-items

@@ -1,8 +1,8 @@
 use Rattle.std.proofs.Common.{◌≡◌, drop}
 use Rattle.std.specs.List.{list_any}
 use Rattle.fm_symbols.specs.declared.symbol.Direction.TheVariants.{Out}
-use Rattle.fm_ports.specs.Judged.{variable_type}
-use Rattle.fm_ports.specs.Fitting.{lacks_ports}
+use Rattle.fm_rules.specs.JudgedStatements.{variable_type}
+use Rattle.fm_rules.specs.PortFitting.{lacks_ports}
 use Rattle.fm_ports.proofs.rules.lack_outports.Given as goal
 
 abbrev pub invariant-ports : goal.invariant-ports

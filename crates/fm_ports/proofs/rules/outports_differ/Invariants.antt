@@ -1,7 +1,7 @@
 use Rattle.std.proofs.Common.{◌≡◌, drop, option_map}
 use Rattle.std.specs.List.{list_any}
-use Rattle.fm_ports.specs.Fitting.{messages_differ}
-use Rattle.fm_ports.specs.Rules.{message_at}
+use Rattle.fm_rules.specs.PortFitting.{messages_differ}
+use Rattle.fm_rules.specs.PortRules.{message_at}
 use Rattle.fm_ports.proofs.rules.outports_differ.Given as goal
 
 abbrev pub invariant-ports : goal.invariant-ports

@@ -1,5 +1,5 @@
 use Rattle.fm_base.specs.Verdict.{least_from}
-use Rattle.fm_ports.specs.Broken.{broken_body}
+use Rattle.fm_rules.specs.BrokenPorts.{broken_body}
 use Rattle.fm_ports.proofs.Walks.{entry_next}
 use Rattle.fm_ports.proofs.walk.body.Goals as goal
 

@@ -1,6 +1,6 @@
 use Rattle.std.proofs.Common.{◌≡◌, drop}
 use Rattle.fm_base.specs.Verdict.{least_from}
-use Rattle.fm_ports.specs.Broken.{broken_body}
+use Rattle.fm_rules.specs.BrokenPorts.{broken_body}
 use Rattle.fm_ports.proofs.walk.body.Given as goal
 
 abbrev pub invariant-entries : goal.invariant-entries

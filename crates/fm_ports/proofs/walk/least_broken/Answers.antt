@@ -1,5 +1,5 @@
 use Rattle.fm_base.specs.Verdict.{least}
-use Rattle.fm_ports.specs.Broken.{broken_ports}
+use Rattle.fm_rules.specs.BrokenPorts.{broken_ports}
 use Rattle.fm_ports.proofs.Walks.{unit_next}
 use Rattle.fm_ports.proofs.walk.least_broken.Goals as goal
 

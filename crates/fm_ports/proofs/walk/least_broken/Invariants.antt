@@ -1,6 +1,6 @@
 use Rattle.std.proofs.Common.{◌≡◌, drop}
 use Rattle.fm_base.specs.Verdict.{least, least_from}
-use Rattle.fm_ports.specs.Broken.{broken_from, broken_ports}
+use Rattle.fm_rules.specs.BrokenPorts.{broken_from, broken_ports}
 use Rattle.fm_ports.proofs.walk.least_broken.Given as goal
 
 abbrev pub invariant-units : goal.invariant-units

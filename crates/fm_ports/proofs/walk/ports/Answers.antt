@@ -1,6 +1,6 @@
 use Rattle.std.proofs.Common.{Contains, ap, sym, subst, ◌∙◌}
 use Rattle.fm_base.specs.Verdict.{IsVerdict, least}
-use Rattle.fm_ports.specs.Broken.{broken_ports}
+use Rattle.fm_rules.specs.BrokenPorts.{broken_ports}
 use Rattle.fm_ports.proofs.walk.ports.Goals as goal
 
 pub returns : goal.returns

@@ -1,5 +1,5 @@
 use Rattle.std.proofs.Common.{rules}
-use Rattle.fm_events.specs.Phases.{proc_of}
+use Rattle.fm_proc_events.specs.Phases.{proc_of}
 use Rattle.fm_proc.proofs.Beginnings.{began_so}
 use Rattle.fm_proc.proofs.beginning.begin.Goals as goal
 

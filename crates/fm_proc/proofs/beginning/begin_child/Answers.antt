@@ -1,6 +1,6 @@
 use Rattle.std.proofs.Common.{Option, subst, sym}
 use Rattle.fm_code.specs.declared.body.Body.{Body}
-use Rattle.fm_slots.specs.Rooms.{LeavesRoom}
+use Rattle.fm_proc_slots.specs.Rooms.{LeavesRoom}
 use Rattle.fm_proc.specs.Drafts.{room_in}
 use Rattle.fm_proc.proofs.beginning.begin_child.Goals as goal
 

@@ -1,8 +1,8 @@
 use Rattle.std.proofs.Common.{subst}
-use Rattle.fm_slots.specs.Rooms.{LeavesRoom}
-use Rattle.fm_events.specs.declared.process.Process.{Process}
+use Rattle.fm_proc_slots.specs.Rooms.{LeavesRoom}
+use Rattle.fm_proc_events.specs.declared.process.Process.{Process}
 use Rattle.fm_proc.specs.Drafts.{room_of}
-use Rattle.fm_events.specs.Phases.{proc_of}
+use Rattle.fm_proc_events.specs.Phases.{proc_of}
 use Rattle.fm_proc.proofs.beginning.child.Goals as goal
 
 pub returns-clause-left : goal.returns-clause-left

@@ -1,5 +1,5 @@
 use Rattle.std.proofs.Common.{subst}
-use Rattle.fm_slots.specs.Rooms.{LeavesRoom, span_words}
+use Rattle.fm_proc_slots.specs.Rooms.{LeavesRoom, span_words}
 use Rattle.fm_proc.proofs.beginning.fill.Goals as goal
 
 pub returns-clause-left : goal.returns-clause-left

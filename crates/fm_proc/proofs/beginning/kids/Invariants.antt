@@ -1,6 +1,6 @@
 use Rattle.std.proofs.Common.{◌≡◌, ◌++◌, drop, map}
-use Rattle.fm_bodies.specs.Processes as code
-use Rattle.fm_events.specs.Phases.{kid_of}
+use Rattle.fm_proc_language.specs.Processes as code
+use Rattle.fm_proc_events.specs.Phases.{kid_of}
 use Rattle.fm_proc.proofs.beginning.kids.Given as goal
 
 abbrev pub invariant-starts : goal.invariant-starts

@@ -2,10 +2,10 @@ use Rattle.std.proofs.Common.{List, length, rules, arith, map, ap, subst, ◌∙
 use Rattle.std.proofs.lemmas.List.{map_push}
 use Rattle.std.specs.List.{AllByRecursion}
 use Rattle.fm_code.specs.declared.body.Start.{Start}
-use Rattle.fm_slots.specs.Rooms.{HasRoom, slots_in}
+use Rattle.fm_proc_slots.specs.Rooms.{HasRoom, slots_in}
 use Rattle.fm_proc.specs.declared.beginning.Draft.{Draft}
 use Rattle.fm_proc.specs.Drafts.{IsReady, all_begun, child_in, rooms}
-use Rattle.fm_events.specs.Phases.{boxed_of}
+use Rattle.fm_proc_events.specs.Phases.{boxed_of}
 use Rattle.fm_proc.proofs.Beginnings.{one_begun}
 use Rattle.fm_proc.proofs.beginning.put_children.Goals as goal
 

@@ -1,8 +1,8 @@
 use Rattle.std.proofs.Common.{◌≡◌, ◌≤◌, ◌+◌, ◌++◌, length, map, vec_capacity}
 use Rattle.std.specs.List.{AllByRecursion}
-use Rattle.fm_slots.specs.Rooms.{HasRoom, slots_in}
+use Rattle.fm_proc_slots.specs.Rooms.{HasRoom, slots_in}
 use Rattle.fm_proc.specs.Drafts.{IsReady, all_begun, child_in, rooms}
-use Rattle.fm_events.specs.Phases.{boxed_of}
+use Rattle.fm_proc_events.specs.Phases.{boxed_of}
 use Rattle.fm_proc.proofs.beginning.put_children.Given as goal
 
 abbrev pub invariant-drafts : goal.invariant-drafts

@@ -1,6 +1,6 @@
 use Rattle.std.proofs.Common.{arith, vec_len}
 use Rattle.std.specs.List.{flat_map}
-use Rattle.fm_bodies.specs.Processes.{body_words, frame_words}
+use Rattle.fm_proc_language.specs.Processes.{body_words, frame_words}
 use Rattle.fm_proc.specs.Rooms.{words_by}
 use Rattle.fm_proc.proofs.Droppings.{frames_left, next_frame, sheds_last, sheds_more}
 use Rattle.fm_proc.proofs.dropping.drop_body.Goals as goal

@@ -1,8 +1,8 @@
 use Rattle.std.proofs.Common.{◌≡◌, ◌+◌, ◌≤◌, ◌++◌, ℤ, List, length}
 use Rattle.std.specs.Prelude.{vec_len, vec_capacity}
 use Rattle.std.specs.List.{flat_map}
-use Rattle.fm_bodies.specs.Slots.{vacated}
-use Rattle.fm_bodies.specs.Processes.{body_words, frame_words}
+use Rattle.fm_proc_language.specs.Slots.{vacated}
+use Rattle.fm_proc_language.specs.Processes.{body_words, frame_words}
 use Rattle.fm_proc.specs.Rooms.{body_room, frames_room}
 use Rattle.fm_proc.proofs.dropping.drop_body.Given as goal
 

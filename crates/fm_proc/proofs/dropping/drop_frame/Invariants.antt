@@ -1,6 +1,6 @@
 use Rattle.std.proofs.Common.{◌≡◌, ◌+◌, ◌≤◌, ◌++◌, ℤ, List, drop}
 use Rattle.std.specs.Prelude.{vec_len, vec_capacity}
-use Rattle.fm_bodies.specs.Slots.{vacated}
+use Rattle.fm_proc_language.specs.Slots.{vacated}
 use Rattle.fm_proc.specs.Rooms.{frame_room, starts_room, words_by}
 use Rattle.fm_proc.proofs.Droppings.{starts_words}
 use Rattle.fm_proc.proofs.dropping.drop_frame.Given as goal

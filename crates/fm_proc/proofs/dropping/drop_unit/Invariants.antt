@@ -1,8 +1,8 @@
 use Rattle.std.proofs.Common.{◌≡◌, ◌+◌, ◌≤◌, ◌++◌, ℤ, List, drop}
 use Rattle.std.specs.Prelude.{vec_len, vec_capacity}
 use Rattle.fm_code.specs.Passing.{ports_in}
-use Rattle.fm_bodies.specs.Slots.{vacated}
-use Rattle.fm_slots.specs.Rooms.{span_words}
+use Rattle.fm_proc_language.specs.Slots.{vacated}
+use Rattle.fm_proc_slots.specs.Rooms.{span_words}
 use Rattle.fm_proc.proofs.dropping.drop_unit.Given as goal
 
 abbrev pub invariant-spans : goal.invariant-spans

@@ -1,9 +1,9 @@
 use Rattle.std.proofs.Common.{ℤ, List, [], ◌++◌, ap, ◌∙◌}
 use Rattle.fm_base.specs.declared.port.PortValue.{PortValue}
-use Rattle.fm_bodies.specs.Slots.{Slots, all_left, vacated}
-use Rattle.fm_bodies.specs.Processes.{ended_frame}
-use Rattle.fm_slots.specs.Rooms.{slots_in}
-use Rattle.fm_events.specs.Phases.{proc_of}
+use Rattle.fm_proc_language.specs.Slots.{Slots, all_left, vacated}
+use Rattle.fm_proc_language.specs.Processes.{ended_frame}
+use Rattle.fm_proc_slots.specs.Rooms.{slots_in}
+use Rattle.fm_proc_events.specs.Phases.{proc_of}
 use Rattle.fm_proc.proofs.Endings.{ended_so}
 use Rattle.fm_proc.proofs.ending.end.Goals as goal
 

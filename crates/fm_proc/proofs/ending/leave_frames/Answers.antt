@@ -1,6 +1,6 @@
 use Rattle.std.proofs.Common.{sym, ap, ◌∙◌}
 use Rattle.fm_code.specs.declared.body.Body.{Body}
-use Rattle.fm_bodies.specs.Processes.{ended_frame}
+use Rattle.fm_proc_language.specs.Processes.{ended_frame}
 use Rattle.fm_proc.proofs.ending.leave_frames.Goals as goal
 
 pub frames-preserved : goal.frames-preserved

@@ -1,5 +1,5 @@
 use Rattle.std.proofs.Common.{◌≡◌, ◌++◌, reverse, take}
-use Rattle.fm_bodies.specs.Processes.{ended_frame}
+use Rattle.fm_proc_language.specs.Processes.{ended_frame}
 use Rattle.fm_proc.proofs.ending.push_frames.Given as goal
 
 abbrev pub invariant-frames : goal.invariant-frames

@@ -1,9 +1,9 @@
 use Rattle.std.proofs.Common.{◌≡◌, Some, map, sym, ap, ◌∙◌}
 use Rattle.fm_code.specs.declared.body.Body.{Body}
-use Rattle.fm_bodies.specs.Processes as code
-use Rattle.fm_events.specs.declared.process.Phase.{Phase}
+use Rattle.fm_proc_language.specs.Processes as code
+use Rattle.fm_proc_events.specs.declared.process.Phase.{Phase}
 use Rattle.fm_proc.specs.Gains.{mine_of}
-use Rattle.fm_events.specs.Phases.{kid_of, phase_of, proc_of}
+use Rattle.fm_proc_events.specs.Phases.{kid_of, phase_of, proc_of}
 use Rattle.fm_proc.proofs.joining.open_join.Goals as goal
 
 pub returns-clause-joined : goal.returns-clause-joined

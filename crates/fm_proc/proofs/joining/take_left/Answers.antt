@@ -1,6 +1,6 @@
 use Rattle.std.proofs.Common.{◌≡◌, ◌+◌, ap, arith}
 use Rattle.fm_code.specs.Passing.{back_words}
-use Rattle.fm_slots.proofs.RoomLaws.{fewer}
+use Rattle.fm_proc_slots.proofs.RoomLaws.{fewer}
 use Rattle.fm_proc.specs.Rooms.{body_room, left_room}
 use Rattle.fm_proc.proofs.joining.take_left.Goals as goal
 

@@ -1,6 +1,6 @@
 use Rattle.std.proofs.Common.{◌≡◌, ◌+◌, drop, map}
-use Rattle.fm_bodies.specs.Processes.{joining_words}
-use Rattle.fm_events.specs.Phases.{kid_of}
+use Rattle.fm_proc_language.specs.Processes.{joining_words}
+use Rattle.fm_proc_events.specs.Phases.{kid_of}
 use Rattle.fm_proc.proofs.measuring.joining_words.Given as goal
 
 abbrev pub invariant-kids : goal.invariant-kids

@@ -1,5 +1,5 @@
 use Rattle.std.proofs.Common.{◌≡◌, drop}
-use Rattle.fm_types.specs.Statements.{any_from, in_any, declaration_flags}
+use Rattle.fm_rules.specs.TypeStatements.{any_from, in_any, declaration_flags}
 use Rattle.fm_types.proofs.parts.any_declaration_flags.Given as goal
 
 abbrev pub invariant-loop-declaration : goal.invariant-loop-declaration

@@ -1,6 +1,6 @@
 use Rattle.std.proofs.Common.{ap, ◌∙◌}
-use Rattle.fm_typing.specs.Flags.{both}
-use Rattle.fm_types.specs.Statements.{any_from, extra_flags}
+use Rattle.fm_rules.specs.Flags.{both}
+use Rattle.fm_rules.specs.TypeStatements.{any_from, extra_flags}
 use Rattle.fm_types.proofs.Places.{flags_more}
 use Rattle.fm_types.proofs.parts.any_extra_flags.Goals as goal
 

@@ -1,5 +1,5 @@
 use Rattle.std.proofs.Common.{arith}
-use Rattle.fm_types.specs.Types.{broken_in_entry}
+use Rattle.fm_rules.specs.BrokenTypes.{broken_in_entry}
 use Rattle.fm_types.proofs.Places.{least_more}
 use Rattle.fm_types.proofs.program.keep_entries.Goals as goal
 

@@ -1,7 +1,7 @@
 use Rattle.std.proofs.Common.{◌≡◌, drop}
 use Rattle.std.specs.List.{flat_map}
 use Rattle.fm_base.specs.Verdict.{least_from}
-use Rattle.fm_types.specs.Types.{broken_in_entry}
+use Rattle.fm_rules.specs.BrokenTypes.{broken_in_entry}
 use Rattle.fm_types.proofs.program.keep_entries.Given as goal
 
 abbrev pub invariant-entries : goal.invariant-entries

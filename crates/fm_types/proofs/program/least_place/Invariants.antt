@@ -1,6 +1,6 @@
 use Rattle.std.proofs.Common.{◌≡◌, drop}
 use Rattle.fm_base.specs.Verdict.{least, least_from}
-use Rattle.fm_types.specs.Types.{broken_from, broken_types}
+use Rattle.fm_rules.specs.BrokenTypes.{broken_from, broken_types}
 use Rattle.fm_types.proofs.program.least_place.Given as goal
 
 abbrev pub invariant-units : goal.invariant-units

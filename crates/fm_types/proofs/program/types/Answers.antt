@@ -1,4 +1,4 @@
-use Rattle.fm_types.specs.Types.{broken_types}
+use Rattle.fm_rules.specs.BrokenTypes.{broken_types}
 use Rattle.fm_types.proofs.program.types.Goals as goal
 
 pub returns : goal.returns

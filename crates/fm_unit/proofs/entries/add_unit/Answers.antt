@@ -8,7 +8,7 @@ use Rattle.fm_tree.specs.Layout.{laid_out}
 use Rattle.fm_tree.specs.Units.{before_body, body_of, entries_of}
 use Rattle.fm_unit.specs.Entries.{assembled, built, entries_with}
 use Rattle.fm_unit.specs.Pieces.{body_in, pieces_in}
-use Rattle.fm_unit.specs.Titles.{is_function_named}
+use Rattle.fm_rules.specs.UnitTitles.{is_function_named}
 use Rattle.fm_unit.proofs.Bodies.{unit_entries, assembled_built}
 use Rattle.fm_unit.proofs.entries.add_unit.Goals as goal
 

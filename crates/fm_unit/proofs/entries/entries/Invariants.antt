@@ -1,6 +1,6 @@
 use Rattle.std.proofs.Common.{◌≡◌, ◌++◌, drop, reverse}
 use Rattle.fm_unit.specs.Entries.{entries_with}
-use Rattle.fm_unit.specs.Titles.{is_function_named}
+use Rattle.fm_rules.specs.UnitTitles.{is_function_named}
 use Rattle.fm_unit.proofs.entries.entries.Given as goal
 
 abbrev pub invariant-entries : goal.invariant-entries

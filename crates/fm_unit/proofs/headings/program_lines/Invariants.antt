@@ -1,5 +1,5 @@
 use Rattle.std.proofs.Common.{◌≡◌, ◌++◌, drop}
-use Rattle.fm_unit.specs.Broken.{program_lines}
+use Rattle.fm_rules.specs.BrokenStructure.{program_lines}
 use Rattle.fm_unit.proofs.headings.program_lines.Given as goal
 
 abbrev pub invariant-statements : goal.invariant-statements

@@ -1,6 +1,6 @@
 use Rattle.std.proofs.Common.{◌≡◌, drop}
 use Rattle.fm_base.specs.Verdict.{least_from}
-use Rattle.fm_unit.specs.Broken.{wrong_titles}
+use Rattle.fm_rules.specs.BrokenStructure.{wrong_titles}
 use Rattle.fm_unit.proofs.headings.wrong_titles.Given as goal
 
 abbrev pub invariant-units : goal.invariant-units

@@ -10,10 +10,10 @@ use Rattle.fm_tree.specs.declared.program_unit.Placed.{Placed}
 use Rattle.fm_tree.specs.declared.program_unit.Unit as tree
 use Rattle.fm_tree.specs.declared.entry_mark.EntryMark.{EntryMark}
 use Rattle.fm_tree.specs.Layout.{laid_out}
-use Rattle.fm_structure.specs.Broken.{broken_in_unit}
-use Rattle.fm_unit.specs.Broken.{broken_in_units}
+use Rattle.fm_rules.specs.BrokenUnit.{broken_in_unit}
+use Rattle.fm_rules.specs.BrokenStructure.{broken_in_units}
 use Rattle.fm_unit.specs.Entries.{built}
-use Rattle.fm_unit.specs.Titles.{is_function_named}
+use Rattle.fm_rules.specs.UnitTitles.{is_function_named}
 use Rattle.fm_unit.proofs.source.build.Goals as goal
 
 pub add_unit-requires : goal.add_unit-requires

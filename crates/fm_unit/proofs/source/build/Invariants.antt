@@ -2,9 +2,9 @@ use Rattle.std.proofs.Common.{◌≡◌, ◌++◌}
 use Rattle.std.specs.List.{flat_map}
 use Rattle.std.specs.Vec.Iter.{into_iter_items}
 use Rattle.fm_base.specs.Verdict.{least_from}
-use Rattle.fm_unit.specs.Broken.{broken_in_units}
+use Rattle.fm_rules.specs.BrokenStructure.{broken_in_units}
 use Rattle.fm_unit.specs.Entries.{built}
-use Rattle.fm_unit.specs.Titles.{is_function_named}
+use Rattle.fm_rules.specs.UnitTitles.{is_function_named}
 use Rattle.fm_unit.proofs.source.build.Given as goal
 
 abbrev pub invariant-units : goal.invariant-units

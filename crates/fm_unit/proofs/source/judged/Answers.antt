@@ -4,10 +4,10 @@ use Rattle.fm_base.specs.Verdict.{least, least_from}
 use Rattle.fm_tree.specs.declared.program_unit.Placed.{Placed}
 use Rattle.fm_tree.specs.Units.{cut_of}
 use Rattle.fm_symbols.specs.ByName.{ByName}
-use Rattle.fm_unit.specs.declared.titles.Title.{Title}
-use Rattle.fm_unit.specs.Broken.{broken_in_units, missing_end, program_lines, wrong_programs, wrong_titles}
+use Rattle.fm_rules.specs.declared.titles.Title.{Title}
+use Rattle.fm_rules.specs.BrokenStructure.{broken_in_units, missing_end, program_lines, wrong_programs, wrong_titles}
 use Rattle.fm_unit.specs.Entries.{built}
-use Rattle.fm_unit.specs.Titles.{is_function_named, titles_of}
+use Rattle.fm_rules.specs.UnitTitles.{is_function_named, titles_of}
 use Rattle.fm_unit.proofs.Clean.{least_four}
 use Rattle.fm_unit.proofs.source.judged.Goals as goal
 

@@ -2,8 +2,8 @@ use Rattle.std.proofs.Common.{◌∙◌, ◌++◌}
 use Rattle.std.specs.Prelude.{Contains}
 use Rattle.fm_base.specs.Verdict.{IsClean}
 use Rattle.fm_tree.specs.Units.{cut_of}
-use Rattle.fm_unit.specs.Broken.{broken_in_units, broken_structure, missing_end, program_lines, wrong_programs, wrong_titles}
-use Rattle.fm_unit.specs.Titles.{is_function_named, titles_of}
+use Rattle.fm_rules.specs.BrokenStructure.{broken_in_units, broken_structure, missing_end, program_lines, wrong_programs, wrong_titles}
+use Rattle.fm_rules.specs.UnitTitles.{is_function_named, titles_of}
 use Rattle.fm_unit.proofs.Clean.{all_built, clean_last, cut_whole, none_broken, not_some}
 use Rattle.fm_unit.proofs.source.units.Goals as goal
 

@@ -1,6 +1,6 @@
 use Rattle.std.proofs.Common.{◌≡◌, drop}
 use Rattle.fm_symbols.specs.ByName.{with_all}
-use Rattle.fm_unit.specs.Titles.{titles_from, titles_of}
+use Rattle.fm_rules.specs.UnitTitles.{titles_from, titles_of}
 use Rattle.fm_unit.proofs.titles.make_titles.Given as goal
 
 abbrev pub invariant-units : goal.invariant-units

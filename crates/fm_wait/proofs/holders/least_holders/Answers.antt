@@ -3,7 +3,7 @@ use Rattle.std.specs.FinMap.{get, insert}
 use Rattle.std.specs.Option.{option_copied}
 use Rattle.std.proofs.lemmas.List.{drop_all, drop_more}
 use Rattle.fm_base.specs.PathOrder.{channel_cmp}
-use Rattle.fm_maps.specs.Map.{map_of}
+use Rattle.fm_finmap.specs.Map.{map_of}
 use Rattle.fm_wait.specs.Waits.{least_holder, lesser}
 use Rattle.fm_wait.proofs.Leasts.{least_more, least_none}
 use Rattle.fm_wait.proofs.holders.least_holders.Goals as goal

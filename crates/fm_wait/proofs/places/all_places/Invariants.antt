@@ -1,6 +1,6 @@
 use Rattle.std.proofs.Common.{◌≡◌, map, take}
 use Rattle.fm_base.specs.PathOrder.{path_cmp}
-use Rattle.fm_maps.specs.Map.{map_of}
+use Rattle.fm_finmap.specs.Map.{map_of}
 use Rattle.fm_wait.specs.Places.{place_of}
 use Rattle.fm_wait.proofs.places.all_places.Given as goal
 

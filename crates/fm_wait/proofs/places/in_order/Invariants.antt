@@ -1,7 +1,7 @@
 use Rattle.std.proofs.Common.{◌≡◌, ◌++◌}
 use Rattle.std.specs.FinMap.{entries}
 use Rattle.fm_base.specs.PathOrder.{path_cmp}
-use Rattle.fm_maps.specs.Map.{map_of}
+use Rattle.fm_finmap.specs.Map.{map_of}
 use Rattle.fm_wait.proofs.places.in_order.Given as goal
 
 abbrev pub invariant-entries : goal.invariant-entries

@@ -1,6 +1,6 @@
 use Rattle.std.proofs.Common.{◌∙◌, ap}
 use Rattle.fm_base.specs.PathOrder.{path_cmp}
-use Rattle.fm_maps.specs.Map.{map_of}
+use Rattle.fm_finmap.specs.Map.{map_of}
 use Rattle.fm_wait.specs.Places.{places_from}
 use Rattle.fm_wait.proofs.Standing.{next_from_on}
 use Rattle.fm_wait.proofs.waiting.waits.Goals as goal

@@ -1,7 +1,7 @@
 use Rattle.std.proofs.Common.{refl, ap, ◌∙◌}
 use Rattle.std.specs.FinMap as map
 use Rattle.fm_base.specs.Channels.{Pop, changed}
-use Rattle.fm_maps.specs.Changes.{adjust}
+use Rattle.fm_finmap.specs.Changes.{adjust}
 use Rattle.fm_chan.specs.Bodies.{chans_of}
 use Rattle.fm_chan.specs.Kept.{chans_in}
 use Rattle.fm_chan.specs.Readers.{IsReadyAt}

@@ -1,5 +1,5 @@
 use Rattle.std.proofs.Common.{refl}
-use Rattle.fm_events.specs.Phases.{proc_of}
+use Rattle.fm_proc_events.specs.Phases.{proc_of}
 use Rattle.fm_proc.proofs.Joinings.{joins_so}
 use Rattle.fm_proc.proofs.joining.OpenJoin.close.Goals as goal
 

@@ -1,6 +1,6 @@
 use Rattle.std.proofs.Common.{◌≡◌, List, refl, sym, ap, ◌∙◌}
 use Rattle.fm_code.specs.declared.body.Back.{Back}
-use Rattle.fm_bodies.specs.Processes.{Kid, kid_back}
+use Rattle.fm_proc_language.specs.Processes.{Kid, kid_back}
 use Rattle.fm_proc.specs.Gains.{first_kid, gained, mine_of}
 use Rattle.fm_proc.specs.Joinings.{kids_of}
 use Rattle.fm_proc.specs.Lefts.{left_of}

@@ -1,5 +1,5 @@
 use Rattle.std.proofs.Common.{subst}
-use Rattle.fm_det.specs.Race.{IsRaceVerdict}
+use Rattle.fm_rules.specs.Race.{IsRaceVerdict}
 use Rattle.fm_symbols.specs.Context.{context_of}
 use Rattle.fm_symbols.specs.declared.context.Context.{Context}
 use Rattle.fm_rules.proofs.Races.{decides}

@@ -1,0 +1,93 @@
+#!/usr/bin/env python3
+"""Whether the pages name what stands in the crates.
+
+    bench/definitions.py [FOLDER]
+
+Of FOLDER, by default of this repository: each file of definitions, crates/*/specs/*.antt, stands in docs/DEFINITIONS.md
+as CRATE/specs/FILE, FILE, .., and no other does; what a row of a table there says that a file defines stands in it;
+each boundary of docs/ARCHITECTURE.md, a row `A, B to C, D`, is in crates.txt; and each crate that a page names is one.
+Prints what is wrong, and has status 1 then.
+"""
+import glob
+import os
+import re
+import sys
+
+TOP = os.path.dirname(os.path.dirname(os.path.abspath(__file__)))
+FILES = re.compile(r"\b(fm_\w+|fmc)/specs/([A-Z]\w*(?:, [A-Z]\w*)*)")
+CRATE = re.compile(r"\bfm_[a-z_]*[a-z]\b")
+NAME = re.compile(r"\bfm(?:c(?:_[a-z]+)?|_[a-z_]*[a-z])\b")
+WORD = re.compile(r"`([^`]+)`")
+
+
+def read(path):
+    with open(path, encoding="utf-8") as file:
+        return file.read()
+
+
+def crates(folder):
+    """Each crate with those that it stands on."""
+    lines = (line.partition("#")[0].partition(":") for line in read(f"{folder}/crates.txt").split("\n"))
+    return {name.split()[0]: below.split() for name, colon, below in lines if colon}
+
+
+def files_in(text):
+    """The files of definitions that a text names, as crate and file."""
+    return [(crate, name) for crate, names in FILES.findall(text) for name in names.split(", ")]
+
+
+def rows(text):
+    """The cells of each row of the tables, but for heads and rulers."""
+    for line in text.split("\n"):
+        if line.startswith("| ") and not line.startswith(("| File", "| Name", "| Boundary")):
+            yield [it.strip() for it in line.strip("|").split(" | ")]
+
+
+def wrong_files(folder, page):
+    """What the page of definitions says of files that isn't so."""
+    there = {(path.split("/")[-3], path.split("/")[-1][:-5]) for path in glob.glob(f"{folder}/crates/*/specs/*.antt")}
+    there = {it for it in there if it[1] != "Lib"}
+    named = set(files_in(page))
+    for crate, name in sorted(there - named):
+        yield f"DEFINITIONS lacks {crate}/specs/{name}"
+    for crate, name in sorted(named - there):
+        yield f"DEFINITIONS names {crate}/specs/{name}, which isn't there"
+    # a row with no file goes on with that of the row before
+    files = []
+    for cells in rows(page):
+        column = 1 if "/specs/" in (cells + [""])[1] else 0
+        files = files_in(cells[column]) or files
+        text = "".join(read(f"{folder}/crates/{crate}/specs/{name}.antt") for crate, name in files if (crate, name) in there)
+        for word in WORD.findall(cells[1 - column]):
+            if text and word not in text:
+                yield f"DEFINITIONS says that {cells[column] or files} has {word}"
+
+
+def wrong_boundaries(below, page):
+    """The boundaries of the architecture that crates.txt doesn't have."""
+    for cells in rows(page):
+        lower, to, upper = cells[0].partition(" to ")
+        for above in NAME.findall(upper) if to else []:
+            for name in NAME.findall(lower):
+                if name not in below.get(above, []):
+                    yield f"ARCHITECTURE: {above} doesn't stand on {name}"
+
+
+def wrong_crates(folder, below):
+    """The crates that pages name and that aren't there."""
+    for path in sorted([f"{folder}/README.md", *glob.glob(f"{folder}/docs/*.md")]):
+        for name in sorted(set(CRATE.findall(read(path))) - set(below)):
+            yield f"{os.path.basename(path)} names the crate {name}, which isn't there"
+
+
+def main():
+    folder = sys.argv[1] if len(sys.argv) > 1 else TOP
+    below = crates(folder)
+    wrong = [*wrong_files(folder, read(f"{folder}/docs/DEFINITIONS.md")),
+             *wrong_boundaries(below, read(f"{folder}/docs/ARCHITECTURE.md")), *wrong_crates(folder, below)]
+    print("\n".join(wrong) or "the pages name what stands in the crates")
+    sys.exit(1 if wrong else 0)
+
+
+if __name__ == "__main__":
+    main()

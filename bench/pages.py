@@ -1,0 +1,94 @@
+#!/usr/bin/env python3
+"""Whether the programs and commands that the pages show do what the pages say.
+
+    bench/pages.py [BINARY [PAGE ..]]
+
+Goes over README, LANGUAGE and RULES, or the pages that are named. BINARY is the built program, by default
+crates/fmc_cli/out/fmc_cli, and stands for ./fmc.
+
+- A block ```text right behind a block ```fortran is what `run`, `check` or `list` writes of that program; a block
+  ```text WORDS, also further on, is what these words write of the last program.
+- A whole program with no such block breaks no rule. A part of a program isn't tried.
+- A block ```text right behind a block ```sh is what its lines write together. Lines that begin with ./fmc are run,
+  and are no usage; a block with other commands isn't compared.
+"""
+import os
+import re
+import shlex
+import subprocess
+import sys
+
+TOP = os.path.dirname(os.path.dirname(os.path.abspath(__file__)))
+PAGES = ["README.md", "docs/LANGUAGE.md", "docs/RULES.md"]
+FENCE = re.compile(r"^```(\w*) ?([^\n]*)\n(.*?)^```$", re.M | re.S)
+HEADING = re.compile(r"^ +PROGRAM\b", re.M | re.I)
+
+
+def fences(page):
+    """Each block of a page: its kind, its words, its text, its line, and whether it is right behind the one before."""
+    end = 0
+    for it in FENCE.finditer(page):
+        kind, words, text = it.groups()
+        yield kind, words.split(), text, page.count("\n", 0, it.start()) + 1, not page[end : it.start()].strip()
+        end = it.end()
+
+
+def ran(binary, words, program):
+    """What words write of a program, and the status."""
+    done = subprocess.run([binary, *words], input=program.encode(), stdout=subprocess.PIPE)
+    return done.stdout.decode(errors="replace"), done.returncode
+
+
+def shell(binary, text):
+    """What the lines of a block of commands write, the worst status, and whether each of them is one of ours."""
+    lines = [line for line in text.splitlines() if line.strip() and not line.startswith("#")]
+    written, statuses = "", [0]
+    for line in lines:
+        if line.startswith("./fmc "):
+            done = subprocess.run(line.replace("./fmc", shlex.quote(binary)), shell=True, cwd=TOP, stdout=subprocess.PIPE)
+            written += done.stdout.decode(errors="replace")
+            statuses.append(done.returncode)
+    return written, 5 if 5 in statuses else 0, len(statuses) == len(lines) + 1
+
+
+def tried(binary, page):
+    """For each block of a page that can be tried its line, what is wrong, if anything, and how it was tried."""
+    blocks = [*fences(page)]
+    program = ""
+    for number, (kind, words, text, line, follows) in enumerate(blocks):
+        before = blocks[number - 1] if number and follows else ("", [], "", 0, False)
+        is_answered = number + 1 < len(blocks) and blocks[number + 1][0] == "text" and blocks[number + 1][4]
+        if kind == "fortran":
+            program = text
+            if HEADING.search(text) and not is_answered:
+                written, status = ran(binary, ["check"], text)
+                yield line, "" if status == 0 else written, "checked"
+        elif kind == "text" and (words or before[0] == "fortran"):
+            answers = [ran(binary, it, program)[0] for it in ([words] if words else [["run"], ["check"], ["list"]])]
+            yield line, "" if text in answers else answers[0] or "nothing", "compared"
+        elif kind == "sh":
+            written, status, is_ours = shell(binary, text)
+            if is_answered and is_ours:
+                wanted = blocks[number + 1][2]
+                yield line, "" if written == wanted else written or "nothing", "compared"
+            elif "./fmc " in text:
+                yield line, "usage" if status else "", "run"
+
+
+def main():
+    binary = os.path.abspath(sys.argv[1] if len(sys.argv) > 1 else f"{TOP}/crates/fmc_cli/out/fmc_cli")
+    counts, wrong = {}, 0
+    for name in sys.argv[2:] or PAGES:
+        with open(os.path.join(TOP, name), encoding="utf-8") as file:
+            page = file.read()
+        for line, found, how in tried(binary, page):
+            counts[how] = counts.get(how, 0) + 1
+            if found:
+                wrong += 1
+                print(f"{name}, line {line}: it writes\n{found}")
+    print(", ".join(f"{count} {how}" for how, count in sorted(counts.items())) + f"; {wrong} wrong")
+    sys.exit(1 if wrong else 0)
+
+
+if __name__ == "__main__":
+    main()

@@ -1,3 +1,0 @@
-pub mod Corresponds
-pub mod Here
-pub mod Shown

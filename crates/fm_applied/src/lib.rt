@@ -1,6 +1,0 @@
-//! The names with a list in parentheses in a statement: elements, intrinsics and references of functions alike.
-#![tactic(auto)]
-
-mod walk;
-
-pub use walk::applied_names;

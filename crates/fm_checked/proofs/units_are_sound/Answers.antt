@@ -1,5 +1,0 @@
-use Rattle.fm_checked.proofs.Units.{sound_unit}
-use Rattle.fm_checked.proofs.units_are_sound.Goals as goal
-
-pub returns : goal.returns
-returns c = sound_unit

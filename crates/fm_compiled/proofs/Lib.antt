@@ -1,8 +1,0 @@
-pub mod Standing
-pub mod Pieces
-pub mod Waiting
-pub mod Histories
-pub mod Beginning
-pub mod Entries
-pub mod Sound
-pub mod Awaiting

@@ -1,7 +1,0 @@
-use Rattle.std.proofs.Common.{◌≡◌, drop}
-use Rattle.fm_constants.specs.Bounds.{bounds_of}
-use Rattle.fm_constants.proofs.Shapes.{before_all}
-use Rattle.fm_constants.proofs.bounds.bounds_of.Given as goal
-
-abbrev pub invariant-bounds : goal.invariant-bounds
-invariant-bounds l = before_all l.pairs (bounds_of l.known l.place (drop l.bound-index l.bounds)) ≡ bounds_of l.known l.place l.bounds

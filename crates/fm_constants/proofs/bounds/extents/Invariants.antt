@@ -1,6 +1,0 @@
-use Rattle.std.proofs.Common.{◌≡◌, drop}
-use Rattle.fm_constants.specs.Bounds.{extents_from}
-use Rattle.fm_constants.proofs.bounds.extents.Given as goal
-
-abbrev pub invariant-specs : goal.invariant-specs
-invariant-specs l = extents_from l.known l.place (drop l.place l.specs) ≡ extents_from l.known 0 l.specs

@@ -1,7 +1,0 @@
-use Rattle.std.proofs.Common.{map, drop}
-use Rattle.fm_constants.specs.Bounds.{machine_dimension, machine_shape}
-use Rattle.fm_constants.proofs.Shapes.{Comes}
-use Rattle.fm_constants.proofs.bounds.machine_shape.Given as goal
-
-abbrev pub invariant-extents : goal.invariant-extents
-invariant-extents l = Comes l.shape (map (machine_dimension l.known l.place) (drop l.extent-index l.extents)) (machine_shape l.known l.place l.extents)

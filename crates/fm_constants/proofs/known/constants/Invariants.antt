@@ -1,6 +1,0 @@
-use Rattle.std.proofs.Common.{◌≡◌, drop}
-use Rattle.fm_constants.specs.Constants.{known_from, constants_of}
-use Rattle.fm_constants.proofs.known.constants.Given as goal
-
-abbrev pub invariant-specs : goal.invariant-specs
-invariant-specs l = known_from l.known l.place (drop l.place l.specs) ≡ constants_of l.specs

@@ -1,7 +1,0 @@
-use Rattle.std.proofs.Common.{◌≡◌, drop, Some}
-use Rattle.fm_symbols.specs.ByName.{with_all}
-use Rattle.fm_constants.specs.Types.{scalar_entries}
-use Rattle.fm_constants.proofs.types.add_decls.Given as goal
-
-abbrev pub invariant-decls : goal.invariant-decls
-invariant-decls l = with_all l.declared (scalar_entries (Some l.scalar) (drop l.decl-index l.decls)) ≡ with_all l.fn.declared (scalar_entries (Some l.scalar) l.decls)

@@ -1,9 +1,0 @@
-use Rattle.std.proofs.Common.{◌≡◌, drop}
-use Rattle.std.specs.List.{flat_map}
-use Rattle.fm_facts.specs.Facts.{dimension_facts}
-use Rattle.fm_facts.specs.Noted.{with_facts}
-use Rattle.fm_facts.proofs.declarations.note_dimensions.Given as goal
-
-abbrev pub invariant-decls : goal.invariant-decls
-invariant-decls l =
-    with_facts l.titles l.heading l.notes (flat_map (dimension_facts l.line) (drop l.decl-index l.decls)) ≡ with_facts l.titles l.heading l.fn.notes (flat_map (dimension_facts l.line) l.decls)

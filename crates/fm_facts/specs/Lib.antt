@@ -1,3 +1,0 @@
-pub mod Titles
-pub mod Facts
-pub mod Noted

@@ -1,0 +1,9 @@
+pub mod Sound
+pub mod Meant
+pub mod Targets
+pub mod Standing
+pub mod Operands
+pub mod Frames
+pub mod Formals
+pub mod Laws
+pub mod Calls

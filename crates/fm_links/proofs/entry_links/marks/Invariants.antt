@@ -1,6 +1,0 @@
-use Rattle.std.proofs.Common.{◌≡◌, ◌++◌, map, drop}
-use Rattle.fm_links.specs.Links.{mark_of, marks_of}
-use Rattle.fm_links.proofs.entry_links.marks.Given as goal
-
-abbrev pub invariant-entries : goal.invariant-entries
-invariant-entries l = l.marks.items ++ map mark_of (drop l.entry-index l.body) ≡ marks_of l.body

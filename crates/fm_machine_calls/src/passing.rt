@@ -1,0 +1,183 @@
+//! What a unit that is opened gets.
+
+ghost use Rattle.std.specs.Prelude.{◌≡◌, ◌++◌, [], ◌∷◌, MatchOption, pos, true, length, replicate, IfOk, OnOk};
+ghost use Rattle.fm_code.specs.Acts.{has_span, span_of};
+ghost use Rattle.fm_code.specs.Passing.{fits, all_fit, back_of, pass, pass_all};
+ghost use Rattle.fm_code.specs.declared.ask.Operand.TheVariants as operand;
+ghost use Rattle.fm_machine_calls.specs.Frames.{passed};
+
+use fm_base::{NoMemory, Seq};
+use fm_code::{Back, Formal, Operand, Row, Span};
+use std::alloc::Global;
+
+/// The first of a list, and the rest.
+pub(crate) fn front<T: Copy>(items: &[T]) -> Option<(T, &[T])>
+    ensures { MatchOption result (items.now ≡ []) (λ f. items.now ≡ f.0 ∷ f.1.now) }
+{
+    let (first, rest) = items.split_first()?;
+    Some((*first, rest))
+}
+
+/// So many words of 0.
+pub fn nulls(alloc: Global, count: u32) -> Result<Row<i64>, NoMemory>
+    ensures { IfOk result (λ r. r ≡ replicate count (pos 0)) }
+{
+    let words = vec![in alloc; 0i64; count as usize]?;
+    Ok(Row::from_vec(words))
+}
+
+/// The words of a span, as far as they are there.
+pub(crate) fn words_of(words: &[i64], span: Span) -> &[i64]
+    ensures { result.now ≡ span_of words.now span }
+{
+    let (_, from) = words.split_at(words.len().min(span.first as usize));
+    let (there, _) = from.split_at(from.len().min(span.count as usize));
+    there
+}
+
+fn has_span(words: usize, span: Span) -> bool
+    ensures { result ≡ has_span words span }
+{
+    span.first as usize + span.count as usize <= words
+}
+
+/// Whether an operand fits a formal, in frames of so many words.
+fn fits(mine: usize, theirs: usize, formal: Formal, operand: Operand) -> bool
+    ensures { result ≡ fits mine theirs formal operand }
+{
+    let sized = formal.span.count;
+    match operand {
+        Operand::Value(_) => !formal.port && sized == 1 && has_span(theirs, formal.span),
+        Operand::Words(span) => {
+            !formal.port
+                && span.count == sized
+                && has_span(mine, span)
+                && has_span(theirs, formal.span)
+        }
+        Operand::Ports(span) => {
+            formal.port
+                && span.count == sized
+                && has_span(mine, span)
+                && has_span(theirs, formal.span)
+        }
+    }
+}
+
+/// Whether there is an operand for each formal, and each fits.
+pub fn all_fit(mine: usize, theirs: usize, formals: &[Formal], operands: &[Operand]) -> bool
+    ensures { result ≡ all_fit mine theirs formals.now operands.now }
+{
+    let mut formals = formals;
+    let mut operands = operands;
+    'formals: while let Some((formal, formals_behind)) = front(formals) {
+        let Some((operand, operands_behind)) = front(operands) else {
+            return false;
+        };
+        if !fits(mine, theirs, formal, operand) {
+            return false;
+        }
+        formals = formals_behind;
+        operands = operands_behind;
+    }
+    operands.is_empty()
+}
+
+/// The formal gives back to the span, unless it has INTENT(IN).
+fn push_back(backs: &mut Seq<Back>, formal: Formal, span: Span, port: bool) -> Result<(), NoMemory>
+    ensures { OnOk result (backs.new ≡ backs.old ++ back_of formal span port) }
+{
+    if !formal.input {
+        backs.push(Back {
+            from: formal.span.first,
+            to: span.first,
+            words: span.count,
+            port,
+        })?;
+    }
+    Ok(())
+}
+
+fn pass_words(
+    formal: Formal,
+    span: Span,
+    mine: &Row<i64>,
+    theirs: &mut Row<i64>,
+    backs: &mut Seq<Back>,
+) -> Result<(), NoMemory>
+    requires { fits (length mine.now) (length theirs.old) formal (operand.Words span) ≡ true }
+    ensures gives { OnOk result (pass formal (operand.Words span) (passed mine.now theirs.old backs.old) ≡ passed mine.now theirs.new backs.new) }
+    ensures size { OnOk result (length theirs.new ≡ length theirs.old) }
+{
+    let words = words_of(mine.as_slice(), span);
+    theirs.put(formal.span.first as usize, words);
+    push_back(backs, formal, span, false)
+}
+
+fn pass_ports(
+    alloc: Global,
+    formal: Formal,
+    span: Span,
+    mine: &mut Row<i64>,
+    theirs: &mut Row<i64>,
+    backs: &mut Seq<Back>,
+) -> Result<(), NoMemory>
+    requires { fits (length mine.old) (length theirs.old) formal (operand.Ports span) ≡ true }
+    ensures gives { OnOk result (pass formal (operand.Ports span) (passed mine.old theirs.old backs.old) ≡ passed mine.new theirs.new backs.new) }
+    ensures size { OnOk result (length theirs.new ≡ length theirs.old) }
+    ensures mine { OnOk result (length mine.new ≡ length mine.old) }
+{
+    let nulls = nulls(alloc, span.count)?;
+    let words = words_of(mine.as_slice(), span);
+    theirs.put(formal.span.first as usize, words);
+    mine.put(span.first as usize, nulls.as_slice());
+    push_back(backs, formal, span, true)
+}
+
+fn pass_one(
+    alloc: Global,
+    formal: Formal,
+    operand: Operand,
+    mine: &mut Row<i64>,
+    theirs: &mut Row<i64>,
+    backs: &mut Seq<Back>,
+) -> Result<(), NoMemory>
+    requires { fits (length mine.old) (length theirs.old) formal operand ≡ true }
+    ensures gives { OnOk result (pass formal operand (passed mine.old theirs.old backs.old) ≡ passed mine.new theirs.new backs.new) }
+    ensures size { OnOk result (length theirs.new ≡ length theirs.old) }
+    ensures mine { OnOk result (length mine.new ≡ length mine.old) }
+{
+    match operand {
+        Operand::Value(word) => {
+            theirs.put(formal.span.first as usize, &[word]);
+            Ok(())
+        }
+        Operand::Words(span) => pass_words(formal, span, mine, theirs, backs),
+        Operand::Ports(span) => pass_ports(alloc, formal, span, mine, theirs, backs),
+    }
+}
+
+/// The operands go to the formals of a frame with these words, and to what it gives back; ports leave NULL
+/// behind.
+pub fn enter(
+    alloc: Global,
+    formals: &[Formal],
+    operands: &[Operand],
+    mine: &mut Row<i64>,
+    theirs: &mut Row<i64>,
+    backs: &mut Seq<Back>,
+) -> Result<(), NoMemory>
+    requires { all_fit (length mine.old) (length theirs.old) formals.now operands.now ≡ true }
+    ensures { OnOk result (pass_all formals.now operands.now (passed mine.old theirs.old backs.old) ≡ passed mine.new theirs.new backs.new) }
+{
+    let mut formals = formals;
+    let mut operands = operands;
+    'formals: while let Some((formal, formals_behind)) = front(formals) {
+        let Some((operand, operands_behind)) = front(operands) else {
+            break;
+        };
+        pass_one(alloc, formal, operand, mine, theirs, backs)?;
+        formals = formals_behind;
+        operands = operands_behind;
+    }
+    Ok(())
+}

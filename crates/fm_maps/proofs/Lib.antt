@@ -1,8 +1,0 @@
-pub mod Keys
-pub mod Inserts
-pub mod Adjusts
-pub mod Alters
-pub mod Entries
-pub mod Sums
-pub mod Facts
-pub mod Maps

@@ -1,6 +1,0 @@
-pub mod Keys
-pub mod Changes
-pub mod Sums
-pub mod Facts
-pub mod Map
-pub mod Lends

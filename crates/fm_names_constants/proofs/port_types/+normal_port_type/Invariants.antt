@@ -1,0 +1,17 @@
+use Rattle.std.proofs.Common.{◌≡◌, ◌+◌, ◌*◌, map, take}
+use Rattle.fm_tree.specs.PortFields.{fields_count, kind_count}
+use Rattle.fm_tree.specs.PortReading.{kind_of}
+use Rattle.fm_rules.specs.PortTypes.{normal_field}
+use Rattle.fm_names_constants.proofs.port_types.+normal_port_type.Given as goal
+
+abbrev pub decreases-normal_port_type : goal.decreases-normal_port_type
+decreases-normal_port_type l = 2 * fields_count l.port_type.now
+
+abbrev pub decreases-normal_field : goal.decreases-normal_field
+decreases-normal_field l = 2 * kind_count (kind_of l.field.now.kind) + 1
+
+abbrev pub decreases-normal_kind : goal.decreases-normal_kind
+decreases-normal_kind l = 2 * kind_count (kind_of l.kind.now)
+
+abbrev pub invariant-normal_port_type-fields : goal.invariant-normal_port_type-fields
+invariant-normal_port_type-fields l = l.fields.items ≡ map (normal_field l.known l.place) (take l.field-index l.field-items)

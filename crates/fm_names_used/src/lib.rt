@@ -1,0 +1,7 @@
+//! The names that stand in a unit, each once, in the order of the text.
+#![tactic(auto)]
+
+mod occurrences;
+mod seen;
+
+pub use occurrences::first_occurrences;

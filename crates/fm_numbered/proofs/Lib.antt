@@ -1,3 +1,0 @@
-pub mod Rows
-mod Kept
-mod Sorted

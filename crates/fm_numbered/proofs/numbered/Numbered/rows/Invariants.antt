@@ -1,7 +1,0 @@
-use Rattle.std.proofs.Common.{◌≡◌, map, take}
-use Rattle.std.specs.Map.Iter.{deref_pair}
-use Rattle.fm_base.specs.declared.path.Path.{Path}
-use Rattle.fm_numbered.proofs.numbered.Numbered.rows.Given as goal
-
-abbrev pub invariant-rows : goal.invariant-rows
-invariant-rows g l = map (deref_pair {K = Path} {X = g.row.T.Denot}) l.rows.items ≡ take l.number l.self

@@ -1,0 +1,107 @@
+-- A piece of stack code is a piece of the meaning, and what is new in the meaning is new here.
+use Rattle.std.proofs.Common.{◌≡◌, ◌⊎◌, inl, inr, ℕ, ◌+◌, ◌≤◌, false, Option, Some, None, replicate, refl, sym, ap, subst, ◌∙◌, arith}
+use Rattle.std.specs.FinMap.{get}
+use Rattle.fm_base.specs.Channels.{Chan}
+use Rattle.fm_finmap.specs.Sums.{value_or_zero}
+use Rattle.fm_sched.specs.Schedule.{IsLegal}
+use Rattle.fm_net.specs.Correspondence.{StandsFor}
+use Rattle.fm_net.specs.Lawful.{IsLawfulAsk, Numbered}
+use Rattle.fm_net.specs.Machine.{Ask, Go, New, Place, State, Stop, child}
+use Rattle.fm_net.specs.Owned.{name_of, present}
+use Rattle.fm_rules.specs.declared.program.Program.{Program}
+use Rattle.fm_mean.specs.Outcome as mean
+use Rattle.fm_mean.specs.Process.{Proc}
+use Rattle.fm_mean.specs.Steps.{ask, language, step}
+use Rattle.fm_mean.proofs.Lawful.{lawful}
+use Rattle.fm_proc_language.specs.Processes.{CodeProc}
+use Rattle.fm_proc_events.specs.Performs.{MakesNew}
+use Rattle.fm_procs.specs.declared.pieces.CodePiece.{CodePiece}
+use Rattle.fm_procs.specs.Pieces as code
+use Rattle.fm_procs.specs.Pieces.{IsNewAlong, IsNewAt}
+use Rattle.fm_procs.specs.Readings.{code_step}
+use Rattle.fm_run.specs.declared.net.Piece.{Piece}
+use Rattle.fm_run.specs.Pieces as run
+use Rattle.fm_proc_simulation.specs.Corresponds.{Corresponds, IsLive}
+use Rattle.fm_proc_simulation.proofs.Asking.{needs_alike}
+use Rattle.fm_outcome_code.proofs.Standing.{back_alike, legal_alike, legal_part, local_at_alike, nobody_alike, price_alike, stands_after, starts_alike, waits_alike}
+
+module _ (p : Program) (s : State Proc) (t : State CodeProc) (stands : StandsFor (Corresponds p) (IsLive p) t s) (q : Place) where
+  -- ---- pieces
+
+  module _ (slice : ℕ) (r : CodePiece) (after : State CodeProc) (piece : code.IsPiece slice t q r after) where
+    legal : IsLegal code_step t (replicate r.steps q)
+    legal = piece.full.can
+
+    local_after : (k : ℕ) → k ≤ r.steps → run.is_local_at p (run.after_steps p s q k) q ≡ code.is_local_at (code.after_steps t q k) q
+    local_after k low =
+        local_at_alike p (run.after_steps p s q k) (code.after_steps t q k) (stands_after p s t stands (replicate k q) (legal_part code_step t q r.steps k low legal)) q
+
+    stops : (r.steps ≡ slice) ⊎ (((k : ℕ) × (r.steps ≡ k + 1) × (code.is_local_at (code.after_steps t q k) q ≡ false)) ⊎ (code_step (code.after_steps t q r.steps) q ≡ None))
+        → (r.steps ≡ slice) ⊎ (((k : ℕ) × (r.steps ≡ k + 1) × (run.is_local_at p (run.after_steps p s q k) q ≡ false)) ⊎ (step p (run.after_steps p s q r.steps) q ≡ None))
+    stops (inl whole) = inl whole
+    stops (inr (inl h)) = inr (inl (h.0, h.1, local_after h.0 (omega (arith, h.1)) ∙ h.2))
+    stops (inr (inr none)) = inr (inr (waits_alike p (run.after_steps p s q r.steps) (code.after_steps t q r.steps) (stands_after p s t stands (replicate r.steps q) legal) q none))
+
+    -- the state to which it leads stands for that of so many steps of the meaning
+    pub piece_stands : StandsFor (Corresponds p) (IsLive p) after (run.after_steps p s q r.steps)
+    piece_stands = subst (λ (u : State CodeProc). StandsFor (Corresponds p) (IsLive p) u (run.after_steps p s q r.steps)) piece.makes.leads.there (stands_after p s t stands (replicate r.steps q) legal)
+
+    pub piece_alike : (later : State Proc) → later ≡ run.after_steps p s q r.steps → (w : Piece) → w ≡ record { steps = r.steps; cost = r.cost; block = r.block; started = r.started } → run.IsPiece p slice s q w later
+    piece_alike later later_is w w_is =
+        subst (λ (w : Piece). run.IsPiece p slice s q w later) (sym w_is)
+        (record {
+          makes = record {
+            leads = record {
+              legal = legal_alike p s t stands (replicate r.steps q) legal;
+              there = sym later_is;
+              price_is = price_alike p s t stands (replicate r.steps q) legal ∙ piece.makes.leads.price_is;
+            };
+            starts_are = starts_alike p s t stands (replicate r.steps q) legal ∙ piece.makes.starts_are;
+          };
+          some_steps = piece.some_steps;
+          full = record {
+            can = legal_alike p s t stands (replicate r.steps q) legal;
+            within = piece.full.within;
+            before = λ k low. local_after k (omega (arith, low)) ∙ piece.full.before k low;
+            stops = stops piece.full.stops;
+          };
+        })
+
+  -- ---- what is new
+
+  module _ (y : CodeProc) (is : get t.procs q ≡ Some y) where
+    there : (x : Proc) × (get s.procs q ≡ Some x) × Corresponds p y x
+    there = back_alike p s t stands q y is
+
+    abbrev x : Proc
+    x = there.0
+
+    -- the channel that it makes has the number of the next one
+    numbered : (number writers : ℕ) → (k : Ask Proc) → IsLawfulAsk (language p) x k → mean.need_in k ≡ Some (New number writers) → number ≡ x.next_channel
+    numbered number writers Stop law e = absurd (cc e)
+    numbered number writers (Go need f) law e = let same : need ≡ New number writers = cc e in subst (Numbered x.next_channel) same law.numbered
+
+    unnamed : (number : ℕ) → number ≡ x.next_channel → (o : Option Chan) → get s.chans (name_of q number) ≡ o → o ≡ None
+    unnamed number number_is None e = refl
+    unnamed number number_is (Some ch) e =
+        absurd (omega (arith, stands.live.owned.named q number (omega (arith, ap present e)), ap (value_or_zero (λ (z : Proc). z.next_channel)) there.1, number_is))
+
+    pub makes_new : MakesNew q y t.chans
+    makes_new number writers needs =
+        ap (λ m. get m (name_of q number)) stands.chans
+        ∙ unnamed number (numbered number writers (ask p x) ((lawful p).goes x) (sym (needs_alike p s stands.live q x y there.1 there.2) ∙ needs)) (get s.chans (name_of q number)) refl
+
+    pub unborn : (i : ℕ) → get t.procs (child q y.next_block i) ≡ None
+    unborn i = nobody_alike p s t stands (child q y.next_block i) (ap (λ (b : ℕ). get s.procs (child q b i)) there.2.next_block ∙ go (get s.procs (child q x.next_block i)) refl)
+      where
+        go : (o : Option Proc) → get s.procs (child q x.next_block i) ≡ o → get s.procs (child q x.next_block i) ≡ None
+        go None e = e
+        go (Some z) e =
+            absurd (omega (arith, stands.live.owned.born q x.next_block i (omega (arith, ap present e)), ap (value_or_zero (λ (z : Proc). z.next_block)) there.1))
+
+  pub new_at : IsNewAt t q
+  new_at = record { channel = makes_new; children = unborn }
+
+-- wherever the steps of a process lead, what it makes is new
+pub new_along : (p : Program) (s : State Proc) (t : State CodeProc) → StandsFor (Corresponds p) (IsLive p) t s → (q : Place) → IsNewAlong t q
+new_along p s t stands q k legal = new_at p (run.after_steps p s q k) (code.after_steps t q k) (stands_after p s t stands (replicate k q) legal) q

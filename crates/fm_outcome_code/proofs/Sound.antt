@@ -1,0 +1,69 @@
+-- A piece of stack code leads from processes that stand for those of the meaning to such.
+use Rattle.std.proofs.Common.{◌≡◌, ℕ, Some, List, [], ◌∷◌, ◌++◌, replicate, refl, sym, subst}
+use Rattle.std.specs.Prelude.{slice_get}
+use Rattle.fm_base.specs.declared.schedule.Turn.{Turn}
+use Rattle.fm_net.specs.Correspondence.{StandsFor}
+use Rattle.fm_net.specs.Machine.{Place, State}
+use Rattle.fm_net.specs.Starts.{child_places}
+use Rattle.fm_rules.specs.declared.program.Program.{Program}
+use Rattle.fm_mean.specs.Process.{Proc}
+use Rattle.fm_mean.specs.Steps.{first}
+use Rattle.fm_mean.proofs.CallsOpen.{always_typed}
+use Rattle.fm_run.proofs.Playing.{first_owned}
+use Rattle.fm_proc_language.specs.Processes.{CodeProc}
+use Rattle.fm_procs.specs.declared.pieces.CodePiece.{CodePiece}
+use Rattle.fm_procs.specs.declared.code_procs.CodeProcs.{CodeProcs}
+use Rattle.fm_procs.specs.Kept.{AreKept}
+use Rattle.fm_procs.specs.Pieces as code
+use Rattle.fm_procs.specs.Readings.{order_of, state_of}
+use Rattle.fm_run.specs.declared.net.Piece.{Piece}
+use Rattle.fm_run.specs.Pieces as run
+use Rattle.fm_net.specs.Owned.{main_alone}
+use Rattle.fm_proc_simulation.specs.Corresponds.{Corresponds, IsLive}
+use Rattle.fm_proc_simulation.specs.Shown.{first_process}
+use Rattle.fm_proc_simulation.proofs.Alike.{machines_alike}
+use Rattle.fm_proc_simulation.proofs.First.{first_alike}
+use Rattle.fm_mean.specs.Steps.{first_proc}
+use Rattle.fm_outcome_code.specs.Played.{played}
+use Rattle.fm_outcome_code.specs.Sound.{IsSound}
+use Rattle.fm_outcome_code.proofs.Pieces.{piece_alike, piece_stands}
+use Rattle.fm_outcome_code.proofs.Histories.{named_more, played_more, played_none}
+
+-- ---- main alone
+
+pub first_live : (p : Program) → IsLive p (first p)
+first_live p = record { typed = always_typed p [] tt; owned = first_owned p }
+
+pub first_sound : (p : Program) (stacks : CodeProcs) → state_of stacks ≡ main_alone (first_process p) → AreKept stacks.entries → IsSound p stacks []
+first_sound p stacks is kept = record {
+  kept = kept;
+  choices = [];
+  named = refl;
+  stands =
+      subst (λ (s : State Proc). StandsFor (Corresponds p) (IsLive p) (state_of stacks) s) (sym (played_none p (order_of stacks.entries)))
+      (subst (λ (t : State CodeProc). StandsFor (Corresponds p) (IsLive p) t (first p)) (sym is) ((machines_alike p).begin (first_proc p) (first_process p) (first_alike p) (first_live p)));
+}
+
+-- ---- a piece more
+
+module _ (p : Program) (stacks : CodeProcs) (hs : List Turn) (sound : IsSound p stacks hs) (number : ℕ) (q : Place) (who : slice_get (order_of stacks.entries) number ≡ Some q) (slice : ℕ) (r : CodePiece)
+    (later : CodeProcs) (kept : AreKept later.entries) (piece : code.IsPiece slice (state_of stacks) q r (state_of later)) (order_is : order_of later.entries ≡ order_of stacks.entries ++ child_places q r.block 1 r.started)
+    (js : List Turn) (js_is : js ≡ hs ++ record { number = number; steps = r.steps } ∷ []) where
+  abbrev s : State Proc
+  s = played p hs (order_of stacks.entries)
+
+  leads : played p js (order_of later.entries) ≡ run.after_steps p s q r.steps
+  leads = played_more p hs (order_of stacks.entries) sound.choices sound.named number r.steps q who js js_is (child_places q r.block 1 r.started) (order_of later.entries) order_is
+
+  pub sound_after : IsSound p later js
+  sound_after = record {
+    kept = kept;
+    choices = sound.choices ++ replicate r.steps q;
+    named = named_more p hs (order_of stacks.entries) sound.choices sound.named number r.steps q who js js_is (child_places q r.block 1 r.started) (order_of later.entries) order_is;
+    stands =
+        subst (λ (u : State Proc). StandsFor (Corresponds p) (IsLive p) (state_of later) u) (sym leads)
+        (piece_stands p s (state_of stacks) sound.stands q slice r (state_of later) piece);
+  }
+
+  pub piece_made : (w : Piece) → w ≡ record { steps = r.steps; cost = r.cost; block = r.block; started = r.started } → run.IsPiece p slice s q w (played p js (order_of later.entries))
+  piece_made w w_is = piece_alike p s (state_of stacks) sound.stands q slice r (state_of later) piece (played p js (order_of later.entries)) leads w w_is

@@ -1,0 +1,5 @@
+pub mod Played
+pub mod Sound
+pub mod Waits
+pub mod Variables
+pub mod Holding

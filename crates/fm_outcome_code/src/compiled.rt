@@ -1,0 +1,113 @@
+//! The net over stack code, with the pieces that it made.
+
+ghost use Rattle.std.specs.Prelude.{◌≡◌};
+ghost use Rattle.fm_procs.specs.Readings.{order_of};
+ghost use Rattle.fm_outcome_code.specs.Played.{played};
+ghost use Rattle.fm_outcome_code.specs.Sound.{IsSound};
+
+use crate::first::first_stacks;
+use crate::gathering::outcome;
+use fm_base::{NoMemory, Path, Turn};
+use fm_mean::Outcome;
+use fm_procs::{CodePiece, CodeProcs};
+use fm_rules::Program;
+use fm_run::{Awaited, Net, Piece};
+use std::alloc::Global;
+use std::sync::Arc;
+
+/// The processes and channels of a run of stack code, and its pieces.
+#[derive(Drop)]
+pub struct Compiled {
+    /// The processes and channels.
+    pub stacks: CodeProcs,
+    /// The pieces.
+    pub history: Vec<Turn>,
+}
+
+impl Net for Compiled {
+    ghost state = { λ program net. played program net.history.items (order_of net.stacks.entries) };
+
+    ghost order = { λ net. order_of net.stacks.entries };
+
+    ghost channels = { λ net. net.stacks.channels };
+
+    ghost history = { λ net. net.history.items };
+
+    ghost IsSound = { λ program net. IsSound program net.stacks net.history.items };
+
+    ghost channels_are = { λ program net sound. sound.stands.chans };
+
+    fn first(alloc: Global, program: &Program) -> Result<Compiled, NoMemory> {
+        let stacks = first_stacks(alloc, program)?;
+        let history = Vec::new(alloc);
+        Ok(Compiled { stacks, history })
+    }
+
+    fn count(&self) -> usize {
+        self.stacks.entries.rows.len()
+    }
+
+    fn pieces(&self) -> usize {
+        self.history.len()
+    }
+
+    fn make_piece(
+        &mut self,
+        alloc: Global,
+        program: &Program,
+        number: u32,
+        slice: u32,
+    ) -> Result<Piece, NoMemory> {
+        let actor = self.stacks.entries.actor(number)?;
+        let piece = self.stacks.make_piece(alloc, &actor, slice)?;
+        self.history.push(Turn {
+            number,
+            steps: piece.steps,
+        })?;
+        Ok(as_piece(piece))
+    }
+
+    fn can_step(&self, program: &Program, number: u32) -> Result<bool, NoMemory> {
+        self.stacks.can_step(number)
+    }
+
+    fn note(&mut self, program: &Program, number: u32) -> Result<(), NoMemory> {
+        self.stacks.note(number)
+    }
+
+    fn next_woken(&mut self) -> Option<u32> {
+        self.stacks.channels.next_woken()
+    }
+
+    fn has_ended(&self, number: u32) -> bool {
+        self.stacks.entries.has_ended(number)
+    }
+
+    fn awaits(&self, number: u32, before: usize) -> Result<Awaited, NoMemory> {
+        let family = self.stacks.entries.family(number);
+        let ended = self.stacks.entries.count_ended(family, before)?;
+        Ok(Awaited {
+            ended,
+            waits: ended < family.count,
+        })
+    }
+
+    fn outcome(&self, alloc: Global, program: &Program, used: u64) -> Result<Outcome, NoMemory> {
+        outcome(alloc, &self.stacks, program, used)
+    }
+
+    fn into_parts(self) -> (Vec<Turn>, Vec<Arc<Path>>) {
+        (self.history, self.stacks.into_paths())
+    }
+}
+
+fn as_piece(piece: CodePiece) -> Piece
+    ensures { result ≡ record { steps = piece.steps; cost = piece.cost; block = piece.block; started = piece.started } }
+{
+    Piece {
+        steps: piece.steps,
+        cost: piece.cost,
+        block: piece.block,
+        started: piece.started,
+    }
+}

@@ -1,0 +1,155 @@
+//! What a run shows when it has ended.
+
+ghost use Rattle.std.specs.Prelude.{◌≡◌, ◌++◌, ◌∷◌, Some, [], map, IfOk, OnOk};
+ghost use Rattle.std.specs.List.{flat_map};
+ghost use Rattle.std.specs.FinMap.{entries};
+ghost use Rattle.fm_finmap.specs.Rows.{place_at};
+ghost use Rattle.fm_proc_events.specs.Phases.{phase_of};
+ghost use Rattle.fm_procs.specs.Kept.{AreKept, HasFamily, IsTold};
+ghost use Rattle.fm_procs.specs.Readings.{order_of, proc_in, procs_of, state_of};
+ghost use Rattle.fm_proc_simulation.specs.Shown.{lines_at, fault_at, fault_in, wait_at, outcome_by};
+
+use crate::holders::holders_of;
+use crate::variables::shown_all;
+use crate::waits::push_wait;
+use fm_base::{NoMemory, Path, Seq};
+use fm_mean::{FaultAt, Outcome, OutputLine, Wait};
+use fm_proc_events::{Phase, Process};
+use fm_procs::{CodeProcs, Entries, Entry};
+use fm_rules::Program;
+use std::alloc::Global;
+
+/// Output lines, faults and waits, process after process.
+#[derive(Drop)]
+struct Gathered {
+    lines: Vec<OutputLine>,
+    faults: Vec<FaultAt>,
+    waits: Vec<Wait>,
+}
+
+fn push_line(
+    alloc: Global,
+    all: &mut Vec<OutputLine>,
+    path: &Path,
+    line: &Seq<u8>,
+) -> Result<(), NoMemory>
+    ensures { OnOk result (all.new.items ≡ all.old.items ++ record { path = path.now; bytes = line.now } ∷ []) }
+{
+    let path = path.copy(alloc)?;
+    let bytes = Seq::from_slice(alloc, line.as_slice())?;
+    all.push(OutputLine { path, bytes })?;
+    Ok(())
+}
+
+fn push_lines(
+    alloc: Global,
+    all: &mut Vec<OutputLine>,
+    path: &Path,
+    lines: &[Seq<u8>],
+) -> Result<(), NoMemory>
+    ensures { OnOk result (all.new.items ≡ all.old.items ++ map (λ line. record { path = path.now; bytes = line }) lines.now) }
+{
+    'lines: for line in lines {
+        push_line(alloc, all, path, line)?;
+    }
+    Ok(())
+}
+
+fn push_fault(
+    alloc: Global,
+    all: &mut Vec<FaultAt>,
+    path: &Path,
+    phase: &Phase,
+) -> Result<(), NoMemory>
+    ensures { OnOk result (all.new.items ≡ all.old.items ++ fault_in path.now (phase_of phase.now)) }
+{
+    match phase {
+        Phase::Running => Ok(()),
+        Phase::Joining { .. } => Ok(()),
+        Phase::Ended => Ok(()),
+        Phase::Faulted { line, fault } => {
+            let path = path.copy(alloc)?;
+            let line = *line;
+            let fault = *fault;
+            all.push(FaultAt { path, line, fault })?;
+            Ok(())
+        }
+    }
+}
+
+impl Gathered {
+    fn new(alloc: Global) -> Gathered
+        ensures lines { result.lines.items ≡ [] }
+        ensures faults { result.faults.items ≡ [] }
+        ensures waits { result.waits.items ≡ [] }
+    {
+        Gathered {
+            lines: Vec::new(alloc),
+            faults: Vec::new(alloc),
+            waits: Vec::new(alloc),
+        }
+    }
+
+    fn add(
+        &mut self,
+        alloc: Global,
+        processes: &Entries,
+        path: &Path,
+        entry: &Entry,
+    ) -> Result<(), NoMemory>
+        requires told { IsTold entry.now }
+        requires family { HasFamily (order_of processes.now) path.now (proc_in entry.now).phase entry.now.first_child }
+        ensures lines { OnOk result (self.new.lines.items ≡ self.old.lines.items ++ lines_at (path.now, proc_in entry.now)) }
+        ensures faults { OnOk result (self.new.faults.items ≡ self.old.faults.items ++ fault_at (path.now, proc_in entry.now)) }
+        ensures waits { OnOk result (self.new.waits.items ≡ self.old.waits.items ++ wait_at (procs_of processes.now) (path.now, proc_in entry.now)) }
+    {
+        let process: &Process = &entry.process;
+        push_lines(alloc, &mut self.lines, path, process.lines.as_slice())?;
+        push_fault(alloc, &mut self.faults, path, &process.phase)?;
+        push_wait(alloc, processes, &mut self.waits, path, entry)
+    }
+}
+
+fn gather(alloc: Global, processes: &Entries) -> Result<Gathered, NoMemory>
+    requires { AreKept processes.now }
+    ensures lines { IfOk result (λ all. all.lines.items ≡ flat_map lines_at (entries (procs_of processes.now))) }
+    ensures faults { IfOk result (λ all. all.faults.items ≡ flat_map fault_at (entries (procs_of processes.now))) }
+    ensures waits { IfOk result (λ all. all.waits.items ≡ flat_map (wait_at (procs_of processes.now)) (entries (procs_of processes.now))) }
+{
+    let mut all = Gathered::new(alloc);
+    let rows = processes.rows.in_path_order(alloc)?;
+    'entries: for row in &rows {
+        all.add(alloc, processes, row.0, row.1)?;
+    }
+    Ok(all)
+}
+
+/// What a run shows when it has ended at this cost in turns: output, faults and waits in path order, the
+/// variables of main, and who holds the open writers.
+pub fn outcome(
+    alloc: Global,
+    stacks: &CodeProcs,
+    program: &Program,
+    used: u64,
+) -> Result<Outcome, NoMemory>
+    requires kept { AreKept stacks.now.entries }
+    requires main { place_at stacks.now.entries.rows 0 ≡ Some [] }
+    ensures { IfOk result (λ o. o ≡ outcome_by program.now used (state_of stacks.now)) }
+{
+    let Gathered {
+        lines,
+        faults,
+        waits,
+    } = gather(alloc, &stacks.entries)?;
+    let variables = shown_all(alloc, program, stacks.entries.process(0))?;
+    let holders = holders_of(alloc, stacks)?;
+    Ok(Outcome {
+        lines: Seq::from_vec(lines),
+        variables: Seq::from_vec(variables),
+        faults: Seq::from_vec(faults),
+        waits: Seq::from_vec(waits),
+        holders: Seq::from_vec(holders),
+        main_ended: stacks.entries.has_ended(0),
+        used,
+    })
+}

@@ -1,0 +1,20 @@
+//! The net that the runner plays (`fm_run::Net`), over stack code: the code of a program is generated once, and its processes run it.
+//!
+//! Contracts see the state of the meaning to which the pieces lead (`played`). Processes and channels of stack code stand for those
+//! of that state (`IsSound`): by the laws of `fm_proc_simulation` a piece of stack code is a piece of the meaning, who can step there can step
+//! here, and both show the same.
+//!
+//! What a run of stack code shows.
+//!
+//! `outcome` tells it from the processes and channels alone, with the names of the program: it is the outcome (`outcome_by`) of the
+//! state that they stand for.
+#![tactic(auto)]
+
+mod compiled;
+mod first;
+mod gathering;
+mod holders;
+mod variables;
+mod waits;
+
+pub use compiled::Compiled;

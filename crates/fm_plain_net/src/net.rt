@@ -1,0 +1,112 @@
+//! The net over trees, with the pieces that it made.
+
+ghost use Rattle.std.specs.Prelude.{refl};
+ghost use Rattle.fm_plain_net.specs.Held as held;
+ghost use Rattle.fm_plain_net.specs.Readings.{order_of, state_of};
+
+use crate::first::first_net;
+use crate::outcome::outcome;
+use crate::pieces::make_piece;
+use crate::processes::Trees;
+use crate::ready::can_step;
+use fm_base::{NoMemory, Path, Turn};
+use fm_mean::Outcome;
+use fm_rules::Program;
+use fm_run::{Awaited, Net, Piece};
+use std::alloc::Global;
+use std::sync::Arc;
+
+/// The processes of a run over trees, and its pieces.
+pub struct TreeNet {
+    /// The processes, channels and ports.
+    pub trees: Trees,
+    /// The pieces.
+    pub history: Vec<Turn>,
+}
+
+impl Drop for TreeNet {
+    fn drop(self) {
+        let TreeNet {
+            trees: _trees,
+            history: _history,
+        } = self;
+    }
+}
+
+impl Net for TreeNet {
+    ghost state = { λ program net. state_of program net.trees };
+
+    ghost order = { λ net. order_of net.trees.processes };
+
+    ghost channels = { λ net. net.trees.channels };
+
+    ghost history = { λ net. net.history.items };
+
+    ghost IsSound = { λ program net. held.IsSound program net.trees };
+
+    ghost channels_are = { λ program net sound. refl };
+
+    fn first(alloc: Global, program: &Program) -> Result<TreeNet, NoMemory> {
+        let trees = first_net(alloc, program)?;
+        let history = Vec::new(alloc);
+        Ok(TreeNet { trees, history })
+    }
+
+    fn count(&self) -> usize {
+        self.trees.processes.slots.len()
+    }
+
+    fn pieces(&self) -> usize {
+        self.history.len()
+    }
+
+    fn make_piece(
+        &mut self,
+        alloc: Global,
+        program: &Program,
+        number: u32,
+        slice: u32,
+    ) -> Result<Piece, NoMemory> {
+        let actor = self.trees.processes.actor(number)?;
+        let piece = make_piece(alloc, &mut self.trees, program, &actor, slice)?;
+        self.history.push(Turn {
+            number,
+            steps: piece.steps,
+        })?;
+        Ok(piece)
+    }
+
+    fn can_step(&self, program: &Program, number: u32) -> Result<bool, NoMemory> {
+        can_step(&self.trees, program, number)
+    }
+
+    fn note(&mut self, program: &Program, number: u32) -> Result<(), NoMemory> {
+        self.trees.note(program, number)
+    }
+
+    fn next_woken(&mut self) -> Option<u32> {
+        self.trees.channels.next_woken()
+    }
+
+    fn has_ended(&self, number: u32) -> bool {
+        self.trees.processes.has_ended(number)
+    }
+
+    fn awaits(&self, number: u32, before: usize) -> Result<Awaited, NoMemory> {
+        let family = self.trees.processes.family(number);
+        let ended = self.trees.processes.count_ended(family, before)?;
+        Ok(Awaited {
+            ended,
+            waits: ended < family.count,
+        })
+    }
+
+    fn outcome(&self, alloc: Global, program: &Program, used: u64) -> Result<Outcome, NoMemory> {
+        outcome(alloc, &self.trees, program, used)
+    }
+
+    fn into_parts(self) -> (Vec<Turn>, Vec<Arc<Path>>) {
+        let TreeNet { trees, history } = self;
+        (history, trees.processes.slots.into_paths())
+    }
+}

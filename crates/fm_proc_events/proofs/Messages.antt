@@ -1,0 +1,309 @@
+-- What a process does with a message, or with the end of a channel, is what it asked for.
+use Rattle.std.proofs.Common.{◌≡◌, ℕ, ℤ, ◌+◌, Bool, true, false, cond, Option, Some, None, List, [], ◌∷◌, ◌++◌, refl, sym, ap, ◌∙◌, append-nil}
+use Rattle.std.specs.Prelude.{is_some, slice_set, Result, Ok, Err, IfOk, OnOk}
+use Rattle.fm_base.specs.declared.memory.NoMemory.{NoMemory}
+use Rattle.std.specs.FinMap.{get}
+use Rattle.fm_base.specs.declared.path.ChanName.{ChanName}
+use Rattle.fm_base.specs.declared.port.PortValue.{PortValue}
+use Rattle.fm_base.specs.declared.port.PortValue.TheVariants.{Writer, Reader}
+use Rattle.fm_base.specs.Channels.{Message, Chan, Chans, Push, Pop, Look, changed, gives, tells, is_ready, first_exceeds, spills_at, all_shed}
+use Rattle.fm_values.specs.Values.{truth_word}
+use Rattle.fm_finmap.specs.Changes.{adjust}
+use Rattle.fm_finmap.proofs.Adjusts.{adjust-insert}
+use Rattle.fm_finmap.proofs.Inserts.{insert_same}
+use Rattle.fm_net.proofs.Keys.{channel_order}
+use Rattle.fm_discards.proofs.Shedding.{all_shed-nil}
+use Rattle.fm_chan.specs.Events.{after_send_to, after_op, chan_at}
+use Rattle.fm_chan.specs.Received.{got_of, got_at, waits_at}
+use Rattle.fm_chan.specs.declared.message.Got.TheVariants as got
+use Rattle.fm_net.specs.Machine.{Place, Event, Reply, reply_at, served_at}
+use Rattle.fm_code.specs.declared.ask.Ask.TheVariants as ask
+use Rattle.fm_code.specs.declared.ask.Operand.{Operand}
+use Rattle.fm_code.specs.declared.body.Body.{Body}
+use Rattle.fm_code.specs.Statements.{with_words}
+use Rattle.fm_machine_calls.specs.declared.looking.Look.TheVariants as look
+use Rattle.fm_proc_language.specs.Slots.{Slots, in_slot}
+use Rattle.fm_proc_language.specs.Frames.{message_from}
+use Rattle.fm_proc_language.specs.Processes.{CodeProc, asks, sends_by, receives_by, probes_by, sent, received, came, at_the_end, probed, holding, message_words}
+use Rattle.fm_proc_language.specs.Needs.{need_in}
+use Rattle.fm_proc_slots.specs.Helds.{held}
+use Rattle.fm_proc_events.specs.Events.{channel_in, message_in, with_body}
+use Rattle.fm_proc_events.specs.Performs.{CanPerform, Performs, reply_to}
+use Rattle.fm_proc_events.specs.Told.{look_of}
+use Rattle.fm_proc_events.proofs.Doing.{bodied, asks_so, can_so}
+
+-- a writer, and its channel
+record Outport (x : Option PortValue) : Type 0 where
+  pub channel : ChanName
+  pub writer : ℕ
+  pub is : x ≡ Some (Writer channel writer)
+
+-- an inport
+record Inport (x : Option PortValue) : Type 0 where
+  pub channel : ChanName
+  pub is : x ≡ Some (Reader channel)
+
+some_body : (y : CodeProc) (P : Type 0) → (y.body ≡ None → ⊥) → ((b : Body) → y.body ≡ Some b → P) → P
+some_body y P none some = go y.body refl
+  where
+    go : (o : Option Body) → y.body ≡ o → P
+    go None e = absurd (none e)
+    go (Some b) e = some b e
+
+pub on_ok : (r : Result ℕ NoMemory) (A : Type 0) → A → OnOk r A
+on_ok (Ok n) A a = a
+on_ok (Err e) A a = tt
+
+-- the body is put back
+as_it_was : (y : CodeProc) (b : Body) → y.body ≡ Some b → with_body y b ≡ y
+as_it_was y b is = λ i. record y { body = sym is i }
+
+-- which writer sends changes nothing
+any_writer : (c : ChanName) (v w : ℕ) (message : Message) (o : Option Chan) → spills_at (Push v message) o ≡ spills_at (Push w message) o
+any_writer c v w message None = refl
+any_writer c v w message (Some ch) = refl
+
+no_spills : (o : Option Chan) → spills_at (Pop []) o ≡ []
+no_spills None = refl
+no_spills (Some ch) = refl
+
+no_looks : (o : Option Chan) → spills_at Look o ≡ []
+no_looks None = refl
+no_looks (Some ch) = refl
+
+-- ---- sending
+
+module _ (y : CodeProc) (cs : Chans) (slot : ℤ) (items : List Operand) (next : ℕ) (told : look_of y ≡ look.Asks (ask.Send slot items next)) (can : CanPerform y cs) where
+  -- it has a body
+  send_body : y.body ≡ None → ⊥
+  send_body = bodied y (ask.Send slot items next) told
+
+  outport_of : (b : Body) → y.body ≡ Some b → Outport (in_slot y.slots slot)
+  outport_of b is = go (in_slot y.slots slot) (can_so y cs (ask.Send slot items next) refl told can b is)
+    where
+      go : (x : Option PortValue) → is_some (reply_to cs (need_in (sends_by y b x (message_from (holding y b) items) next))) ≡ true → Outport x
+      go None e = absurd (cc e)
+      go (Some (Reader c)) e = absurd (cc e)
+      go (Some (Writer c w)) e = record { channel = c; writer = w; is = refl }
+
+  -- and an outport
+  outport : Outport (in_slot y.slots slot)
+  outport = some_body y (Outport (in_slot y.slots slot)) send_body outport_of
+
+  module _ (b : Body) (is : y.body ≡ Some b) where
+    asks_send : asks y ≡ sends_by y b (Some (Writer outport.channel outport.writer)) (message_from (holding y b) items) next
+    asks_send = asks_so y cs (ask.Send slot items next) refl told can b is ∙ ap (λ x. sends_by y b x (message_from (holding y b) items) next) outport.is
+
+    send_reply : (x : Option Chan) → is_some (served_at {Proc = CodeProc} (Push outport.writer (message_from (holding y b) items).1) x) ≡ true
+        → (r : Reply CodeProc) × (served_at (Push outport.writer (message_from (holding y b) items).1) x ≡ Some r)
+    send_reply None e = absurd (cc e)
+    send_reply (Some ch) e = (reply_at (Push outport.writer (message_from (holding y b) items).1) ch, refl)
+
+    send_served : (r : Reply CodeProc) × (served_at (Push outport.writer (message_from (holding y b) items).1) (get cs outport.channel) ≡ Some r)
+    send_served = send_reply (get cs outport.channel) (sym (ap (λ a. is_some (reply_to cs (need_in a))) asks_send) ∙ can)
+
+    pub sends : (p : Place) (c : ChanName) → Some c ≡ channel_in (in_slot y.slots slot)
+        → (after : Body) → after ≡ with_words b next (message_from (held b.frame.words y.slots) items).0.words
+        → (slots : Slots) → slots ≡ (message_from (held b.frame.words y.slots) items).0.slots
+        → (message : Message) → message ≡ (message_from (held b.frame.words y.slots) items).1
+        → (n : Chans) → n ≡ after_send_to c message cs
+        → (cost : ℕ) → cost ≡ 1 + message_words message
+        → Performs p y cs (record y { body = Some after; slots = slots }) [] n cost
+    sends p c c_is after after_is slots slots_are message message_is n n_is cost cost_is =
+        let m = message_from (holding y b) items in
+        let same : c ≡ outport.channel = cc (c_is ∙ ap channel_in outport.is) in
+        record {
+          need = Event outport.channel (Push outport.writer m.1);
+          goes = λ d r. sent y b next m;
+          asks_so = asks_send;
+          reply = send_served.0;
+          comes = send_served.1;
+          on = record {
+            self = λ i. record y { body = Some (after_is i); slots = slots_are i };
+            block = refl;
+            starts_are = refl;
+            chans = n_is ∙ ap (λ d. after_send_to d message cs) same ∙ ap (λ v. after_send_to outport.channel v cs) message_is
+                ∙ ap (λ zs. all_shed zs (adjust cs outport.channel (changed (Push outport.writer m.1)))) (any_writer outport.channel 0 outport.writer m.1 (get cs outport.channel));
+            cost_is = cost_is ∙ ap (λ v. 1 + message_words v) message_is;
+          };
+        }
+
+-- ---- receiving
+
+-- without limits no message exceeds
+none_exceeds : (queue : List Message) → first_exceeds [] queue ≡ false
+none_exceeds [] = refl
+none_exceeds (message ∷ queue) = refl
+
+got_message : (o : Option Message) → message_in (got_of o) ≡ o
+got_message None = refl
+got_message (Some message) = refl
+
+message_brought : (ch : Chan) → is_ready (Pop []) ch ≡ true → message_in (got_at [] (Some ch)) ≡ gives (Pop []) ch
+message_brought ch ready =
+    ap (λ b. message_in (cond b (cond (first_exceeds [] ch.queue) got.Exceeds (got_of (gives (Pop []) ch))) got.Wait)) ready
+    ∙ ap (λ b. message_in (cond b got.Exceeds (got_of (gives (Pop []) ch)))) (none_exceeds ch.queue) ∙ got_message (gives (Pop []) ch)
+
+record Popped (o : Option Chan) : Type 0 where
+  pub reply : Reply CodeProc
+  pub comes : served_at (Pop []) o ≡ Some reply
+  pub brings : reply.message ≡ message_in (got_at [] o)
+
+popped : (o : Option Chan) → is_some (served_at {Proc = CodeProc} (Pop []) o) ≡ true → Popped o
+popped None e = absurd (cc e)
+popped (Some ch) e = go (is_ready (Pop []) ch) refl
+  where
+    go : (b : Bool) → is_ready (Pop []) ch ≡ b → Popped (Some ch)
+    go true ready = record {
+      reply = reply_at (Pop []) ch;
+      comes = ap (λ b. cond b (Some (reply_at (Pop []) ch)) None) ready;
+      brings = sym (message_brought ch ready);
+    }
+    go false waits = absurd (cc (sym (ap (λ b. is_some (cond b (Some (reply_at {Proc = CodeProc} (Pop []) ch)) None)) waits) ∙ e))
+
+module _ (y : CodeProc) (cs : Chans) (slot : ℤ) (items : List Operand) (status at_end : Option ℕ) (next : ℕ) (told : look_of y ≡ look.Asks (ask.Receive slot items status at_end next)) (can : CanPerform y cs) where
+  receive_body : y.body ≡ None → ⊥
+  receive_body = bodied y (ask.Receive slot items status at_end next) told
+
+  inport_of : (b : Body) → y.body ≡ Some b → Inport (in_slot y.slots slot)
+  inport_of b is = go (in_slot y.slots slot) (can_so y cs (ask.Receive slot items status at_end next) refl told can b is)
+    where
+      go : (x : Option PortValue) → is_some (reply_to cs (need_in (receives_by y b x items status at_end next))) ≡ true → Inport x
+      go None e = absurd (cc e)
+      go (Some (Writer c w)) e = absurd (cc e)
+      go (Some (Reader c)) e = record { channel = c; is = refl }
+
+  inport : Inport (in_slot y.slots slot)
+  inport = some_body y (Inport (in_slot y.slots slot)) receive_body inport_of
+
+  module _ (b : Body) (is : y.body ≡ Some b) where
+    asks_receive : asks y ≡ receives_by y b (Some (Reader inport.channel)) items status at_end next
+    asks_receive = asks_so y cs (ask.Receive slot items status at_end next) refl told can b is ∙ ap (λ x. receives_by y b x items status at_end next) inport.is
+
+    receive_served : Popped (get cs inport.channel)
+    receive_served = popped (get cs inport.channel) (sym (ap (λ a. is_some (reply_to cs (need_in a))) asks_receive) ∙ can)
+
+    end_starts : (s e : Option ℕ) → (at_the_end y b next s e).starts ≡ []
+    end_starts None None = refl
+    end_starts None (Some to) = refl
+    end_starts (Some k) to = refl
+
+    end_block : (s e : Option ℕ) → (at_the_end y b next s e).block ≡ y.next_block
+    end_block None None = refl
+    end_block None (Some to) = refl
+    end_block (Some k) to = refl
+
+    end_drops : (s e : Option ℕ) → (at_the_end y b next s e).drops ≡ []
+    end_drops None None = refl
+    end_drops None (Some to) = refl
+    end_drops (Some k) to = refl
+
+    end_cost : (s e : Option ℕ) → (at_the_end y b next s e).cost ≡ 1
+    end_cost None None = refl
+    end_cost None (Some to) = refl
+    end_cost (Some k) to = refl
+
+    starts_none : (o : Option Message) → (received y b next items status at_end o).starts ≡ []
+    starts_none None = end_starts status at_end
+    starts_none (Some message) = refl
+
+    same_block : (o : Option Message) → (received y b next items status at_end o).block ≡ y.next_block
+    same_block None = end_block status at_end
+    same_block (Some message) = refl
+
+    receives : (p : Place) (x : PortValue) → Some x ≡ in_slot y.slots slot
+        → (o : Option Message) → o ≡ message_in (got_at [] (chan_at x cs))
+        → (z : CodeProc) → z ≡ (received y b next items status at_end o).self
+        → (n : Chans) → n ≡ all_shed (received y b next items status at_end o).drops (after_op x (Pop []) cs)
+        → (cost : ℕ) → cost ≡ (received y b next items status at_end o).cost
+        → Performs p y cs z [] n cost
+    receives p x x_is o o_is z z_is n n_is cost cost_is =
+        let c = inport.channel in
+        let r = received y b next items status at_end in
+        let reader : x ≡ Reader c = cc (x_is ∙ inport.is) in
+        let brought : o ≡ receive_served.reply.message = o_is ∙ ap (λ v. message_in (got_at [] (chan_at v cs))) reader ∙ sym receive_served.brings in
+        let out = r receive_served.reply.message in
+        record {
+          need = Event c (Pop []);
+          goes = λ d v. r v.message;
+          asks_so = asks_receive;
+          reply = receive_served.reply;
+          comes = receive_served.comes;
+          on = record {
+            self = z_is ∙ ap (λ v. (r v).self) brought;
+            block = same_block receive_served.reply.message;
+            starts_are = sym (starts_none receive_served.reply.message);
+            chans = n_is ∙ ap (λ v. all_shed (r o).drops (after_op v (Pop []) cs)) reader ∙ ap (λ v. all_shed (r v).drops (adjust cs c (changed (Pop [])))) brought
+                ∙ ap (λ zs. all_shed zs (adjust cs c (changed (Pop [])))) (sym (ap (λ zs. out.drops ++ zs) (no_spills (get cs c)) ∙ append-nil out.drops));
+            cost_is = cost_is ∙ ap (λ v. (r v).cost) brought;
+          };
+        }
+
+    module _ (p : Place) (x : PortValue) (x_is : Some x ≡ in_slot y.slots slot) (mid : Chans) (mid_is : mid ≡ after_op x (Pop []) cs) (z : CodeProc) (n : Chans) where
+      came_in : (message : Message) (its : List Operand) → its ≡ items → came (with_body y b) b next its status message ≡ came y b next items status message
+      came_in message its same = ap (λ v. came v b next its status message) (as_it_was y b is) ∙ ap (λ v. came y b next v status message) same
+
+      pub gets_message : (message : Message) → Some message ≡ message_in (got_at [] (chan_at x cs)) → (its : List Operand) → its ≡ items → (cost : Result ℕ NoMemory)
+          → OnOk cost (z ≡ (came (with_body y b) b next its status message).self)
+          → OnOk cost (n ≡ all_shed (came (with_body y b) b next its status message).drops mid)
+          → IfOk cost (λ k. k ≡ (came (with_body y b) b next its status message).cost)
+          → IfOk cost (λ k. Performs p y cs z [] n k)
+      gets_message message came_so its same (Ok k) z_is n_is k_is =
+          let out = came_in message its same in
+          receives p x x_is (Some message) came_so z (z_is ∙ ap (λ v. v.self) out) n (n_is ∙ ap (λ v. all_shed v.drops mid) out ∙ ap (all_shed (came y b next items status message).drops) mid_is) k (k_is ∙ ap (λ v. v.cost) out)
+      gets_message message came_so its same (Err e) z_is n_is k_is = tt
+
+      pub meets_end : None ≡ message_in (got_at [] (chan_at x cs)) → z ≡ (at_the_end (with_body y b) b next status at_end).self → n ≡ mid → Performs p y cs z [] n 1
+      meets_end ended z_is n_is =
+          let m = after_op x (Pop []) cs in
+          receives p x x_is None ended z (z_is ∙ ap (λ v. (at_the_end v b next status at_end).self) (as_it_was y b is)) n
+          (n_is ∙ mid_is ∙ sym (ap (λ zs. all_shed zs m) (end_drops status at_end) ∙ all_shed-nil m)) 1 (sym (end_cost status at_end))
+
+-- ---- looking
+
+look_served : (o : Option Chan) → is_some (served_at {Proc = CodeProc} Look o) ≡ true → (ch : Chan) × (o ≡ Some ch)
+look_served None e = absurd (cc e)
+look_served (Some ch) e = (ch, refl)
+
+module _ (y : CodeProc) (cs : Chans) (slot : ℤ) (empty next : ℕ) (told : look_of y ≡ look.Asks (ask.Probe slot empty next)) (can : CanPerform y cs) where
+  probe_body : y.body ≡ None → ⊥
+  probe_body = bodied y (ask.Probe slot empty next) told
+
+  looked_at : (b : Body) → y.body ≡ Some b → Inport (in_slot y.slots slot)
+  looked_at b is = go (in_slot y.slots slot) (can_so y cs (ask.Probe slot empty next) refl told can b is)
+    where
+      go : (x : Option PortValue) → is_some (reply_to cs (need_in (probes_by y b x empty next))) ≡ true → Inport x
+      go None e = absurd (cc e)
+      go (Some (Writer c w)) e = absurd (cc e)
+      go (Some (Reader c)) e = record { channel = c; is = refl }
+
+  looked : Inport (in_slot y.slots slot)
+  looked = some_body y (Inport (in_slot y.slots slot)) probe_body looked_at
+
+  module _ (b : Body) (is : y.body ≡ Some b) where
+    asks_probe : asks y ≡ probes_by y b (Some (Reader looked.channel)) empty next
+    asks_probe = asks_so y cs (ask.Probe slot empty next) refl told can b is ∙ ap (λ x. probes_by y b x empty next) looked.is
+
+    there : (ch : Chan) × (get cs looked.channel ≡ Some ch)
+    there = look_served (get cs looked.channel) (sym (ap (λ a. is_some (reply_to cs (need_in a))) asks_probe) ∙ can)
+
+    pub probes : (p : Place) (x : PortValue) → Some x ≡ in_slot y.slots slot → (waits : Bool) → waits ≡ waits_at (chan_at x cs)
+        → (after : Body) → after ≡ with_words b next (slice_set b.frame.words empty (truth_word waits)) → Performs p y cs (record y { body = Some after }) [] cs 1
+    probes p x x_is waits waits_so after after_is =
+        let c = looked.channel in
+        let reader : x ≡ Reader c = cc (x_is ∙ looked.is) in
+        let same : waits ≡ tells Look there.0 = waits_so ∙ ap (λ v. waits_at (chan_at v cs)) reader ∙ ap waits_at there.1 in
+        record {
+          need = Event c Look;
+          goes = λ d r. probed y b next empty r.waits;
+          asks_so = asks_probe;
+          reply = reply_at Look there.0;
+          comes = ap (served_at Look) there.1;
+          on = record {
+            self = (λ i. record y { body = Some (after_is i) }) ∙ ap (λ v. (probed y b next empty v).self) same;
+            block = refl;
+            starts_are = refl;
+            chans = sym (ap (λ zs. all_shed zs (adjust cs c (changed Look))) (no_looks (get cs c)) ∙ all_shed-nil (adjust cs c (changed Look)) ∙ adjust-insert channel_order cs c (changed Look) there.0 there.1 ∙ insert_same channel_order cs c there.0 there.1);
+            cost_is = refl;
+          };
+        }

@@ -1,0 +1,175 @@
+//! A message is received, or the end of its channel is met.
+
+ghost use Rattle.std.specs.Prelude.{◌≡◌, ◌+◌, [], false, pos, IfOk, OnOk};
+ghost use Rattle.fm_base.specs.Channels.{Pop, all_shed};
+ghost use Rattle.fm_chan.specs.Bodies.{chans_of};
+ghost use Rattle.fm_chan.specs.Events.{after_op, chan_at, is_outport};
+ghost use Rattle.fm_chan.specs.Received.{got_at};
+ghost use Rattle.fm_chan.specs.Woken.{WakesAll};
+ghost use Rattle.fm_code.specs.declared.ask.Ask.TheVariants as ask;
+ghost use Rattle.fm_code.specs.Statements.{with_words};
+ghost use Rattle.fm_machine_calls.specs.declared.looking.Look.TheVariants.{Asks};
+ghost use Rattle.fm_proc_language.specs.Frames.{all_stored};
+ghost use Rattle.fm_proc_language.specs.Processes.{at_the_end, came, message_words, with_status};
+ghost use Rattle.fm_proc_slots.specs.Helds.{held};
+ghost use Rattle.fm_proc_events.specs.Events.{message_in, with_body};
+ghost use Rattle.fm_proc_events.specs.Performs.{CanPerform, Performs};
+ghost use Rattle.fm_proc_events.specs.Phases.{proc_of};
+ghost use Rattle.fm_proc_events.specs.Told.{look_of};
+
+use crate::going::{put_and_set_address, set_address};
+use crate::process::{Phase, Process};
+use crate::sending::message_cost;
+use crate::shedding::shed;
+use fm_base::{Fault, NoMemory, Path, Seq};
+use fm_chan::{Channels, Got, Message, Port};
+use fm_code::{Body, Operand, Row};
+use fm_machine_calls::line_of;
+use fm_proc_slots::{Slots, set_word, store_all};
+use std::alloc::Global;
+use std::mem::replace;
+
+fn message_in(got: Got) -> Option<Message>
+    ensures { result ≡ message_in got }
+{
+    match got {
+        Got::Message(message) => Some(message),
+        Got::Exceeds => None,
+        Got::Wait => None,
+        Got::End => None,
+    }
+}
+
+/// The oldest message of a port's channel, or none at its end.
+fn next_message(channels: &mut Channels, port: &Port) -> Option<Message>
+    requires { is_outport port.now ≡ false }
+    ensures message { result ≡ message_in (got_at [] (chan_at port.now (chans_of channels.old))) }
+    ensures channels { chans_of channels.new ≡ after_op port.now (Pop []) (chans_of channels.old) }
+    ensures waking { WakesAll channels.old channels.new }
+{
+    message_in(channels.receive(port, &[]))
+}
+
+/// The word of IOSTAT, where it is asked for.
+fn put_status(words: &mut Row<i64>, slots: &Slots, status: Option<u32>, word: i64)
+    ensures { held words.new slots.now ≡ with_status (held words.old slots.now) status word }
+{
+    match status {
+        Some(number) => set_word(words, number as usize, word),
+        None => {}
+    }
+}
+
+/// A message is stored in the innermost frame, which goes on. What is let go.
+fn store_message(
+    alloc: Global,
+    body: &mut Body,
+    slots: &mut Slots,
+    items: &[Operand],
+    status: Option<u32>,
+    message: Message,
+    next: u32,
+) -> Result<Vec<Port>, NoMemory>
+    ensures body { OnOk result (body.new ≡ with_words body.old next (with_status (all_stored (held body.old.frame.words slots.old) items.now message).0 status (pos 0)).words) }
+    ensures slots { OnOk result (slots.new ≡ (with_status (all_stored (held body.old.frame.words slots.old) items.now message).0 status (pos 0)).slots) }
+    ensures drops { IfOk result (λ v. v.items ≡ (all_stored (held body.old.frame.words slots.old) items.now message).1) }
+{
+    let drops = store_all(alloc, &mut body.frame.words, slots, items, message)?;
+    put_status(&mut body.frame.words, slots, status, 0);
+    set_address(body, next);
+    Ok(drops)
+}
+
+/// A process, whose body stands apart, goes on with a message. The cost.
+fn store(
+    alloc: Global,
+    process: &mut Process,
+    body: Body,
+    channels: &mut Channels,
+    items: &[Operand],
+    status: Option<u32>,
+    message: Message,
+    next: u32,
+) -> Result<u64, NoMemory>
+    ensures process { OnOk result (proc_of process.new ≡ (came (with_body (proc_of process.old) body) body next items.now status message).self) }
+    ensures channels { OnOk result (chans_of channels.new ≡ all_shed (came (with_body (proc_of process.old) body) body next items.now status message).drops (chans_of channels.old)) }
+    ensures cost { IfOk result (λ cost. cost ≡ (came (with_body (proc_of process.old) body) body next items.now status message).cost) }
+    ensures waking { WakesAll channels.old channels.new }
+{
+    let mut body = body;
+    let cost = message_cost(&message)?;
+    let drops = store_message(
+        alloc,
+        &mut body,
+        &mut process.slots,
+        items,
+        status,
+        message,
+        next,
+    )?;
+    process.body = Some(body);
+    shed(channels, drops);
+    Ok(cost)
+}
+
+/// A process, whose body stands apart, meets the end of a channel.
+fn meet_end(process: &mut Process, body: Body, status: Option<u32>, at_end: Option<u32>, next: u32)
+    ensures { proc_of process.new ≡ (at_the_end (with_body (proc_of process.old) body) body next status at_end).self }
+{
+    let mut body = body;
+    match status {
+        None => match at_end {
+            None => {
+                process.phase = Phase::Faulted {
+                    line: line_of(&body),
+                    fault: Fault::EndOfChannel,
+                };
+            }
+            Some(to) => set_address(&mut body, to),
+        },
+        Some(number) => put_and_set_address(&mut body, number, -1, at_end.unwrap_or(next)),
+    }
+    process.body = Some(body);
+}
+
+/// Receives a message by the port in a slot, or meets the end of its channel. The cost.
+pub fn receive(
+    alloc: Global,
+    path: &Path,
+    process: &mut Process,
+    channels: &mut Channels,
+    slot: i64,
+    items: Seq<Operand>,
+    status: Option<u32>,
+    at_end: Option<u32>,
+    next: u32,
+) -> Result<u64, NoMemory>
+    requires look { look_of (proc_of process.old) ≡ Asks (ask.Receive slot items status at_end next) }
+    requires can { CanPerform (proc_of process.old) (chans_of channels.old) }
+    ensures performs { IfOk result (λ cost. Performs path.now (proc_of process.old) (chans_of channels.old) (proc_of process.new) [] (chans_of channels.new) cost) }
+    ensures waking { OnOk result (WakesAll channels.old channels.new) }
+{
+    let got = match process.slots.port(slot) {
+        Some(port) => next_message(channels, port),
+        None => unreachable!(),
+    };
+    let Some(body) = replace(&mut process.body, None) else {
+        unreachable!()
+    };
+    match got {
+        Some(message) => store(
+            alloc,
+            process,
+            body,
+            channels,
+            items.as_slice(),
+            status,
+            message,
+            next,
+        ),
+        None => {
+            meet_end(process, body, status, at_end, next);
+            Ok(1)
+        }
+    }
+}

@@ -1,0 +1,33 @@
+-- What finds no place is let go.
+use Rattle.std.proofs.Common.{◌≡◌, refl, ℕ, List, [], ◌∷◌, ◌++◌, ap, ap₂, sym, subst, append_assoc, ◌∙◌}
+use Rattle.fm_base.specs.declared.port.PortValue.{PortValue}
+use Rattle.fm_base.specs.Channels.{Item, Message, item_ports, message_ports}
+use Rattle.fm_code.specs.declared.ask.Operand.{Operand}
+use Rattle.fm_proc_language.specs.Frames.{Held, all_stored, all_placed}
+use Rattle.fm_proc_slots.specs.Stores.{PlacesMessage, PlacesPort}
+
+none_stored : (h : Held) (ms : Message) → all_stored h [] ms ≡ (h, message_ports ms)
+none_stored h [] = refl
+none_stored h (m ∷ ms) = refl
+
+nowhere : (h : Held) (i : Item) (out out' : List PortValue) → out' ≡ out ++ item_ports i → PlacesMessage h [] out i h [] out'
+nowhere h i out out' f = record {
+  keeps = λ ms. ap (λ (p : Held × List PortValue). p.0) (none_stored h ms);
+  gives = λ ms. ap₂ (λ (l : List PortValue) (p : Held × List PortValue). l ++ p.1) f (none_stored h ms) ∙ append_assoc out (item_ports i) (message_ports ms);
+}
+
+pub stored_nowhere : (h : Held) (os : List Operand) (i : Item) (out out' : List PortValue) → os ≡ [] → out' ≡ out ++ item_ports i → PlacesMessage h os out i h os out'
+stored_nowhere h os i out out' e f = subst (λ (l : List Operand). PlacesMessage h l out i h l out') (sym e) (nowhere h i out out' f)
+
+none_placed : (h : Held) (xs : List PortValue) → all_placed h [] xs ≡ (h, xs)
+none_placed h [] = refl
+none_placed h (x ∷ xs) = refl
+
+unplaced : (h : Held) (x : PortValue) (out out' : List PortValue) → out' ≡ out ++ x ∷ [] → PlacesPort h [] out x h [] out'
+unplaced h x out out' f = record {
+  keeps = λ xs. ap (λ (p : Held × List PortValue). p.0) (none_placed h xs);
+  gives = λ xs. ap₂ (λ (l : List PortValue) (p : Held × List PortValue). l ++ p.1) f (none_placed h xs) ∙ append_assoc out (x ∷ []) xs;
+}
+
+pub placed_nowhere : (h : Held) (ks : List ℕ) (x : PortValue) (out out' : List PortValue) → ks ≡ [] → out' ≡ out ++ x ∷ [] → PlacesPort h ks out x h ks out'
+placed_nowhere h ks x out out' e f = subst (λ (l : List ℕ). PlacesPort h l out x h l out') (sym e) (unplaced h x out out' f)

@@ -1,0 +1,123 @@
+//! Slots with room: ports come and go without memory.
+
+ghost use Rattle.fm_proc_slots.specs.Places.{HaveNumbers};
+
+use crate::slots::{Slots, before, is_port, replaced};
+use fm_base::NoMemory;
+use fm_chan::Port;
+use std::alloc::Global;
+use std::mem::replace;
+
+/// The ports of a process while a step moves them. What that takes was reserved before: contracts see the slots (`slots_in`),
+/// and how many ports may still come and go (`HasRoom`).
+#[derive(Drop)]
+pub struct OpenSlots {
+    ports: Vec<Option<Port>>,
+    free: Vec<usize>,
+    ghost numbers: { HaveNumbers free.items },
+}
+
+impl Slots {
+    ghost use Rattle.std.specs.Prelude.{◌≡◌, IfOk, OnErr};
+    ghost use Rattle.fm_proc_slots.specs.Rooms.{HasRoom, slots_in};
+
+    /// Takes the ports out, with room for so many to come and so many to go. After want of memory the slots are as they were.
+    pub fn open(&mut self, alloc: Global, room: usize) -> Result<OpenSlots, NoMemory>
+        ensures opened { IfOk result (λ o. (slots_in o ≡ self.old) × HasRoom o room) }
+        ensures stays { OnErr result (self.new ≡ self.old) }
+    {
+        let most = self.ports.len().checked_add(room).ok_or(NoMemory)?;
+        if most > i64::MAX as usize {
+            return Err(NoMemory);
+        }
+        self.ports.reserve(room)?;
+        self.free.reserve(room)?;
+        Ok(OpenSlots {
+            ports: replace(&mut self.ports, Vec::new(alloc)),
+            free: replace(&mut self.free, Vec::new(alloc)),
+        })
+    }
+
+    /// The slots, which need no room any more. Takes no memory.
+    pub fn from_open(slots: OpenSlots) -> Slots
+        ensures { result ≡ slots_in slots }
+    {
+        let OpenSlots { ports, free } = slots;
+        Slots { ports, free }
+    }
+}
+
+impl OpenSlots {
+    ghost use Rattle.std.specs.Prelude.{◌≡◌, IfOk};
+    ghost use Rattle.fm_proc_language.specs.Slots.{in_slot, left, no_slots, put, put_any, taken};
+    ghost use Rattle.fm_proc_slots.specs.Rooms.{HasRoom, LeavesRoom, slots_in};
+
+    /// No slots, with room for so many ports to come and so many to go.
+    pub fn with_room(alloc: Global, room: usize) -> Result<OpenSlots, NoMemory>
+        ensures { IfOk result (λ o. (slots_in o ≡ no_slots) × HasRoom o room) }
+    {
+        if room > i64::MAX as usize {
+            return Err(NoMemory);
+        }
+        Ok(OpenSlots {
+            ports: Vec::with_capacity(alloc, room)?,
+            free: Vec::with_capacity(alloc, room)?,
+        })
+    }
+
+    /// A port comes to the free slot that is next, or else to a new one: its number.
+    pub(crate) fn put(&mut self, port: Port) -> i64
+        requires { HasRoom self.old 1 }
+        ensures put { (result, slots_in self.new) ≡ put (slots_in self.old) port }
+        ensures room { LeavesRoom 1 self.old self.new }
+    {
+        match self.free.pop() {
+            Some(place) => {
+                replaced(&mut self.ports, place, Some(port));
+                (place + 1) as i64
+            }
+            None => {
+                let place = self.ports.len();
+                self.ports.push_reserved(Some(port));
+                (place + 1) as i64
+            }
+        }
+    }
+
+    /// The word of what may be NULL.
+    pub(crate) fn put_any(&mut self, port: Option<Port>) -> i64
+        requires { HasRoom self.old 1 }
+        ensures put { (result, slots_in self.new) ≡ put_any (slots_in self.old) port }
+        ensures room { LeavesRoom 1 self.old self.new }
+    {
+        match port {
+            Some(port) => self.put(port),
+            None => 0,
+        }
+    }
+
+    /// A slot is free again: what stood there.
+    pub fn leave(&mut self, word: i64) -> Option<Port>
+        requires { HasRoom self.old 1 }
+        ensures port { result ≡ in_slot (slots_in self.old) word }
+        ensures slots { slots_in self.new ≡ left (slots_in self.old) word }
+        ensures room { LeavesRoom 1 self.old self.new }
+    {
+        let place = before(word);
+        self.free.push_reserved(place);
+        replaced(&mut self.ports, place, None)
+    }
+
+    /// What stands at a port word, whose slot is free then.
+    pub(crate) fn take(&mut self, word: i64) -> Option<Port>
+        requires { HasRoom self.old 1 }
+        ensures taken { (result, slots_in self.new) ≡ taken (slots_in self.old) word }
+        ensures room { LeavesRoom 1 self.old self.new }
+    {
+        if is_port(word) {
+            self.leave(word)
+        } else {
+            None
+        }
+    }
+}

@@ -1,0 +1,120 @@
+//! Words of a frame.
+
+ghost use Rattle.std.specs.Prelude.{◌≡◌, ◌≤◌, ◌+◌, ◌++◌, IfOk, OnOk, length, nat_le, slice_set, vec_len, vec_capacity};
+ghost use Rattle.fm_code.specs.Acts.{span_of};
+ghost use Rattle.fm_code.specs.Passing.{nulls, spliced};
+ghost use Rattle.fm_code.specs.Statements.{word_at};
+ghost use Rattle.fm_proc_slots.specs.Rooms.{span_words};
+
+use fm_base::NoMemory;
+use fm_code::{Row, Span};
+use std::alloc::Global;
+
+/// The word of a frame, or 0 where there is none.
+pub(crate) fn word_at(words: &[i64], number: usize) -> i64
+    ensures { result ≡ word_at words.now number }
+{
+    match words.get(number) {
+        Some(word) => *word,
+        None => 0,
+    }
+}
+
+/// The words of a span, as far as they are there.
+pub fn words_of(words: &[i64], span: Span) -> &[i64]
+    ensures { result.now ≡ span_of words.now span }
+{
+    let (_, from) = words.split_at(words.len().min(span.first as usize));
+    let (there, _) = from.split_at(from.len().min(span.count as usize));
+    there
+}
+
+/// Puts a word at a place, if there is such a place.
+pub fn set_word(words: &mut Row<i64>, number: usize, word: i64)
+    ensures { words.new ≡ slice_set words.old number word }
+{
+    if number < words.len() {
+        words.set(number, word);
+    }
+}
+
+/// Whether so many words from a place on are there.
+fn has_room(words: usize, at: usize, count: usize) -> bool
+    ensures { result ≡ nat_le (at + count) words }
+{
+    match at.checked_add(count) {
+        Some(end) => end <= words,
+        None => false,
+    }
+}
+
+/// Words with others over them from a place on; those behind the last are added.
+fn rebuilt(alloc: Global, words: &[i64], at: usize, items: &[i64]) -> Result<Vec<i64>, NoMemory>
+    ensures { IfOk result (λ v. v.items ≡ spliced words.now at items.now) }
+{
+    let (before, from) = words.split_at(words.len().min(at));
+    let (_, behind) = from.split_at(from.len().min(items.len()));
+    let mut all = Vec::from_slice(alloc, before)?;
+    all.extend_from_slice(items)?;
+    all.extend_from_slice(behind)?;
+    Ok(all)
+}
+
+/// Puts items over the words from a place on.
+pub fn splice(alloc: Global, words: &mut Row<i64>, at: usize, items: &[i64]) -> Result<(), NoMemory>
+    ensures { OnOk result (words.new ≡ spliced words.old at items.now) }
+{
+    if has_room(words.len(), at, items.len()) {
+        words.put(at, items);
+    } else {
+        *words = Row::from_vec(rebuilt(alloc, words.as_slice(), at, items)?);
+    }
+    Ok(())
+}
+
+/// Adds items where there is room for them.
+fn extend_within(words: &mut Vec<i64>, items: &[i64])
+    requires { vec_len words.old + length items.now ≤ vec_capacity words.old }
+    ensures items { words.new.items ≡ words.old.items ++ items.now }
+    ensures len { vec_len words.new ≡ vec_len words.old + length items.now }
+    ensures capacity { vec_capacity words.old ≤ vec_capacity words.new }
+{
+    match words.extend_from_slice(items) {
+        Ok(()) => {}
+        Err(_) => unreachable!(),
+    }
+}
+
+/// Puts items over the words from a place on, where there is room to add them all.
+pub(crate) fn splice_within(words: &mut Vec<i64>, at: usize, items: &[i64])
+    requires { vec_len words.old + length items.now ≤ vec_capacity words.old }
+    ensures items { words.new.items ≡ spliced words.old.items at items.now }
+    ensures len { vec_len words.new ≤ vec_len words.old + length items.now }
+    ensures capacity { vec_capacity words.old ≤ vec_capacity words.new }
+{
+    if has_room(words.len(), at, items.len()) {
+        words[at..at + items.len()].copy_from_slice(items);
+    } else {
+        words.truncate(at);
+        extend_within(words, items);
+    }
+}
+
+/// The words of a span become NULL.
+pub fn clear_span(alloc: Global, words: &mut Row<i64>, span: Span) -> Result<(), NoMemory>
+    ensures { OnOk result (words.new ≡ spliced words.old span.first (nulls span.count)) }
+{
+    let nulls = vec![in alloc; 0i64; span.count as usize]?;
+    splice(alloc, words, span.first as usize, nulls.as_slice())
+}
+
+/// As many words as these spans have at most.
+pub fn span_words(spans: &[Span]) -> Result<usize, NoMemory>
+    ensures { IfOk result (λ n. n ≡ span_words spans.now) }
+{
+    let mut count = 0usize;
+    'spans: for span in spans {
+        count = count.checked_add(span.count as usize).ok_or(NoMemory)?;
+    }
+    Ok(count)
+}

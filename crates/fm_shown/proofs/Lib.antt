@@ -1,5 +1,0 @@
-mod Needed
-mod Awaited
-mod Listed
-mod Holding
-mod Own

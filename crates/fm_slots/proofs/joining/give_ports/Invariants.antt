@@ -1,9 +1,0 @@
-use Rattle.fm_bodies.specs.Frames.{ports_given}
-use Rattle.fm_slots.specs.Joins.{GivesSo, LeavesRoomFor, joined}
-use Rattle.fm_slots.proofs.joining.give_ports.Given as goal
-
-abbrev pub invariant-ports : goal.invariant-ports
-invariant-ports l = record {
-  given : GivesSo (ports_given (joined l.fn.gains l.fn.child) l.back.from l.back.to l.index) l.gains l.child;
-  room : LeavesRoomFor l.index l.fn.gains l.gains;
-}

@@ -1,8 +1,0 @@
--- Words and slots, as functions hold them.
--- Source: this profile.
-use Rattle.std.specs.Prelude.{ℤ, List}
-use Rattle.fm_bodies.specs.Slots.{Slots}
-use Rattle.fm_bodies.specs.Frames.{Held}
-
-abbrev pub held : List ℤ → Slots → Held
-held words slots = record { words = words; slots = slots }

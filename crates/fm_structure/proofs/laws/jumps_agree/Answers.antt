@@ -1,5 +1,0 @@
-use Rattle.fm_structure.proofs.Jumps.{jumps_agree as law}
-use Rattle.fm_structure.proofs.laws.jumps_agree.Goals as goal
-
-pub returns : goal.returns
-returns c = law

@@ -1,5 +1,0 @@
-pub mod Forms
-pub mod Lookups
-pub mod Rules
-pub mod Broken
-pub mod Laws

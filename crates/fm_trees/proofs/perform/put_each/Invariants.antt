@@ -1,8 +1,0 @@
-use Rattle.fm_trees.specs.Held.{AreKept, Stay}
-use Rattle.fm_trees.proofs.perform.put_each.Given as goal
-
-abbrev pub invariant-ports : goal.invariant-ports
-invariant-ports l = record {
-  came : AreKept l.ports l.yielded;
-  others : Stay l.fn.ports l.ports;
-}

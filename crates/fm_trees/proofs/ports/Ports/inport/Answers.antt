@@ -1,6 +1,0 @@
-use Rattle.std.proofs.Common.{sym, ◌∙◌}
-use Rattle.fm_trees.proofs.Kept.{kept_reader}
-use Rattle.fm_trees.proofs.ports.Ports.inport.Goals as goal
-
-pub returns : goal.returns
-returns c = c.get.ensures ∙ sym (kept_reader c.args.self.now c.args.channel.now)

@@ -1,8 +1,0 @@
-use Rattle.std.proofs.Common.{◌≡◌, map, take}
-use Rattle.std.specs.Prelude.{option_map}
-use Rattle.fm_base.specs.Channels.{channel_of}
-use Rattle.fm_frame.specs.Memory.{port_in}
-use Rattle.fm_trees.proofs.shown.channels.Given as goal
-
-abbrev pub invariant-words : goal.invariant-words
-invariant-words l = l.all ≡ map (option_map channel_of) (map port_in (take l.word-index l.words))

@@ -1,4 +1,0 @@
-pub mod Flags
-pub mod Typing
-pub mod Expressions
-pub mod Variables

@@ -1,0 +1,26 @@
+use Rattle.std.proofs.Common.{◌≡◌, ◌<◌, ◌≤◌, ℕ, List, Option, Some, None, length, get_or, ap, ◌∙◌, sym, arith}
+use Rattle.std.specs.Option.{IfSome}
+use Rattle.fm_tree.specs.declared.entry_mark.EntryMark.{EntryMark}
+use Rattle.fm_tree.specs.declared.entry_mark.Open.{Open}
+use Rattle.fm_tree.specs.Blocks.{innermost}
+use Rattle.fm_unit_layout.proofs.Below.{innermost_below}
+use Rattle.fm_unit_layout.proofs.Lookups.{length-inner_list, inner_at}
+use Rattle.fm_unit.proofs.linking.Body.inner_at.Goals as goal
+
+pub index-requires : goal.index-requires
+index-requires c =
+    let e = ap length c.args.self.now.inner_is in
+    let n = length-inner_list c.args.self.now.marks.now in
+    let o = c.args.self.now.inner.ok.0 in omega (arith, e, n, o)
+
+value : (c : goal.After-result-1) → c.index.result.now ≡ innermost c.args.self.now.marks.now c.args.place
+value c =
+    c.index.ensures ∙ ap (λ xs. get_or xs c.args.place c.index.result.now) c.args.self.now.inner_is
+    ∙ inner_at c.args.self.now.marks.now c.args.place c.index.result.now c.requires
+
+bound : (marks : List EntryMark) (k : ℕ) (r : Option Open) → k ≤ length marks → r ≡ innermost marks k → IfSome r (λ o. o.at < k)
+bound marks k None l e = tt
+bound marks k (Some o) l e = (innermost_below marks k o l (sym e)).0
+
+pub returns : goal.returns
+returns c = record { value = value c; below = bound c.args.self.now.marks.now c.args.place c.index.result.now (omega arith) (value c) }

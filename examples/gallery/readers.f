@@ -1,0 +1,68 @@
+C     Readers and writers of one number, which a server keeps. A request
+C     has its kind (0 reads, 1 adds), a value, and the port for the
+C     answer.
+      PROGRAM SHARED
+      PARAMETER (NREAD = 3, NWRITE = 2)
+      INPORT (INTEGER, INTEGER, OUTPORT (INTEGER)) ASKED
+      OUTPORT (INTEGER, INTEGER, OUTPORT (INTEGER)) ASK(NREAD + NWRITE)
+      MERGER(IN=ASKED, OUT=ASK)
+      PROCESSES
+        PROCESSCALL SERVER(ASKED)
+        PROCESSDO I = 1, NREAD
+          PROCESSCALL READER(I, ASK(I))
+        ENDPROCESSDO
+        PROCESSDO I = 1, NWRITE
+          PROCESSCALL WRITER(I, ASK(NREAD + I))
+        ENDPROCESSDO
+      ENDPROCESSES
+      END
+
+      PROCESS SERVER(ASKED)
+      INPORT (INTEGER, INTEGER, OUTPORT (INTEGER)) ASKED
+      OUTPORT (INTEGER) ANSWER
+      INTEGER STORE, READS, WRITES
+   10 RECEIVE(ASKED, END=20) KIND, N, ANSWER
+      IF (KIND .EQ. 0) THEN
+        READS = READS + 1
+      ELSE
+        WRITES = WRITES + 1
+        STORE = STORE + N
+      ENDIF
+      SEND(ANSWER) STORE
+      GOTO 10
+   20 PRINT *, 'reads', READS, 'writes', WRITES, 'store', STORE
+      END
+
+      PROCESS READER(ME, ASK)
+      OUTPORT (INTEGER, INTEGER, OUTPORT (INTEGER)) ASK
+      INTENT(IN) ME
+      LOGICAL GROWS
+      GROWS = .TRUE.
+      LAST = 0
+      DO I = 1, 4
+        CALL DEAL(ASK, 0, 0, K)
+        IF (K .LT. LAST) GROWS = .FALSE.
+        LAST = K
+      ENDDO
+      ENDCHANNEL(ASK)
+      PRINT *, 'reader', ME, 'never less', GROWS
+      END
+
+      PROCESS WRITER(ME, ASK)
+      OUTPORT (INTEGER, INTEGER, OUTPORT (INTEGER)) ASK
+      INTENT(IN) ME
+      DO I = 1, 3
+        CALL DEAL(ASK, 1, 10*ME, K)
+      ENDDO
+      ENDCHANNEL(ASK)
+      END
+
+      SUBROUTINE DEAL(ASK, KIND, N, K)
+      OUTPORT (INTEGER, INTEGER, OUTPORT (INTEGER)) ASK
+      INPORT (INTEGER) ANSWER
+      OUTPORT (INTEGER) REPLY
+      INTENT(IN) KIND, N
+      CHANNEL(IN=ANSWER, OUT=REPLY)
+      SEND(ASK) KIND, N, REPLY
+      RECEIVE(ANSWER) K
+      END

@@ -1,0 +1,57 @@
+C     A process as a library: a stack that is used through two ports.
+C     Its user knows their types, and not how the numbers are kept.
+      PROGRAM USER
+      OUTPORT (INTEGER) PUSH
+      INPORT (INTEGER) PUSHED
+      OUTPORT (OUTPORT (INTEGER, LOGICAL)) POP
+      INPORT (OUTPORT (INTEGER, LOGICAL)) POPPED
+      CHANNEL(IN=PUSHED, OUT=PUSH)
+      CHANNEL(IN=POPPED, OUT=POP)
+      PROCESSES
+        PROCESSCALL STACK(PUSHED, POPPED)
+        PROCESSCALL CLIENT(PUSH, POP)
+      ENDPROCESSES
+      END
+
+      PROCESS CLIENT(PUSH, POP)
+      OUTPORT (INTEGER) PUSH
+      OUTPORT (OUTPORT (INTEGER, LOGICAL)) POP
+      INPORT (INTEGER, LOGICAL) ANSWER
+      OUTPORT (INTEGER, LOGICAL) REPLY
+      LOGICAL THERE
+      DO I = 1, 4
+        SEND(PUSH) I**3
+      ENDDO
+      ENDCHANNEL(PUSH)
+      THERE = .TRUE.
+      DO WHILE (THERE)
+        CHANNEL(IN=ANSWER, OUT=REPLY)
+        SEND(POP) REPLY
+        RECEIVE(ANSWER) K, THERE
+        IF (THERE) PRINT *, 'popped', K
+      ENDDO
+      ENDCHANNEL(POP)
+      PRINT *, 'empty'
+      END
+
+      PROCESS STACK(PUSHED, POPPED)
+      PARAMETER (LIMIT = 100)
+      INPORT (INTEGER) PUSHED
+      INPORT (OUTPORT (INTEGER, LOGICAL)) POPPED
+      OUTPORT (INTEGER, LOGICAL) REPLY
+      INTEGER KEPT(LIMIT)
+      N = 0
+   10 RECEIVE(PUSHED, END=20) K
+      N = N + 1
+      KEPT(N) = K
+      GOTO 10
+   20 RECEIVE(POPPED, END=30) REPLY
+      IF (N .EQ. 0) THEN
+        SEND(REPLY) 0, .FALSE.
+      ELSE
+        SEND(REPLY) KEPT(N), .TRUE.
+        N = N - 1
+      ENDIF
+      GOTO 20
+   30 PRINT *, 'stack closed'
+      END
