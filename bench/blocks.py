@@ -7,9 +7,8 @@ Each program is run with some processes and with ten times as many: a block of c
 which all children but the first wait for the last one, a chain of processes each of which starts the next one, and
 a pipeline of stages. Valgrind's callgrind counts the instructions, which repeat to the digit on one machine. It
 prints both counts and their ratio (10 for work that grows as the number of processes does), and tells in the
-status whether one is over its bound. The paths of a chain are as long as the chain is deep, so that its bound is
-another. BINARY is the built program, by default crates/fmc_cli/out/fmc_cli; PROGRAM is a name of PROGRAMS below,
-by default all.
+status whether one is over its bound. BINARY is the built program, by default crates/fmc_cli/out/fmc_cli; PROGRAM is
+a name of PROGRAMS below, by default all.
 """
 import os
 import re
@@ -150,7 +149,7 @@ def pipeline(count):
 PROGRAMS = {
     "block": (block, b" 1\n", 15),
     "backwards": (backwards, b" 1\n", 15),
-    "chain": (chain, b" 1\n", 40),
+    "chain": (chain, b" 1\n", 15),
     "pipeline": (pipeline, b" 55\n", 15),
 }
 

@@ -3,14 +3,17 @@
 
     bench/pages.py [BINARY [PAGE ..]]
 
-Goes over README, LANGUAGE and RULES, or the pages that are named. BINARY is the built program, by default
+Goes over the pages with programs and commands, or those that are named. BINARY is the built program, by default
 crates/fmc_cli/out/fmc_cli, and stands for ./fmc.
 
+- A block ```fortran units stands for a program too: its units, and behind them those units of the last program that
+  have other names.
 - A block ```text right behind a block ```fortran is what `run`, `check` or `list` writes of that program; a block
   ```text WORDS, also further on, is what these words write of the last program.
-- A whole program with no such block breaks no rule. A part of a program isn't tried.
-- A block ```text right behind a block ```sh is what its lines write together. Lines that begin with ./fmc are run,
-  and are no usage; a block with other commands isn't compared.
+- A whole program with no such block, and with no command on my.f behind it, breaks no rule. A part of a
+  program isn't tried.
+- A block ```text right behind a block ```sh is what its lines write together. Lines that begin with ./fmc or
+  extras/why are run, and are no usage; a block with other commands isn't compared. The file my.f is the last program.
 """
 import os
 import re
@@ -19,9 +22,11 @@ import subprocess
 import sys
 
 TOP = os.path.dirname(os.path.dirname(os.path.abspath(__file__)))
-PAGES = ["README.md", "docs/LANGUAGE.md", "docs/RULES.md"]
+PAGES = ["README.md", "docs/LANGUAGE.md", "docs/RULES.md", "docs/TOUR.md", "docs/PROMISES.md", "examples/gallery/README.md"]
 FENCE = re.compile(r"^```(\w*) ?([^\n]*)\n(.*?)^```$", re.M | re.S)
 HEADING = re.compile(r"^ +PROGRAM\b", re.M | re.I)
+UNIT = re.compile(r"(?:^[^\n]*\n)*?^[ \d]{6} *END\n", re.M)
+NAME = re.compile(r"^ +(?:(?:INTEGER|LOGICAL) )?(?:PROGRAM|PROCESS|SUBROUTINE|FUNCTION) (\w+)", re.M)
 
 
 def fences(page):
@@ -39,13 +44,23 @@ def ran(binary, words, program):
     return done.stdout.decode(errors="replace"), done.returncode
 
 
-def shell(binary, text):
+def with_units(program, text):
+    """The units of a text, and behind them those of the program that have other names."""
+    units = {}
+    for it in UNIT.findall(text + "\n" + program):
+        units.setdefault(NAME.search(it).group(1), it)
+    return "".join(units.values())
+
+
+def shell(binary, program, text):
     """What the lines of a block of commands write, the worst status, and whether each of them is one of ours."""
     lines = [line for line in text.splitlines() if line.strip() and not line.startswith("#")]
     written, statuses = "", [0]
     for line in lines:
-        if line.startswith("./fmc "):
-            done = subprocess.run(line.replace("./fmc", shlex.quote(binary)), shell=True, cwd=TOP, stdout=subprocess.PIPE)
+        if line.startswith(("./fmc ", "extras/why ")):
+            line = line.replace("./fmc", shlex.quote(binary)).replace(" my.f", " /dev/stdin")
+            done = subprocess.run(line, shell=True, cwd=TOP, env={**os.environ, "FMC": binary}, input=program.encode(),
+                                  stdout=subprocess.PIPE)
             written += done.stdout.decode(errors="replace")
             statuses.append(done.returncode)
     return written, 5 if 5 in statuses else 0, len(statuses) == len(lines) + 1
@@ -59,15 +74,16 @@ def tried(binary, page):
         before = blocks[number - 1] if number and follows else ("", [], "", 0, False)
         is_answered = number + 1 < len(blocks) and blocks[number + 1][0] == "text" and blocks[number + 1][4]
         if kind == "fortran":
-            program = text
-            if HEADING.search(text) and not is_answered:
-                written, status = ran(binary, ["check"], text)
+            program = with_units(program, text) if words == ["units"] else text
+            is_used = number + 1 < len(blocks) and "< my.f" in blocks[number + 1][2]
+            if HEADING.search(program) and not is_answered and not is_used:
+                written, status = ran(binary, ["check"], program)
                 yield line, "" if status == 0 else written, "checked"
         elif kind == "text" and (words or before[0] == "fortran"):
             answers = [ran(binary, it, program)[0] for it in ([words] if words else [["run"], ["check"], ["list"]])]
             yield line, "" if text in answers else answers[0] or "nothing", "compared"
         elif kind == "sh":
-            written, status, is_ours = shell(binary, text)
+            written, status, is_ours = shell(binary, program, text)
             if is_answered and is_ours:
                 wanted = blocks[number + 1][2]
                 yield line, "" if written == wanted else written or "nothing", "compared"

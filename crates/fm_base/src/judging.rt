@@ -2,7 +2,7 @@
 
 ghost use Rattle.std.specs.Prelude.{◌≡◌, ℕ, ◌<◌, Bool, true, false, Option, List};
 ghost use Rattle.fm_base.specs.declared.rule.Rule.{Rule};
-ghost use Rattle.fm_base.specs.Verdict.{IsVerdict, SomePlace, is_before, earliest, first_of, LeastLaw, VerdictsJoin, PhasesJoin};
+ghost use Rattle.fm_base.specs.Verdict.{IsVerdict, SomePlace, is_before, earliest, first_of, least_from, place, when, LeastLaw, VerdictsJoin, PhasesJoin};
 
 use crate::name::Line;
 use crate::rule::{Refusal, Rule};
@@ -65,6 +65,17 @@ pub fn keep_earlier(best: Option<Refusal>, next: Refusal) -> Option<Refusal>
     match best {
         Some(known) => Some(if next.is_before(known) { next } else { known }),
         None => Some(next),
+    }
+}
+
+/// The earlier of the best so far and of a rule at a line, where it is broken.
+pub fn keep_if(best: Option<Refusal>, broken: bool, line: Line, rule: Rule) -> Option<Refusal>
+    ensures { result ≡ least_from best (when broken (place line.0 rule)) }
+{
+    if broken {
+        keep_earlier(best, Refusal { line, rule })
+    } else {
+        best
     }
 }
 

@@ -19,7 +19,7 @@ mod token;
 
 pub use fault::Fault;
 pub use judging::{
-    Judge, first_verdict, keep_earlier, least_law, phases_join, verdict, verdicts_join,
+    Judge, first_verdict, keep_earlier, keep_if, least_law, phases_join, verdict, verdicts_join,
 };
 pub use letters::{are_name_bytes, is_name_byte, is_name_text};
 pub use memory::NoMemory;

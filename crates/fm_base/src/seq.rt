@@ -1,12 +1,13 @@
 //! A growing list that contracts see as the list of its items.
 
-ghost use Rattle.std.specs.Prelude.{◌≡◌, [], ◌∷◌, ◌++◌, length, IfOk, OnOk, OnErr, ◌==◌};
+ghost use Rattle.std.specs.Prelude.{◌≡◌, ◌<◌, ◌≤◌, ◌+◌, [], ◌∷◌, ◌++◌, take, drop, length, replicate, slice_get, slice_set, IfOk, OnOk, OnErr, ◌==◌};
 
 use crate::memory::NoMemory;
 use std::alloc::Global;
 use std::cmp::Ordering;
 use std::hash::{Hash, Hasher};
 use std::marker::Model;
+use std::mem::replace;
 
 /// A growing list. Contracts see it as the list of its items, so records of it are plain data.
 pub struct Seq<T> {
@@ -83,6 +84,21 @@ impl<T: Drop> Seq<T> {
         self.items.push(value)?;
         Ok(())
     }
+
+    /// Takes all items, and leaves none. Takes no memory.
+    pub fn take(&mut self, alloc: Global) -> Seq<T>
+        ensures taken { result ≡ self.old }
+        ensures left { self.new ≡ [] }
+    {
+        Seq::from_vec(replace(&mut self.items, Vec::new(alloc)))
+    }
+
+    /// Takes all.
+    pub fn clear(&mut self)
+        ensures { self.new ≡ [] }
+    {
+        self.items.clear();
+    }
 }
 
 impl<T: Copy> Seq<T> {
@@ -93,6 +109,40 @@ impl<T: Copy> Seq<T> {
         Ok(Seq {
             items: Vec::from_slice(alloc, items)?,
         })
+    }
+}
+
+impl<T: Copy + Drop> Seq<T> {
+    /// Takes all, and puts so many of one item in their places.
+    pub fn refill(&mut self, count: usize, value: T) -> Result<(), NoMemory>
+        ensures { OnOk result (self.new ≡ replicate count value) }
+    {
+        self.items.clear();
+        self.items.resize(count, value)?;
+        Ok(())
+    }
+
+    /// The item at a place.
+    pub fn get(&self, at: usize) -> Option<T>
+        ensures { result ≡ slice_get self.now at }
+    {
+        self.items.get(at).copied()
+    }
+
+    /// Puts an item at a place.
+    pub fn set(&mut self, at: usize, value: T)
+        requires { at < length self.old }
+        ensures { self.new ≡ slice_set self.old at value }
+    {
+        self.items[at] = value;
+    }
+
+    /// Puts items over those from a place on.
+    pub fn put(&mut self, at: usize, items: &[T])
+        requires { at + length items.now ≤ length self.old }
+        ensures { self.new ≡ take at self.old ++ (items.now ++ drop (at + length items.now) self.old) }
+    {
+        self.items[at..at + items.len()].copy_from_slice(items);
     }
 }
 

@@ -2,32 +2,16 @@
 
 ghost use Rattle.std.specs.Prelude.{◌≡◌, length};
 ghost use Rattle.std.specs.List.{list_any};
-ghost use Rattle.fm_base.specs.Verdict.{least_from, when, place};
+ghost use Rattle.fm_base.specs.Verdict.{least_from};
 ghost use Rattle.fm_cards.specs.Lines.{row_at};
 ghost use Rattle.fm_cards.specs.Broken.{is_bad_character, in_initial, in_continuation, in_front, AllOfPhaseZero, OneVerdict};
 
 use crate::label::is_bad_field;
 use crate::line::is_all_blank;
-use fm_base::{Line, Refusal, Rule, keep_earlier};
+use fm_base::{Line, Refusal, Rule, keep_if};
 
 // The continuation lines that a statement may have.
 const MOST_CONTINUATIONS: usize = 19;
-
-// The least place once more, with this one where it is broken.
-pub(crate) fn keep_if(
-    best: Option<Refusal>,
-    broken: bool,
-    line: Line,
-    rule: Rule,
-) -> Option<Refusal>
-    ensures { result ≡ least_from best (when broken (place line.0 rule)) }
-{
-    if broken {
-        keep_earlier(best, Refusal { line, rule })
-    } else {
-        best
-    }
-}
 
 fn has_bad_character(row: &[u8]) -> bool
     ensures { result ≡ list_any is_bad_character row.now }

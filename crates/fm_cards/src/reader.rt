@@ -8,10 +8,10 @@ ghost use Rattle.fm_cards.specs.Broken.{places_of, IsBroken};
 ghost use Rattle.fm_cards.specs.Scan.{squeezed_if, inside_after, after_end, after_initial, after_continuation, after_row};
 
 use crate::card::Card;
-use crate::judging::{check_continuation, check_front, check_initial, keep_if};
+use crate::judging::{check_continuation, check_front, check_initial};
 use crate::label::label;
 use crate::line::{columns_of, first_line, is_comment, is_continuation};
-use fm_base::{CheckFail, Line, NoMemory, Refusal, Rule, Seq};
+use fm_base::{CheckFail, Line, NoMemory, Refusal, Rule, Seq, keep_if};
 use std::alloc::Global;
 
 // A statement whose continuations may still come: how many have come, and whether a constant is

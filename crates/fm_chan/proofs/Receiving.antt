@@ -1,9 +1,9 @@
 -- What a receive gets of a channel, from what is at its queue and its writers.
 use Rattle.std.proofs.Common.{◌≡◌, ℕ, Bool, true, false, cond, not, List, [], ◌∷◌, Option, Some, None, refl, sym, ap, ◌∙◌}
-use Rattle.fm_base.specs.Channels.{Message, Chan, Limits, Pop, can_pop, changed, gives, exceeds, fits_limits, first_exceeds, first_message, behind_first}
+use Rattle.fm_base.specs.Channels.{Message, Chan, Limits, Pop, can_pop, is_ready, changed, gives, exceeds, fits_limits, first_exceeds, first_message, behind_first}
 use Rattle.fm_chan.specs.declared.message.Got.{Got}
 use Rattle.fm_chan.specs.declared.message.Got.TheVariants as got
-use Rattle.fm_chan.specs.Received.{got_of, got_from, brings}
+use Rattle.fm_chan.specs.Received.{got_of, got_from, got_at, message_in, brings}
 
 not_false : (b : Bool) → not b ≡ false → b ≡ true
 not_false true e = refl
@@ -74,3 +74,19 @@ module _ (limits : Limits) where
 
   pub nothing_taken : (ch : Chan) → brings (got_from limits ch) ≡ false → changed (Pop limits) ch ≡ ch
   nothing_taken ch none = ap (λ q. record { queue = q; writers = ch.writers; lives = ch.lives }) (idle ch.queue ch.writers none)
+
+-- ---- without limits
+
+-- no message exceeds
+none_exceeds : (queue : List Message) → first_exceeds [] queue ≡ false
+none_exceeds [] = refl
+none_exceeds (message ∷ queue) = refl
+
+got_message : (o : Option Message) → message_in (got_of o) ≡ o
+got_message None = refl
+got_message (Some message) = refl
+
+pub message_brought : (ch : Chan) → is_ready (Pop []) ch ≡ true → message_in (got_at [] (Some ch)) ≡ gives (Pop []) ch
+message_brought ch ready =
+    ap (λ b. message_in (cond b (cond (first_exceeds [] ch.queue) got.Exceeds (got_of (gives (Pop []) ch))) got.Wait)) ready
+    ∙ ap (λ b. message_in (cond b got.Exceeds (got_of (gives (Pop []) ch)))) (none_exceeds ch.queue) ∙ got_message (gives (Pop []) ch)

@@ -19,6 +19,13 @@ abbrev pub got_at : Limits → Option Chan → Got
 got_at limits None = got.Wait
 got_at limits (Some ch) = got_from limits ch
 
+-- the message that came, if one did
+abbrev pub message_in : Got → Option Message
+message_in (got.Message m) = Some m
+message_in got.Exceeds = None
+message_in got.Wait = None
+message_in got.End = None
+
 -- whether it is a message
 abbrev pub brings : Got → Bool
 brings (got.Message m) = true

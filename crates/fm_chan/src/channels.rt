@@ -222,6 +222,18 @@ impl Channels {
         }
     }
 
+    /// As `send_to`, for who doesn't want the message back: after want of memory it is gone.
+    pub fn send_or_lose(&mut self, name: &ChanName, message: Message) -> Result<(), NoMemory>
+        ensures ok { OnOk result (chans_of self.new ≡ after_send_to name.now message (chans_of self.old)) }
+        ensures err { OnErr result (chans_of self.new ≡ chans_of self.old) }
+        ensures waking { Wakes self.old self.new }
+    {
+        match self.send_to(name, message) {
+            Ok(()) => Ok(()),
+            Err(_) => Err(NoMemory),
+        }
+    }
+
     /// The oldest message, which leaves the queue, where no item of it has more elements than its
     /// limit; or that it exceeds the limits, a wait, or the end, which change nothing. The limits stand
     /// for the items from the first on; `None`, and an item behind the last, have none.

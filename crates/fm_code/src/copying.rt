@@ -4,7 +4,6 @@ ghost use Rattle.std.specs.Prelude.{◌≡◌, IfOk};
 
 use crate::body::{Body, Frame, Start};
 use crate::pile::Pile;
-use crate::row::Row;
 use fm_base::{NoMemory, Seq};
 use std::alloc::Global;
 
@@ -13,17 +12,17 @@ fn copy_start(alloc: Global, start: &Start) -> Result<Start, NoMemory>
 {
     Ok(Start {
         unit: start.unit,
-        words: Row::from_slice(alloc, start.words.as_slice())?,
+        words: Seq::from_slice(alloc, start.words.as_slice())?,
         backs: Seq::from_slice(alloc, start.backs.as_slice())?,
         machine: start.machine,
         node: start.node,
     })
 }
 
-fn copy_starts(alloc: Global, starts: &[Start]) -> Result<Row<Start>, NoMemory>
+fn copy_starts(alloc: Global, starts: &[Start]) -> Result<Seq<Start>, NoMemory>
     ensures { IfOk result (λ s. s ≡ starts.now) }
 {
-    let mut copies = Row::new(alloc);
+    let mut copies = Seq::new(alloc);
     'starts: for start in starts {
         copies.push(copy_start(alloc, start)?)?;
     }
@@ -37,9 +36,9 @@ fn copy_frame(alloc: Global, frame: &Frame) -> Result<Frame, NoMemory>
     Ok(Frame {
         unit: frame.unit,
         address: frame.address,
-        words: Row::from_slice(alloc, frame.words.as_slice())?,
-        loops: Row::from_slice(alloc, frame.loops.as_slice())?,
-        results: Row::from_slice(alloc, frame.results.as_slice())?,
+        words: Seq::from_slice(alloc, frame.words.as_slice())?,
+        loops: Seq::from_slice(alloc, frame.loops.as_slice())?,
+        results: Seq::from_slice(alloc, frame.results.as_slice())?,
         starts: copy_starts(alloc, frame.starts.as_slice())?,
         backs: Seq::from_slice(alloc, frame.backs.as_slice())?,
     })

@@ -11,9 +11,9 @@ mod fused;
 mod instr;
 mod parts;
 mod pile;
-mod row;
 mod scratch;
 mod stack;
+mod words;
 
 pub use ask::{Ask, Operand};
 pub use body::{Back, Body, Frame, SharedCode, Start, Trips};
@@ -22,6 +22,6 @@ pub use copying::copy_body;
 pub use fused::Fused;
 pub use instr::{Build, End, Eval, Instr, Loop, Meet};
 pub use pile::Pile;
-pub use row::Row;
 pub use scratch::{Place, Scratch};
 pub use stack::Stack;
+pub use words::{back_words, front, given_span, is_port, word_at, words_of};

@@ -5,7 +5,6 @@ ghost use Rattle.fm_code.specs.Acts.{nothing};
 
 use crate::ask::Operand;
 use crate::instr::Loop;
-use crate::row::Row;
 use fm_base::{Printed, Seq};
 use std::alloc::Global;
 
@@ -23,11 +22,11 @@ pub enum Place {
 /// What a statement builds before it ends.
 pub struct Scratch {
     /// The bytes of a character constant.
-    pub text: Row<u8>,
+    pub text: Seq<u8>,
     /// The items of a line.
-    pub line: Row<Printed>,
+    pub line: Seq<Printed>,
     /// The operands of a call, of a message or of a start.
-    pub operands: Row<Operand>,
+    pub operands: Seq<Operand>,
     /// The word of IOSTAT.
     pub status: Option<u32>,
     /// The loop that the statement begins, or a trip of which it ends.
@@ -55,9 +54,9 @@ impl Scratch {
         ensures { result ≡ nothing }
     {
         Scratch {
-            text: Row::new(alloc),
-            line: Row::new(alloc),
-            operands: Row::new(alloc),
+            text: Seq::new(alloc),
+            line: Seq::new(alloc),
+            operands: Seq::new(alloc),
             status: None,
             counts: None,
             place: Place::Here,

@@ -12,7 +12,8 @@ use Rattle.fm_tree.specs.declared.program_unit.Unit.{Unit}
 use Rattle.fm_symbols.specs.declared.context.Context.{Context}
 use Rattle.fm_rules.specs.declared.calls.Call.{Call}
 use Rattle.fm_rules.specs.Calls.{all_calls, call_graph, calls_of, graph_of, target_of}
-use Rattle.fm_rules.specs.Race.{IsRace, IsRaceVerdict, is_racy, main_of}
+use Rattle.fm_rules.specs.Main.{main_of}
+use Rattle.fm_rules.specs.Race.{IsRace, IsRaceVerdict, is_racy}
 use Rattle.fm_det.specs.Search.{lower, lower_if, racy_from, racy_in, racy_in_unit}
 use Rattle.fm_rules.proofs.Lists.{at_head, behind_head, head_or_behind, not_in_none, some_same}
 
@@ -103,7 +104,7 @@ lowest_from P flags from best (u ∷ us) h =
     back : (k : ℕ) → InUnits flags from (u ∷ us) k → (P k ⊎ ((get_or flags from false ≡ true) × InEntries u.body k)) ⊎ InUnits flags (from + 1) us k
     back k (in_units at number v e f g i) = split k at number v e f g i
 
-module _ (us : List Unit) (c : Context) (main : ℕ) (starts : main_of c ≡ Some main) (flags : List Bool) (reached : IsReached (call_graph true us c) main flags) where
+module _ (us : List Unit) (c : Context) (main : ℕ) (starts : main_of us ≡ Some main) (flags : List Bool) (reached : IsReached (call_graph true us c) main flags) where
   long : length (call_graph true us c) ≡ length us
   long = length-map (all_calls true us c) (map target_of) ∙ length-map us (calls_of true c)
 
@@ -148,13 +149,13 @@ module _ (us : List Unit) (c : Context) (main : ℕ) (starts : main_of c ≡ Som
       (lowest_same (λ k. ⊥ ⊎ InUnits flags 0 us k) (IsRace us c) (λ k x. ⊎_elim (λ y. absurd y) (λ (i : InUnits flags 0 us k). is_race k i) x) (λ k r. inr (in_a_unit k r))
       (racy_from flags 0 None us) (lowest_from (λ k. ⊥) flags 0 None us (λ k x. x)))
 
-pub race_found : (us slice slice2 : List Unit) (c : Context) (main : ℕ) (calls view calls2 : List (List Call)) (graph graph2 : List (List ℕ)) (flags flags2 : List Bool) (r : Option Line)
-    → main_of c ≡ Some main → slice ≡ us → slice2 ≡ us → calls ≡ all_calls true slice c → view ≡ calls → calls2 ≡ view → graph ≡ graph_of calls2 → graph2 ≡ graph → IsReached graph2 main flags → flags2 ≡ flags
-    → r ≡ racy_from flags2 0 None slice2 → IsRaceVerdict us c r
-race_found us slice slice2 c main calls view calls2 graph graph2 flags flags2 r starts s t a v b e f h n k =
+pub race_found : (us slice : List Unit) (c : Context) (main : ℕ) (calls view calls2 : List (List Call)) (graph graph2 : List (List ℕ)) (flags flags2 : List Bool) (r : Option Line)
+    → slice ≡ us → main_of slice ≡ Some main → calls ≡ all_calls true slice c → view ≡ calls → calls2 ≡ view → graph ≡ graph_of calls2 → graph2 ≡ graph → IsReached graph2 main flags → flags2 ≡ flags
+    → r ≡ racy_from flags2 0 None slice → IsRaceVerdict us c r
+race_found us slice c main calls view calls2 graph graph2 flags flags2 r s starts a v b e f h n k =
     let all : view ≡ all_calls true us c = v ∙ a ∙ ap (λ (xs : List Unit). all_calls true xs c) s in
     let g : graph2 ≡ call_graph true us c = f ∙ e ∙ ap graph_of (b ∙ all) in
     let h' : IsReached (call_graph true us c) main flags = subst (λ (x : List (List ℕ)). IsReached x main flags) g h in
     let z : r ≡ racy_from flags 0 None us =
-    k ∙ ap (λ (x : List Bool). racy_from x 0 None slice2) n ∙ ap (racy_from flags 0 None) t in
-    subst (λ (x : Option Line). IsRaceVerdict us c x) (sym z) (races_found us c main starts flags h')
+    k ∙ ap (λ (x : List Bool). racy_from x 0 None slice) n ∙ ap (racy_from flags 0 None) s in
+    subst (λ (x : Option Line). IsRaceVerdict us c x) (sym z) (races_found us c main (ap main_of (sym s) ∙ starts) flags h')

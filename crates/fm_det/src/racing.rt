@@ -1,14 +1,15 @@
 //! Races.
 
 ghost use Rattle.std.specs.Prelude.{◌≡◌, false, None, slice_index_or, IfOk};
-ghost use Rattle.fm_rules.specs.Race.{is_main, is_program, is_racy, main_of, IsRaceVerdict};
+ghost use Rattle.fm_rules.specs.Race.{is_racy, IsRaceVerdict};
 ghost use Rattle.fm_det.specs.Search.{lower, lower_if, racy_from, racy_in, racy_in_unit};
 
 use crate::calls::{all_calls, graph_of};
 use fm_base::{Line, NoMemory};
 use fm_graph::reached;
-use fm_symbols::{Context, Scope};
-use fm_tree::{Entry, Simple, Stmt, Unit, UnitKind, Units};
+use fm_rules::main_of;
+use fm_symbols::Context;
+use fm_tree::{Entry, Simple, Stmt, Unit, Units};
 use std::alloc::Global;
 
 #[tactic(auto, unfolding(fm_rules::specs::Race::is_racy))]
@@ -20,23 +21,6 @@ fn is_racy(stmt: &Stmt) -> bool
         Stmt::Simple(Simple::Probe { .. }) => true,
         _ => false,
     }
-}
-
-fn is_main(scope: &Scope) -> bool
-    ensures { result ≡ is_main scope.now }
-{
-    match scope.kind {
-        UnitKind::Program => true,
-        UnitKind::Process => false,
-        UnitKind::Subroutine => false,
-        UnitKind::Function => false,
-    }
-}
-
-fn main_of(context: &Context) -> Option<usize>
-    ensures { result ≡ main_of context.now }
-{
-    context.scopes.as_slice().iter().position(is_main)
 }
 
 fn lower(best: Option<Line>, line: Line) -> Option<Line>
@@ -98,12 +82,13 @@ fn racy_from(flags: &[bool], units: &[Unit]) -> Option<Line>
 pub fn race(alloc: Global, units: &Units, context: &Context) -> Result<Option<Line>, NoMemory>
     ensures { IfOk result (IsRaceVerdict units.now.units context.now) }
 {
-    let main = match main_of(context) {
+    let units = units.units.as_slice();
+    let main = match main_of(units) {
         Some(main) => main,
         None => return Ok(None),
     };
-    let calls = all_calls(alloc, true, units.units.as_slice(), context)?;
+    let calls = all_calls(alloc, true, units, context)?;
     let graph = graph_of(alloc, calls.as_slice())?;
     let flags = reached(alloc, graph.as_slice(), main)?;
-    Ok(racy_from(&flags, units.units.as_slice()))
+    Ok(racy_from(&flags, units))
 }

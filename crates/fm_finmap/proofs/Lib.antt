@@ -8,4 +8,6 @@ pub mod Facts
 pub mod Maps
 pub mod Rows
 mod Kept
-mod Sorted
+pub mod Sorted
+pub mod Chosen
+mod Table

@@ -6,3 +6,4 @@ pub mod Map
 pub mod Lends
 pub mod Rows
 pub mod TableLends
+pub mod Table

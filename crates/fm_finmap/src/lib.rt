@@ -21,10 +21,14 @@
 //! numbers; of these `places` are the places, `numbered_map` is the finite map from the places, and
 //! `place_at` and `value_at` are the place of a number and the value at that place. A `PathTable` has
 //! each place once. `proofs/Rows.antt` has the laws, which hold of any list of rows.
+//!
+//! Values by names, in the order in which the names came: contracts see a `NameTable` as its entries,
+//! each a name and its value, and `look_up` and `added` say what it has and what an insertion makes of it.
 #![tactic(auto)]
 
 mod map;
 mod name_map;
+mod name_table;
 mod path_table;
 
 ghost use Rattle.std.specs.Prelude.{◌≡◌, ◌≢◌, ◌⊎◌, ◌+◌, ◌<◌, ◌≤◌, ◌++◌, [], ◌∷◌, ℕ, Option, Some, None, List, option_map};
@@ -39,6 +43,7 @@ ghost use Rattle.fm_finmap.specs.Sums.{total, value_or_zero, sum_before, sum_aft
 
 pub use map::{Key, Map};
 pub use name_map::NameMap;
+pub use name_table::NameTable;
 pub use path_table::PathTable;
 
 /// Numbers and lists of numbers are keys, and so is whatever has such a key of its own. Equality of

@@ -88,8 +88,8 @@ impl<T> PathTable<T> {
         self.paths.as_slice()
     }
 
-    // The rows, in the order of the numbers.
-    fn rows(&self, alloc: Global) -> Result<Vec<(&Path, &T)>, NoMemory>
+    /// The values with their paths, in the order of the numbers; no path is there twice.
+    pub fn rows(&self, alloc: Global) -> Result<Vec<(&Path, &T)>, NoMemory>
         ensures rows { IfOk result (λ v. map deref_pair v.items ≡ self.now) }
         ensures once { OnOk result (AreDistinct (places self.now)) }
     {

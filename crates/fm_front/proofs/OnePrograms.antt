@@ -4,7 +4,7 @@ use mathlib.Core.Logic.{∥∥₁_elim, ∥∥₁_prop}
 use mathlib.Core.Path.{PathP, path_j}
 use native.Mathlib.Nat.{ℕ_set}
 use Rattle.std.proofs.Common.{◌≡◌, ℕ, List, refl, sym, ap, subst₂, ◌∙◌, arith}
-use Rattle.std.specs.Prelude.{Option, Some, None}
+use Rattle.std.specs.Prelude.{Option, Some, None, unwrap_or}
 use Rattle.fm_base.specs.declared.name.Line.{Line}
 use Rattle.fm_rules.specs.Race.{IsRaceVerdict, IsDeterministic, IsFirstRace}
 use Rattle.fm_rules.specs.declared.entry_links.EntryLinks.{EntryLinks}
@@ -14,7 +14,8 @@ use Rattle.fm_symbols.specs.declared.names.Names.{Names}
 use Rattle.fm_tree.specs.declared.program_unit.Unit.{Unit}
 use Rattle.fm_tree.specs.declared.program_unit.Units.{Units}
 use Rattle.fm_rules.specs.declared.program.Program.{Program}
-use Rattle.fm_rules.specs.Program.{IsLawful, all_links, main_of}
+use Rattle.fm_rules.specs.Main.{main_of}
+use Rattle.fm_rules.specs.Program.{IsLawful, all_links}
 
 -- a value that equals x
 abbrev Equal : {X : Type 0} → X → Type 0
@@ -42,7 +43,7 @@ one_race us c (Some l) (Some k) t s = ap (λ n. Some (record { 0 = n })) (one_li
 
 -- Programs.
 
-abbrev program : (u : Units) (n : Names) → ∥ IsLawful u n ∥₁ → (c : Equal (context_of u.units n.units)) → Equal (all_links u.units) → Equal (main_of u.units)
+abbrev program : (u : Units) (n : Names) → ∥ IsLawful u n ∥₁ → (c : Equal (context_of u.units n.units)) → Equal (all_links u.units) → Equal (unwrap_or (main_of u.units) 0)
     → (r : Option Line) → ∥ IsRaceVerdict u.units c.0 r ∥₁ → Program
 program u n lawful c l m r race = record {
   units = u;
@@ -65,8 +66,8 @@ one_program a b eu en =
     is_prop→PathP (λ i. Equal (context_of (eu i).units (en i).units)) (λ i. one_equal (context_of (eu i).units (en i).units)) _ _ in
     let ls : PathP (λ i. Equal (all_links (eu i).units)) (a.links, a.links_are) (b.links, b.links_are) =
     is_prop→PathP (λ i. Equal (all_links (eu i).units)) (λ i. one_equal (all_links (eu i).units)) _ _ in
-    let ms : PathP (λ i. Equal (main_of (eu i).units)) (a.main, a.main_is) (b.main, b.main_is) =
-    is_prop→PathP (λ i. Equal (main_of (eu i).units)) (λ i. one_equal (main_of (eu i).units)) _ _ in
+    let ms : PathP (λ i. Equal (unwrap_or (main_of (eu i).units) 0)) (a.main, a.main_is) (b.main, b.main_is) =
+    is_prop→PathP (λ i. Equal (unwrap_or (main_of (eu i).units) 0)) (λ i. one_equal (unwrap_or (main_of (eu i).units) 0)) _ _ in
     let es : a.race ≡ b.race = one_race b.units.units b.context a.race b.race
     (subst₂ (λ us c. ∥ IsRaceVerdict us c a.race ∥₁) (λ i. (eu i).units) (λ i. (cs i).0) a.race_is) b.race_is in
     let fs : PathP (λ i. ∥ IsLawful (eu i) (en i) ∥₁) a.lawful b.lawful = is_prop→PathP (λ i. ∥ IsLawful (eu i) (en i) ∥₁) (λ i. ∥∥₁_prop) _ _ in

@@ -42,9 +42,10 @@ use Rattle.fm_gen.specs.Units.{unit_of_code}
 use Rattle.fm_gen.specs.Programs.{code_of}
 use Rattle.fm_gen_statements.specs.Steps.{LeavesFrame, LeavesCode, Site, Passes, ClosesAlike, MovesAlike, Agree, AsksAlike}
 use Rattle.fm_gen.specs.Kept.{site_at}
-use Rattle.fm_gen.specs.Bodies.{next_address, IsAlive, StandsFor, StepsAlike, MeetsAlike, DoesAlike, KeepsProgram}
+use Rattle.fm_gen.specs.Bodies.{next_address, IsAlive, StandsFor, StepsAlike, MeetsAlike, DoesAlike, DoesNext, KeepsProgram}
 use Rattle.fm_gen_relation.proofs.Units.{sound_unit}
 use Rattle.fm_gen_relation.proofs.Passing.{opens_alike}
+use Rattle.fm_gen.proofs.Beyond.{rests_alike}
 use Rattle.fm_gen.proofs.KeptUnits.{keeps_unit}
 use Rattle.fm_gen.proofs.LineLaws.{tells_lines}
 use Rattle.fm_gen.proofs.Standings.{join_stands}
@@ -304,5 +305,13 @@ module _ (p : Program) (types : Types) (slots : Slots) (x : Proc) (fine : IsFine
   does_alike Ended phase = absurd (subst (λ h. IsAlive h unit s.frame) phase s.alive)
   does_alike (Faulted l fault) phase = absurd (subst (λ h. IsAlive h unit s.frame) phase s.alive)
 
+pub keeps_at : (p : Program) (types : Types) (slots : Slots) (x : Proc) → IsFine p types x → (b : Body) (s : StandsFor p (code_of p) slots x b) (e : Point) → point_at s.first.unit s.frame.entry ≡ Some e
+    → DoesAlike p (code_of p) slots x b s e (code_actions.action_of b) (mean_actions.action_of p x)
+keeps_at p types slots x fine b s e at = does_alike p types slots x fine b s e at x.phase refl
+
 pub keeps_program : (p : Program) → KeepsProgram p (code_of p)
-keeps_program p types slots x fine b s e at = does_alike p types slots x fine b s e at x.phase refl
+keeps_program p types slots x fine b s = go (point_at s.first.unit s.frame.entry) refl
+  where
+    go : (o : Option Point) → point_at s.first.unit s.frame.entry ≡ o → DoesNext p (code_of p) slots x b s o (code_actions.action_of b) (mean_actions.action_of p x)
+    go None none = rests_alike p slots x b s none
+    go (Some e) at = keeps_at p types slots x fine b s e at

@@ -30,7 +30,7 @@ use Rattle.fm_code.specs.declared.scratch.Place.TheVariants.{Here, Location, Sub
 use Rattle.fm_code.specs.Passing.{Passed}
 use Rattle.fm_code.specs.Statements as code_actions
 use Rattle.fm_code.specs.Statements.{CodeUnit, Own, Stuck, at_statement, opened, extents_of, fitted_in, seat_of, starts_at, pended}
-use Rattle.fm_gen_relation.specs.Sound.{names_in}
+use Rattle.fm_mean.specs.Referring.{names_in}
 use Rattle.fm_gen_relation.specs.Standing.{Slots, values_in}
 use Rattle.fm_gen_relation.specs.Operands.{MeanBack, BacksStand}
 use Rattle.fm_gen_relation.specs.Frames.{IsReferred, evaluates, Where, FrameStands}

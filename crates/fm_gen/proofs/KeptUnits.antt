@@ -14,7 +14,8 @@ use Rattle.fm_mean.specs.Process.{Execution}
 use Rattle.fm_mean.specs.Actions.{action_by, next_reference}
 use Rattle.fm_code.specs.declared.body.Frame.{Frame}
 use Rattle.fm_code.specs.Acts.{work, nothing, statement}
-use Rattle.fm_gen_relation.specs.Sound.{calls_among, IsSoundEntry}
+use Rattle.fm_mean.specs.Referring.{calls_among}
+use Rattle.fm_gen_relation.specs.Sound.{IsSoundEntry}
 use Rattle.fm_gen_relation.specs.Standing.{Slots, IsFrame}
 use Rattle.fm_gen_relation.specs.Frames.{Stands, AreResults}
 use Rattle.fm_gen_relation.proofs.Done.{all_done}

@@ -9,4 +9,6 @@ pub mod ProgramLaws
 pub mod StandLaws
 pub mod CallLaws
 pub mod ReturnLaws
+pub mod Beyond
 pub mod BodyLaws
+pub mod NeverStuck

@@ -23,7 +23,8 @@ use Rattle.fm_code.specs.declared.body.Frame.{Frame}
 use Rattle.fm_code.specs.Passing.{Given, backs_fit, give_all, back_words, ports_in}
 use Rattle.fm_code.specs.Statements as code_actions
 use Rattle.fm_code.specs.Statements.{Action, Own, Stuck, start_ports, left_ports}
-use Rattle.fm_gen_relation.specs.Sound.{IsSoundUnit, names_in}
+use Rattle.fm_mean.specs.Referring.{names_in}
+use Rattle.fm_gen_relation.specs.Sound.{IsSoundUnit}
 use Rattle.fm_gen_relation.specs.Standing.{Slots, IsResultOf, values_in}
 use Rattle.fm_gen_relation.specs.Operands.{MeanBack, BacksStand, code_back}
 use Rattle.fm_gen_relation.specs.Formals.{ports_of}

@@ -1,7 +1,10 @@
 -- How a body stands for a process, and what it means that it does what the process does.
 -- Source: this profile.
-use Rattle.std.specs.Prelude.{◌≡◌, ℕ, ℤ, Some, List, ◌∷◌, length, map}
+use Rattle.std.specs.Prelude.{◌≡◌, ℕ, ℤ, Option, Some, None, List, ◌∷◌, length, map}
+use Rattle.std.specs.FinMap.{get}
 use Rattle.fm_tree.specs.declared.statement.Stmt.TheVariants as stmt
+use Rattle.fm_sched.specs.Schedule.{Throughout}
+use Rattle.fm_net.specs.Machine.{Place}
 use Rattle.fm_rules.specs.declared.program.Program.{Program}
 use Rattle.fm_mean.specs.Names.{ProgramUnit, Point, point_at}
 use Rattle.fm_mean.specs.Process as mean
@@ -9,6 +12,7 @@ use Rattle.fm_mean.specs.Process.{Execution, Kid, Phase, Running, Joining, Ended
 use Rattle.fm_mean.specs.Fits.{Types, IsFine}
 use Rattle.fm_mean.specs.Actions as mean_actions
 use Rattle.fm_mean.specs.Actions.{Rest, Meets, Join, fails, gone_on}
+use Rattle.fm_mean.specs.Steps.{first, step}
 use Rattle.fm_code.specs.declared.ask.Ask.{Ask}
 use Rattle.fm_code.specs.declared.ask.Ask.TheVariants as ask
 use Rattle.fm_code.specs.declared.body.Body.{Body}
@@ -85,8 +89,16 @@ DoesAlike p code slots x b s e code_actions.Stuck a = a ≡ Rest
 DoesAlike p code slots x b s e (code_actions.Own after lines drops cost) a = StepsAlike p code slots x after lines drops cost a
 DoesAlike p code slots x b s e (code_actions.Meets k) a = MeetsAlike p code slots x b s e k a
 
+-- the same at an entry of the unit; behind the last one neither does anything
+abbrev pub DoesNext : (p : Program) (code : Code) (slots : Slots) (x : Proc) (b : Body) (s : StandsFor p code slots x b) → Option Point → code_actions.Action → mean_actions.Action → Type 0
+DoesNext p code slots x b s None k a = (k ≡ code_actions.Stuck) × (a ≡ Rest)
+DoesNext p code slots x b s (Some e) k a = DoesAlike p code slots x b s e k a
+
 -- Each body that stands for a process whose values are of their types does what the process does next.
 abbrev pub KeepsProgram : Program → Code → Type 0
 KeepsProgram p code = (types : Types) (slots : Slots) (x : Proc) → IsFine p types x → (b : Body) (s : StandsFor p code slots x b)
-    → (e : Point) → point_at s.first.unit s.frame.entry ≡ Some e
-    → DoesAlike p code slots x b s e (code_actions.action_of b) (mean_actions.action_of p x)
+    → DoesNext p code slots x b s (point_at s.first.unit s.frame.entry) (code_actions.action_of b) (mean_actions.action_of p x)
+
+-- Along every schedule no body that stands for a process is stuck.
+abbrev pub NeverStuck : Program → Code → Type 0
+NeverStuck p code = Throughout (step p) (λ s. (q : Place) (x : Proc) → get s.procs q ≡ Some x → (slots : Slots) (b : Body) → StandsFor p code slots x b → code_actions.action_of b ≡ code_actions.Stuck → ⊥) (first p)

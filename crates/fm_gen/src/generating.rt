@@ -3,7 +3,7 @@
 ghost use Rattle.std.specs.Prelude.{◌≡◌, ℕ, Some, slice_get, IfOk};
 ghost use Rattle.fm_plain_frame.specs.Units.{unit_of};
 ghost use Rattle.fm_mean.specs.Names.{ProgramUnit, unit_at};
-ghost use Rattle.fm_gen.specs.Bodies.{KeepsProgram};
+ghost use Rattle.fm_gen.specs.Bodies.{KeepsProgram, NeverStuck};
 ghost use Rattle.fm_gen.specs.Programs.{code_of};
 ghost use Rattle.fm_gen.specs.Kept.{KeepsUnit};
 ghost use Rattle.fm_gen.specs.Units.{AddressesRise, TellsLines, unit_of_code};
@@ -33,12 +33,13 @@ pub fn unit(alloc: Global, unit: &UnitView<'_>) -> Result<Unit, NoMemory>
 
 /// The code of a program: that of each unit, as `unit` makes it, by its number. A body of this code that stands for a process
 /// does what the process does next: the same step, of the same lines, ports let go and cost, after which it stands for the
-/// process again, or it asks for the same.
+/// process again, or it asks for the same. Along every schedule no body is stuck that stands for a process.
 pub fn generate(alloc: Global, program: &Program) -> Result<Code, NoMemory>
     ensures code { IfOk result (λ c. c ≡ code_of program.now) }
     ensures units { IfOk result (λ c. (k : ℕ) (u : ProgramUnit) → unit_at program.now k ≡ Some u → slice_get c.units k ≡ Some (unit_of_code program.now u)) }
     ensures keeps_units { IfOk result (λ c. (k : ℕ) (u : ProgramUnit) → unit_at program.now k ≡ Some u → KeepsUnit program.now u (unit_of_code program.now u).code) }
     ensures keeps { IfOk result (λ c. KeepsProgram program.now c) }
+    ensures never_stuck { IfOk result (λ c. NeverStuck program.now c) }
 {
     let mut units = Seq::new(alloc);
     let count = operand(program.units().units.len())?;

@@ -4,14 +4,14 @@ ghost use Rattle.std.specs.Prelude.{◌≡◌, ◌≤◌, ◌+◌, ◌-◌, ◌+
 ghost use Rattle.std.specs.Option.{option_copied};
 ghost use Rattle.fm_tree.specs.References.{reference_at};
 ghost use Rattle.fm_plain_frame.specs.Units.{unit_of};
-ghost use Rattle.fm_gen_operands.specs.References.{reference_by};
+ghost use Rattle.fm_plain_frame.specs.References.{reference_by};
 ghost use Rattle.fm_gen_statements.specs.Statements.{refer, reference_end, reference_operands};
 ghost use Rattle.fm_gen.specs.Entries.{reference_code, references_code};
 
 use fm_base::{NoMemory, Seq};
 use fm_code::{End, Instr};
-use fm_gen_operands::{Reference, arguments, operand, references as count_references, referent};
-use fm_plain_frame::UnitView;
+use fm_gen_operands::{arguments, operand, references as count_references, referent};
+use fm_plain_frame::{Reference, UnitView};
 use fm_tree::{Expr, ExprNode, Stmt};
 use fm_tree_reference::reference_at;
 

@@ -23,7 +23,8 @@ use Rattle.fm_code.specs.declared.instr.Instr.{Instr}
 use Rattle.fm_code.specs.declared.scratch.Scratch.{Scratch}
 use Rattle.fm_code.specs.Acts.{StatementEnd, On, Over, Stuck, found, has_span, passed, then_work, work}
 use Rattle.fm_code.specs.Acts as acts
-use Rattle.fm_gen_relation.specs.Sound.{names_in, is_word, IsVariable, IsSoundUnit}
+use Rattle.fm_mean.specs.Referring.{names_in}
+use Rattle.fm_gen_relation.specs.Sound.{is_word, IsVariable, IsSoundUnit}
 use Rattle.fm_gen_relation.specs.Standing.{Slots, scope_in, IsFrame, AreDone, AreAllDone}
 use Rattle.fm_gen_relation.specs.Operands.{first_of, holds_words, code_span, target_of, operand_of}
 use Rattle.fm_gen_relation.specs.Calls.{VarsDone}

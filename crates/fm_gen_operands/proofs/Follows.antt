@@ -21,12 +21,12 @@ use Rattle.fm_tree.specs.Tree.{Tree, Trees, Number, Truth, Named, Ref, Paren, Si
 use Rattle.fm_tree.specs.PortReading as reading
 use Rattle.fm_tree.specs.declared.port_type.Kind.{Kind}
 use Rattle.fm_tree.specs.declared.port_type.Kind.TheVariants as kind
-use Rattle.fm_symbols.specs.Context.{symbols_of}
+use Rattle.fm_symbols.specs.Context.{symbols_of, symbol_place}
 use Rattle.fm_symbols.specs.Headings.{is_function}
 use Rattle.fm_symbols.specs.declared.names.Variable.{Variable}
 use Rattle.fm_rules.specs.declared.program.Program.{Program}
 use Rattle.fm_mean.specs.Operands.{◌>>=◌}
-use Rattle.fm_mean.specs.Names.{ProgramUnit, unit_at, place_in, variable_at, variable_of, result_variable, unit_named, kind_of}
+use Rattle.fm_mean.specs.Names.{ProgramUnit, unit_at, variable_at, variable_of, result_variable, unit_named, kind_of}
 use Rattle.fm_mean.specs.Places.{first_word, words_in}
 use Rattle.fm_mean.specs.Evaluate.{Scope, Reference, Element, Call, Built, Unknown, function_by, intrinsic_or, array_or, is_array, reference_of, counts_one, refs_in, refs_in_all, value_by, named_by, result_by, result_of, ref_value, value_of, numbers_of}
 use Rattle.fm_mean.specs.Fits.{ItemFits}
@@ -41,7 +41,7 @@ use Rattle.fm_code.specs.Acts.{StatementEnd, Act, On, Over, found, gives, with_w
 use Rattle.fm_code.specs.Acts as acts
 use Rattle.fm_gen_relation.specs.Standing.{Slots, item_by, scope_in, IsFrame, IsResultOf, IsDone, AreDone, AreAllDone}
 use Rattle.fm_gen_operands.specs.Code.{first_load, variable_code, named_code, port_code, element_code, place_code, sign_code, reference_code, trees_count, expression_code, expressions_code}
-use Rattle.fm_gen_relation.specs.Sound.{names_in}
+use Rattle.fm_mean.specs.Referring.{names_in}
 use Rattle.fm_gen_operands.specs.Keeps.{then, KeepsValue, KeepsNumbers}
 use Rattle.fm_gen_relation.proofs.FrameWords.{bit_kept, word_kept, truth_kept, applied_kept, item_read, item_fits, first_of, element_there, element_read, number_in_range, bit_at}
 use Rattle.fm_gen_operands.proofs.DimensionLaws.{reverse-cons, array_some, within_place, place_follows}
@@ -110,7 +110,7 @@ module _ (p : Program) (u : ProgramUnit) where
       go false e = h
 
   pub named_at : (name : List ℕ) → IsAt variables (variable_of u name)
-  named_at name = variable_is_at variables (place_in (get (symbols_of u.names) name))
+  named_at name = variable_is_at variables (symbol_place (get (symbols_of u.names) name))
 
   pub reference_at : (name : List ℕ) → IsReferenceAt variables (reference_of (names_in p u) name)
   reference_at name = array_at (variable_of u name) (intrinsic_or (intrinsic_named name) (function_by (unit_named p name))) (named_at name)

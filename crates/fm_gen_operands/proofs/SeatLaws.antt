@@ -10,7 +10,7 @@ use Rattle.fm_tree.specs.declared.statement.Where.TheVariants as put_at
 use Rattle.fm_rules.specs.declared.program.Program.{Program}
 use Rattle.fm_mean.specs.Names.{ProgramUnit, unit_at}
 use Rattle.fm_mean.specs.Evaluate.{Scope, refs_in, number_of, numbers_of, value_of}
-use Rattle.fm_gen_relation.specs.Sound.{names_in}
+use Rattle.fm_mean.specs.Referring.{names_in}
 use Rattle.fm_code.specs.declared.body.Frame.{Frame}
 use Rattle.fm_code.specs.declared.instr.Instr.{Instr}
 use Rattle.fm_code.specs.declared.instr.Instr.TheVariants as instr

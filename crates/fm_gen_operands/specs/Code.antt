@@ -13,7 +13,7 @@ use Rattle.fm_symbols.specs.declared.names.Variable.{Variable}
 use Rattle.fm_rules.specs.declared.program.Program.{Program}
 use Rattle.fm_mean.specs.Names.{ProgramUnit, variable_of, constant_of}
 use Rattle.fm_mean.specs.Evaluate.{Reference, Element, Call, Built, Unknown, reference_of, refs_in, refs_in_all, constant_by}
-use Rattle.fm_gen_relation.specs.Sound.{names_in}
+use Rattle.fm_mean.specs.Referring.{names_in}
 use Rattle.fm_code.specs.declared.instr.Eval.TheVariants as eval
 use Rattle.fm_code.specs.declared.instr.Instr.{Instr}
 use Rattle.fm_code.specs.declared.instr.Instr.TheVariants as instr

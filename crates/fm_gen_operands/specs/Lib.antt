@@ -1,4 +1,3 @@
 pub mod Code
 pub mod Places
 pub mod Keeps
-pub mod References

@@ -5,17 +5,17 @@ ghost use Rattle.fm_tree.specs.Tree.{Ref, trees_from};
 ghost use Rattle.fm_mean.specs.Names.{variable_of};
 ghost use Rattle.fm_mean.specs.Evaluate.{refs_in, refs_in_all, refs_in_var, refs_in_vars};
 ghost use Rattle.fm_plain_frame.specs.Units.{unit_of, variable_read};
-ghost use Rattle.fm_gen_relation.specs.Sound.{names_in};
+ghost use Rattle.fm_mean.specs.Referring.{names_in};
 ghost use Rattle.fm_gen_operands.specs.Places.{argument_code, arguments_code, named_argument, pass_at, pass_value, pass_whole, reference_argument, target_by, target_code, targets_code, value_argument, whole_span};
 
 use crate::counting::references;
 use crate::expressions::emit;
 use crate::places::located;
-use crate::reference::{Reference, referent};
+use crate::reference::referent;
 use crate::variables::{constant_word, push};
 use fm_base::{Name, NoMemory, Seq};
 use fm_code::{Build, Instr, Span};
-use fm_plain_frame::UnitView;
+use fm_plain_frame::{Reference, UnitView};
 use fm_symbols::Variable;
 use fm_tree::{Expr, ExprNode, Kind, Var};
 

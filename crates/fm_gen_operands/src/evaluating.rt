@@ -4,7 +4,7 @@ ghost use Rattle.std.specs.Prelude.{◌≡◌, ◌+◌, ◌++◌, IfOk, OnOk};
 ghost use Rattle.fm_mean.specs.Evaluate.{refs_in};
 ghost use Rattle.fm_plain_frame.specs.Units.{unit_of};
 ghost use Rattle.fm_gen_operands.specs.Code.{expression_code};
-ghost use Rattle.fm_gen_relation.specs.Sound.{names_in};
+ghost use Rattle.fm_mean.specs.Referring.{names_in};
 ghost use Rattle.fm_gen_operands.specs.Keeps.{KeepsValue};
 
 use crate::expressions::emit;

@@ -5,15 +5,15 @@ ghost use Rattle.fm_tree.specs.Tree.{Ref, trees_from};
 ghost use Rattle.fm_mean.specs.Evaluate.{refs_in, refs_in_all};
 ghost use Rattle.fm_plain_frame.specs.Units.{unit_of};
 ghost use Rattle.fm_gen_operands.specs.Code.{expression_code, expressions_code, sign_code};
-ghost use Rattle.fm_gen_relation.specs.Sound.{names_in};
+ghost use Rattle.fm_mean.specs.Referring.{names_in};
 
 use crate::counting::references;
 use crate::elements::element;
-use crate::reference::{Reference, referent};
+use crate::reference::referent;
 use crate::variables::{named, push};
 use fm_base::{Name, NoMemory, Op, Seq};
 use fm_code::{Eval, Instr};
-use fm_plain_frame::UnitView;
+use fm_plain_frame::{Reference, UnitView};
 use fm_tree::{Expr, ExprNode};
 use fm_values::truth_word;
 

@@ -19,6 +19,6 @@ pub use elements::{dimensions, has_elements, no_element};
 pub use evaluating::expression;
 pub use expressions::{emit, emit_all, operand};
 pub use places::place;
-pub use reference::{Reference, referent};
+pub use reference::referent;
 pub use seats::seat;
 pub use variables::{constant_word, named, push};

@@ -4,7 +4,7 @@ ghost use Rattle.std.specs.Prelude.{◌≡◌, ◌+◌, ◌++◌, ◌∷◌, ℕ
 ghost use Rattle.fm_tree.specs.Tree.{trees_from};
 ghost use Rattle.fm_mean.specs.Evaluate.{refs_in_all, refs_in_var};
 ghost use Rattle.fm_plain_frame.specs.Units.{unit_of};
-ghost use Rattle.fm_gen_relation.specs.Sound.{names_in};
+ghost use Rattle.fm_mean.specs.Referring.{names_in};
 ghost use Rattle.fm_gen_relation.specs.Operands.{first_of};
 ghost use Rattle.fm_gen_operands.specs.Code.{place_code};
 ghost use Rattle.fm_gen_operands.specs.Places.{locate, located_code, place_by, var_code};

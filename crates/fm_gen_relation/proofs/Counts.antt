@@ -1,5 +1,5 @@
 -- Calls and references of a checked program have as many arguments as the unit has formals, and name a unit of the right kind.
-use Rattle.std.proofs.Common.{◌≡◌, ℕ, ◌+◌, Bool, true, false, cond, ◌&&◌, not, Option, Some, None, option_map, List, [], map, length, slice_get, unwrap_or, refl, sym, ap, ◌∙◌, subst, arith}
+use Rattle.std.proofs.Common.{◌≡◌, ℕ, suc, ◌+◌, Bool, true, false, cond, ◌&&◌, not, Option, Some, None, option_map, List, [], map, length, slice_get, unwrap_or, refl, sym, ap, ◌∙◌, subst, arith}
 use Rattle.std.specs.Prelude.{if◌then◌else◌, nat_eq, option_and_then}
 use Rattle.std.specs.Cmp.{second_so}
 use Rattle.std.specs.FinMap.{get}
@@ -24,11 +24,10 @@ use Rattle.fm_symbols.specs.declared.names.Constant.TheVariants as constant
 use Rattle.fm_symbols.specs.declared.names.Variable.{Variable}
 use Rattle.fm_symbols.specs.declared.symbol.Symbol.{Symbol}
 use Rattle.fm_symbols.specs.declared.symbol.Symbol.TheVariants as symbol
-use Rattle.fm_rules.specs.declared.typing.Arguments.{Arguments}
 use Rattle.fm_rules.specs.declared.typing.Referent.{Referent}
 use Rattle.fm_rules.specs.declared.typing.Referent.TheVariants as referent
 use Rattle.fm_rules.specs.Flags.{e42, e43}
-use Rattle.fm_rules.specs.Expressions.{array_or, arguments_judged, formals_in, function_referent, intrinsic_or, judged, no_arguments, reference_judged, referent_of, wanted, with_argument}
+use Rattle.fm_rules.specs.Expressions.{array_or, arguments_judged, formals_in, function_referent, intrinsic_or, reference_judged, referent_of}
 use Rattle.fm_rules.specs.declared.calls.CallKind.{CallKind}
 use Rattle.fm_rules.specs.declared.calls.CallKind.TheVariants as call_kind
 use Rattle.fm_rules.specs.TypeStatements.{call_flags, callee_at, callee_in, calls, position_flags, process_call_flags, simple_flags, typed_flags}
@@ -44,8 +43,9 @@ use Rattle.fm_mean.proofs.JudgedValues.{Stands, scope_by, scopes_there, stands, 
 use Rattle.fm_mean.proofs.ProgramMeanings.{meanings}
 use Rattle.fm_mean.proofs.Sizes.{in_all}
 use Rattle.fm_mean.proofs.SoundTrees.{statement_parts}
-use Rattle.fm_gen_relation.specs.Sound.{CallIsFull, IsFull, ReferenceIsFull, names_in}
-use Rattle.fm_gen_relation.proofs.ArrayNames.{has_bounds, symbol_bounds}
+use Rattle.fm_mean.specs.Referring.{names_in}
+use Rattle.fm_gen_relation.specs.Sound.{CallIsFull, IsFull, ReferenceIsFull}
+use Rattle.fm_mean.proofs.ArrayNames.{has_bounds, symbol_bounds}
 use Rattle.fm_gen_relation.proofs.EntryFlags.{entry_unflagged}
 use Rattle.fm_gen_relation.proofs.FormalCounts.{formals_counted}
 
@@ -145,22 +145,22 @@ module _ (p : Program) where
 
   -- ---- numbers of arguments
 
-  arguments_counted : (sc : symbols.Scope) (r : Referent) (ts : Trees) (a : Arguments) (i : ℕ) → (arguments_judged (context p) sc r a i ts).count ≡ i + length (list_of ts)
-  arguments_counted sc r NoTrees a i = omega arith
-  arguments_counted sc r (More t ts) a i = omega (arith, arguments_counted sc r ts (with_argument a (wanted (context p) r i) (judged (context p) sc t)) (i + 1))
+  arguments_counted : (sc : symbols.Scope) (r : Referent) (ts : Trees) (i : ℕ) → (arguments_judged (context p) sc r i ts).count ≡ length (list_of ts)
+  arguments_counted sc r NoTrees i = refl
+  arguments_counted sc r (More t ts) i = ap suc (arguments_counted sc r ts (i + 1))
 
   abbrev judged_as : symbols.Scope → Referent → Trees → Type 0
-  judged_as sc r ts = IsUnflagged (reference_judged (context p) r (arguments_judged (context p) sc r no_arguments 0 ts)).flags
+  judged_as sc r ts = IsUnflagged (reference_judged (context p) r (arguments_judged (context p) sc r 0 ts)).flags
 
   unit_full : (sc : symbols.Scope) (k : ℕ) (w : ProgramUnit) (ts : Trees) → unit_at p k ≡ Some w → judged_as sc (referent.Unit k) ts → IsFull w ts
   unit_full sc k w ts is h =
-      let a = arguments_judged (context p) sc (referent.Unit k) no_arguments 0 ts in
+      let a = arguments_judged (context p) sc (referent.Unit k) 0 ts in
       let wants = formals_in (slice_get (context p).scopes k) in
       let names = heading_formals w.tree.heading.stmt in
       let fits = a.fit && nat_eq a.count wants in
       let right = second_so a.fit (nat_eq a.count wants) (not_false fits (right_unflagged a.flags (e42 (not fits)) h).e42) in
       let many : wants ≡ length (map (formal_in (symbols_of w.names)) names) = ap (λ (o : Option symbols.Scope). formals_in o) (scopes_there p.units.units p.names.units k ∙ ap scope_by is) in
-      omega (arith, formals_counted p k w is, (Decides-eqb a.count wants).0 right, many, length-map names (formal_in (symbols_of w.names)), arguments_counted sc (referent.Unit k) ts no_arguments 0)
+      omega (arith, formals_counted p k w is, (Decides-eqb a.count wants).0 right, many, length-map names (formal_in (symbols_of w.names)), arguments_counted sc (referent.Unit k) ts 0)
 
   -- ---- calls
 
@@ -188,7 +188,7 @@ module _ (p : Program) where
     where
       by_kind : (b : Bool) → calls kd (kind_of v.1) ≡ b → judged_as sc (if b then referent.Unit v.0 else referent.Unknown) (trees_from args) → unit_at p v.0 ≡ Some v.1 → (calls kd (kind_of v.1) ≡ true) × IsFull v.1 (trees_from args)
       by_kind true is h there = (is, unit_full sc v.0 v.1 (trees_from args) there h)
-      by_kind false is h there = absurd (never (right_unflagged (arguments_judged (context p) sc referent.Unknown no_arguments 0 (trees_from args)).flags (e43 true) h).e43)
+      by_kind false is h there = absurd (never (right_unflagged (arguments_judged (context p) sc referent.Unknown 0 (trees_from args)).flags (e43 true) h).e43)
 
   subroutine_called : (k : UnitKind) → calls call_kind.Call k ≡ true → k ≡ unit_kind.Subroutine
   subroutine_called unit_kind.Subroutine e = refl

@@ -27,7 +27,7 @@ use Rattle.fm_mean.specs.Names.{ProgramUnit, unit_named, variable_of}
 use Rattle.fm_mean.specs.Evaluate.{Scope, Reference, Element, Call, Built, Unknown, array_or, intrinsic_or, function_by, reference_of, counts_one, refs_in, refs_in_all, refs_in_var, refs_in_vars}
 use Rattle.fm_mean.specs.Actions.{trees_in, arguments_in, where_in, next_reference}
 use Rattle.fm_mean.specs.TypedTrees.{IsIn}
-use Rattle.fm_gen_relation.specs.Sound.{names_in, calls_one, is_call, calls_among}
+use Rattle.fm_mean.specs.Referring.{names_in, calls_one, is_call, calls_among}
 use Rattle.fm_gen_relation.specs.Standing.{IsDone, AreDone, AreAllDone}
 use Rattle.fm_gen_relation.specs.Frames.{IsResultBy, AreResults}
 use Rattle.fm_gen_relation.specs.Calls.{HasItsResult, DoneFrom, OptionDone, VarDone, VarsDone, ItemsDone, refs_in_extras, ExtrasDone, WhereDone, BoundsDone, PairDone, ChannelDone, SimpleDone, StatementDone}

@@ -10,7 +10,7 @@ use Rattle.fm_mean.specs.Names.{ProgramUnit, unit_at}
 use Rattle.fm_gen_relation.specs.Sound.{IsSoundSimple, IsSoundStatement, IsSoundEntry}
 use Rattle.fm_gen_relation.specs.Meant.{IsMeant}
 use Rattle.fm_gen_relation.proofs.Meant.{meant, entry_types}
-use Rattle.fm_gen_relation.proofs.References.{entry_references}
+use Rattle.fm_mean.proofs.References.{entry_references}
 use Rattle.fm_gen_relation.proofs.Counts.{reference_full, call_full, start_full}
 
 module _ (p : Program) (number : ℕ) (u : ProgramUnit) (i : ℕ) (e : Entry) (here : unit_at p number ≡ Some u) (there : slice_get u.tree.body i ≡ Some e) where

@@ -1,25 +1,27 @@
 -- A unit has a variable for each formal of its heading, and no other formals.
 use Rattle.std.proofs.Common.{◌≡◌, ◌⊎◌, inl, inr, ℕ, zero, suc, ◌+◌, ◌<◌, Bool, true, false, cond, ◌||◌, Option, Some, None, unwrap_or, List, [], ◌∷◌, ◌++◌, map, length, slice_get, refl, sym, ap, ◌∙◌, subst, arith}
-use Rattle.std.specs.Prelude.{fold, if◌then◌else◌}
+use Rattle.std.specs.Prelude.{if◌then◌else◌}
 use Rattle.std.specs.FinMap.{get}
 use Rattle.std.specs.List.{list_any}
+use Rattle.std.proofs.lemmas.List.Folds.{list_any-append}
 use native.Mathlib.Nat.{ℕ_set}
 use Rattle.fm_tree.specs.declared.program_unit.Unit as tree
 use Rattle.fm_symbols.specs.ByName.{ByName}
-use Rattle.fm_symbols.specs.Context.{constant_entry, symbols_of, variable_entries}
+use Rattle.fm_symbols.specs.Context.{constant_entry, symbols_of, variable_entries, symbol_place}
 use Rattle.fm_symbols.specs.Headings.{heading_formals}
 use Rattle.fm_symbols.specs.declared.names.Constant.{Constant}
 use Rattle.fm_symbols.specs.declared.symbol.Symbol.{Symbol}
 use Rattle.fm_rules.specs.FunctionTitles as facts
 use Rattle.fm_rules.specs.declared.sheet.Occurrence.{Occurrence}
-use Rattle.fm_rules.specs.Occurrences.{is_of, occurrences, with_occurrence}
+use Rattle.fm_rules.specs.Occurrences.{first_occurrences, is_of, occurrences}
+use Rattle.fm_rules.proofs.Earlier.{first_occurrences_behind, firsts_behind}
 use Rattle.fm_rules.specs.declared.sheet.Sheet.{Sheet}
 use Rattle.fm_rules.specs.Sheets.{numbered, sheet_of}
 use Rattle.fm_rules.specs.Variables.{laid_out, names_variable, those_that, variable, variables_among, words_of}
 use Rattle.fm_rules.specs.Names.{unit_names}
 use Rattle.fm_rules.specs.BrokenNames.{broken_in}
 use Rattle.fm_rules.specs.declared.program.Program.{Program}
-use Rattle.fm_mean.specs.Names.{ProgramUnit, place_in, same_name, unit_at}
+use Rattle.fm_mean.specs.Names.{ProgramUnit, same_name, unit_at}
 use Rattle.fm_mean.specs.Calls.{is_formal}
 use Rattle.fm_mean.proofs.Clashes.{formals_distinct}
 use Rattle.fm_mean.proofs.FirstEntries.{first_entry, first_there}
@@ -30,7 +32,7 @@ use Rattle.fm_mean.proofs.Sizes.{parts_of}
 use Rattle.fm_mean.proofs.Unbroken.{from_rules, or_left, or_right}
 use Rattle.fm_mean.proofs.UnitMeanings.{first_parts, formal_symbol}
 use Rattle.fm_gen_relation.specs.Sound.{formals_among}
-use Rattle.fm_gen_relation.proofs.FirstUnits.{by_rules}
+use Rattle.fm_mean.proofs.FirstUnits.{by_rules}
 
 never : true ≡ false → ⊥
 never e = absurd (cc)
@@ -47,32 +49,42 @@ same_both a b e = go (same_name b a) refl
     go true is = absurd (never (sym (same_names a b (sym (name_is b a is))) ∙ e))
     go false is = refl
 
-any_append : {X : Type 0} (test : X → Bool) (xs ys : List X) → list_any test xs ≡ false → list_any test ys ≡ false → list_any test (xs ++ ys) ≡ false
-any_append test [] ys e h = h
-any_append test (x ∷ xs) ys e h =
-    ap (λ (b : Bool). b || list_any test (xs ++ ys)) (or_left (test x) (list_any test xs) e) ∙ any_append test xs ys (or_right (test x) (list_any test xs) e) h
-
 -- each name of these stands once
 abbrev pub Distinct : List Occurrence → Type 0
 Distinct [] = Unit {0}
 Distinct (o ∷ os) = (list_any (is_of o.name) os ≡ false) × Distinct os
 
-distinct_more : (os : List Occurrence) (o : Occurrence) → Distinct os → list_any (is_of o.name) os ≡ false → Distinct (os ++ o ∷ [])
-distinct_more [] o h e = (refl, tt)
-distinct_more (x ∷ os) o h e =
-    let apart = same_both o.name x.name (or_left (is_of o.name x) (list_any (is_of o.name) os) e) in
-    (any_append (is_of x.name) os (o ∷ []) h.0 (ap (λ (b : Bool). b || false) apart), distinct_more os o h.1 (or_right (is_of o.name x) (list_any (is_of o.name) os) e))
+or_same : (a : Bool) → (a || (true || false)) ≡ true
+or_same true = refl
+or_same false = refl
 
-distinct_one : (os : List Occurrence) (o : Occurrence) → Distinct os → Distinct (with_occurrence os o)
-distinct_one os o h = go (list_any (is_of o.name) os) refl
+-- the first of a name that stands before is not here
+none_again : (q : Name) (before os : List Occurrence) → list_any (is_of q) before ≡ true → list_any (is_of q) (firsts_behind before os) ≡ false
+none_again q before [] known = refl
+none_again q before (o ∷ os) known = go (list_any (is_of o.name) before) refl (is_of q o) refl (none_again q (before ++ o ∷ []) os still)
   where
-    go : (b : Bool) → list_any (is_of o.name) os ≡ b → Distinct (cond b os (os ++ o ∷ []))
-    go true e = h
-    go false e = distinct_more os o h e
+    still : list_any (is_of q) (before ++ o ∷ []) ≡ true
+    still = list_any-append (is_of q) before (o ∷ []) ∙ ap (λ (b : Bool). b || (is_of q o || false)) known
 
-distinct_all : (before os : List Occurrence) → Distinct before → Distinct (fold with_occurrence before os)
-distinct_all before [] h = h
-distinct_all before (o ∷ os) h = distinct_all (with_occurrence before o) os (distinct_one before o h)
+    go : (b : Bool) → list_any (is_of o.name) before ≡ b → (s : Bool) → is_of q o ≡ s → list_any (is_of q) (firsts_behind (before ++ o ∷ []) os) ≡ false
+        → list_any (is_of q) (cond b (firsts_behind (before ++ o ∷ []) os) (o ∷ firsts_behind (before ++ o ∷ []) os)) ≡ false
+    go true is s same rest = rest
+    go false is true same rest = absurd (never (sym (ap (λ (n : Name). list_any (is_of n) before) (sym (name_is q o.name same)) ∙ known) ∙ is))
+    go false is false same rest = ap (λ (b : Bool). b || list_any (is_of q) (firsts_behind (before ++ o ∷ []) os)) same ∙ rest
+
+distinct_behind : (before os : List Occurrence) → Distinct (firsts_behind before os)
+distinct_behind before [] = tt
+distinct_behind before (o ∷ os) = go (list_any (is_of o.name) before) (distinct_behind (before ++ o ∷ []) os)
+  where
+    here : list_any (is_of o.name) (before ++ o ∷ []) ≡ true
+    here = list_any-append (is_of o.name) before (o ∷ []) ∙ ap (λ (b : Bool). list_any (is_of o.name) before || (b || false)) (same_names o.name o.name refl) ∙ or_same (list_any (is_of o.name) before)
+
+    go : (b : Bool) → Distinct (firsts_behind (before ++ o ∷ []) os) → Distinct (cond b (firsts_behind (before ++ o ∷ []) os) (o ∷ firsts_behind (before ++ o ∷ []) os))
+    go true rest = rest
+    go false rest = (none_again o.name (before ++ o ∷ []) os here, rest)
+
+distinct_firsts : (os : List Occurrence) → Distinct (first_occurrences os)
+distinct_firsts os = subst Distinct (sym (first_occurrences_behind os)) (distinct_behind [] os)
 
 none_chosen : (f test : Occurrence → Bool) (os : List Occurrence) → list_any f os ≡ false → list_any f (those_that test os) ≡ false
 none_chosen f test [] e = refl
@@ -201,9 +213,9 @@ variable_named s first place [] e h = absurd h
 variable_named s first place (o ∷ os) e (inl same) = (o, inl refl, ap (λ (x : Name × Symbol). x.0) (sym same))
 variable_named s first place (o ∷ os) e (inr h) = let r = variable_named s (first + words_of s o.name) (place + 1) os e h in (r.0, inr r.1, r.2)
 
-constant_nowhere : (cs : List (Name × Constant)) (e : Name × Symbol) → In e (map constant_entry cs) → place_in (Some e.1) ≡ None
+constant_nowhere : (cs : List (Name × Constant)) (e : Name × Symbol) → In e (map constant_entry cs) → symbol_place (Some e.1) ≡ None
 constant_nowhere [] e h = absurd h
-constant_nowhere (c ∷ cs) e (inl same) = subst (λ (x : Name × Symbol). place_in (Some x.1) ≡ None) same (constant_placeless c.1)
+constant_nowhere (c ∷ cs) e (inl same) = subst (λ (x : Name × Symbol). symbol_place (Some x.1) ≡ None) same (constant_placeless c.1)
 constant_nowhere (c ∷ cs) e (inr h) = constant_nowhere cs e h
 
 module _ (titles : ByName Bool) (u : tree.Unit) (clean : broken_in titles u ≡ []) where
@@ -217,15 +229,15 @@ module _ (titles : ByName Bool) (u : tree.Unit) (clean : broken_in titles u ≡ 
   names = heading_formals u.heading.stmt
 
   -- a name with a place is that of a variable
-  placed_among : (name : Name) (y : Symbol) (k : ℕ) → get (symbols_of (unit_names titles u)) name ≡ Some y → place_in (Some y) ≡ Some k → (o : Occurrence) × In o variables × (name ≡ o.name)
+  placed_among : (name : Name) (y : Symbol) (k : ℕ) → get (symbols_of (unit_names titles u)) name ≡ Some y → symbol_place (Some y) ≡ Some k → (o : Occurrence) × In o variables × (name ≡ o.name)
   placed_among name y k is at =
       let n = unit_names titles u in
       let constants = map constant_entry n.constants in
       let entries = variable_entries 0 n.variables in
       let e = entry_in (constants ++ entries) name y (sym (first_there (constants ++ entries) name) ∙ is) in
-      go e.0 e.2 (ap (λ (y : Symbol). place_in (Some y)) e.3 ∙ at) (in_either e.0 constants entries e.1)
+      go e.0 e.2 (ap (λ (y : Symbol). symbol_place (Some y)) e.3 ∙ at) (in_either e.0 constants entries e.1)
     where
-      go : (e : Name × Symbol) → name ≡ e.0 → place_in (Some e.1) ≡ Some k → In e (map constant_entry (unit_names titles u).constants) ⊎ In e (variable_entries 0 (unit_names titles u).variables) → (o : Occurrence) × In o variables × (name ≡ o.name)
+      go : (e : Name × Symbol) → name ≡ e.0 → symbol_place (Some e.1) ≡ Some k → In e (map constant_entry (unit_names titles u).constants) ⊎ In e (variable_entries 0 (unit_names titles u).variables) → (o : Occurrence) × In o variables × (name ≡ o.name)
       go e same place (inl h) = absurd (none_some k (sym (constant_nowhere (unit_names titles u).constants e h) ∙ place))
       go e same place (inr h) = let r = variable_named (sheet_of u) 0 0 variables e h in (r.0, r.1, same ∙ r.2)
 
@@ -234,12 +246,12 @@ module _ (titles : ByName Bool) (u : tree.Unit) (clean : broken_in titles u ≡ 
       let i = index_of name names h in
       go (get (symbols_of (unit_names titles u)) name) refl (formal_symbol titles u clean i.0 name i.1)
     where
-      go : {k : ℕ} (o : Option Symbol) → get (symbols_of (unit_names titles u)) name ≡ o → place_in (get (symbols_of (unit_names titles u)) name) ≡ Some k → (o : Occurrence) × In o variables × (name ≡ o.name)
-      go {k} None is at = absurd (none_some k (sym (ap place_in is) ∙ at))
-      go {k} (Some y) is at = placed_among name y k is (sym (ap place_in is) ∙ at)
+      go : {k : ℕ} (o : Option Symbol) → get (symbols_of (unit_names titles u)) name ≡ o → symbol_place (get (symbols_of (unit_names titles u)) name) ≡ Some k → (o : Occurrence) × In o variables × (name ≡ o.name)
+      go {k} None is at = absurd (none_some k (sym (ap symbol_place is) ∙ at))
+      go {k} (Some y) is at = placed_among name y k is (sym (ap symbol_place is) ∙ at)
 
   pub variables_distinct : Distinct variables
-  variables_distinct = distinct_chosen (names_variable titles u.heading.stmt s) s.first (distinct_all [] (occurrences _ u) tt)
+  variables_distinct = distinct_chosen (names_variable titles u.heading.stmt s) s.first (distinct_firsts (occurrences _ u))
 
   pub unit_formals : length (formals_among (unit_names titles u).variables) ≡ length (heading_formals u.heading.stmt)
   unit_formals =

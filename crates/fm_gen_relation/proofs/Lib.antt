@@ -4,9 +4,6 @@ pub mod Shaped
 pub mod Kept
 pub mod Meant
 pub mod Targets
-pub mod FirstUnits
-pub mod ArrayNames
-pub mod References
 pub mod FormalCounts
 pub mod EntryFlags
 pub mod Counts

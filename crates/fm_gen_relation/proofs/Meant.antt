@@ -32,7 +32,7 @@ use Rattle.fm_rules.specs.declared.typing.ExprType.TheVariants.{Value, Array, Po
 use Rattle.fm_rules.specs.declared.typing.Arguments.{Arguments}
 use Rattle.fm_rules.specs.declared.typing.Referent.{Referent}
 use Rattle.fm_rules.specs.declared.typing.Referent.TheVariants as referent
-use Rattle.fm_rules.specs.Expressions.{array_or, arguments_judged, no_arguments}
+use Rattle.fm_rules.specs.Expressions.{array_or, arguments_judged}
 use Rattle.fm_rules.specs.Flags.{both}
 use Rattle.fm_rules.specs.Typing.{operand, plain, result_in, symbol_type, value_type}
 use Rattle.fm_rules.specs.VariableTypes.{element_of, is_bare, subscripted, target_judged, target_named, target_type, variable_judged}
@@ -218,7 +218,7 @@ module _ (p : Program) (u : ProgramUnit) where
   variable_holds v = go (is_bare v.subscripts)
     where
       a : Arguments
-      a = arguments_judged (context p) sc (array_or (get sc.symbols v.name) referent.Unknown) no_arguments 0 (trees_from v.subscripts)
+      a = arguments_judged (context p) sc (array_or (get sc.symbols v.name) referent.Unknown) 0 (trees_from v.subscripts)
 
       go : (b : Bool) → HoldsPort u v.name (if b then plain (symbol_type (symbol_in (context p) sc v.name)) else element_of (context p) sc v).expr_type
       go true = name_holds u (context p) v.name
@@ -233,7 +233,7 @@ module _ (p : Program) (u : ProgramUnit) where
     where
       go : (b : Bool) → (if b then target_named (context p) (symbol_in (context p) sc v.name) else element_of (context p) sc v).expr_type ≡ Function → ⊥
       go true e = named_target (context p) (symbol_in (context p) sc v.name) e
-      go false e = element_target (context p) (array_or (get sc.symbols v.name) referent.Unknown) (arguments_judged (context p) sc (array_or (get sc.symbols v.name) referent.Unknown) no_arguments 0 (trees_from v.subscripts)) e
+      go false e = element_target (context p) (array_or (get sc.symbols v.name) referent.Unknown) (arguments_judged (context p) sc (array_or (get sc.symbols v.name) referent.Unknown) 0 (trees_from v.subscripts)) e
 
   variables_there : (vs : List Var) → AllIn (λ v. IsUnflagged (target_flags (context p) sc v)) vs → AllIn (λ v. AreMeant (occurrences.in_var array v)) vs → AllIn (λ (v : Var). IsVariable u v.name) vs
   variables_there [] h some = tt

@@ -27,7 +27,7 @@ use Rattle.fm_mean.proofs.Members.{In, passes, same_names}
 use Rattle.fm_mean.proofs.Sizes.{parts_of}
 use Rattle.fm_mean.proofs.Unbroken.{from_rules}
 use Rattle.fm_gen_relation.specs.Sound.{formals_among}
-use Rattle.fm_gen_relation.proofs.FirstUnits.{by_rules}
+use Rattle.fm_mean.proofs.FirstUnits.{by_rules}
 use Rattle.fm_gen_relation.proofs.FormalCounts.{Distinct, unit_formals, variables_distinct}
 
 never : true ≡ false → ⊥

@@ -29,7 +29,7 @@ use Rattle.fm_rules.specs.declared.typing.ExprType.{ExprType}
 use Rattle.fm_rules.specs.declared.typing.ExprType.TheVariants.{Nothing}
 use Rattle.fm_rules.specs.declared.typing.Arguments.{Arguments}
 use Rattle.fm_rules.specs.declared.typing.Referent.TheVariants as referent
-use Rattle.fm_rules.specs.Expressions.{array_or, arguments_judged, no_arguments}
+use Rattle.fm_rules.specs.Expressions.{array_or, arguments_judged}
 use Rattle.fm_rules.specs.Flags.{both}
 use Rattle.fm_rules.specs.Typing.{symbol_type}
 use Rattle.fm_rules.specs.VariableTypes.{subscripted, variable_judged}
@@ -50,7 +50,8 @@ use Rattle.fm_mean.proofs.JudgedPrograms.{arrays_in}
 use Rattle.fm_mean.proofs.JudgedValues.{Stands, stands_none, stands_constant, stands_variable, stands}
 use Rattle.fm_mean.proofs.Sizes.{variable_sized}
 use Rattle.fm_mean.proofs.Unflagged.{IsUnflagged, left_unflagged, right_unflagged}
-use Rattle.fm_gen_relation.specs.Sound.{IsVariable, names_in}
+use Rattle.fm_mean.specs.Referring.{names_in}
+use Rattle.fm_gen_relation.specs.Sound.{IsVariable}
 use Rattle.fm_gen_relation.specs.Targets.{TargetsFit, target_words}
 use Rattle.fm_gen_relation.proofs.Kept.{keeps}
 use Rattle.fm_gen_relation.proofs.Meant.{meant}
@@ -145,7 +146,7 @@ module _ (p : Program) (u : ProgramUnit) (sizes : HaveSizes u) where
   target_taken name [] w is =
       subst (λ (o : Option (ℕ × Variable)). ArgIs u (symbol_type (symbol_in (context p) sc name)) (named_arg (names_in p u) name o)) is (name_is (names_in p u) (context p) name sizes)
   target_taken name (t ∷ ts) w is =
-      element_taken u (context p) name w (arguments_judged (context p) sc (array_or (get sc.symbols name) referent.Unknown) no_arguments 0 (trees_from (t ∷ ts))) is
+      element_taken u (context p) name w (arguments_judged (context p) sc (array_or (get sc.symbols name) referent.Unknown) 0 (trees_from (t ∷ ts))) is
 
   target_fits : (v : Var) (k : FieldKind) (bs : List Bound) (x : IsVariable u v.name) → HasType v → fits_field u.names (variable_judged (context p) sc v).expr_type k bs ≡ true
       → (w : ℕ × Variable) × (variable_of u v.name ≡ Some w) × (sort_of_variable w.1 ≡ k) × (target_words w.1 (trees_from v.subscripts) ≡ elements_in bs)

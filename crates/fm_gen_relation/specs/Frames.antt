@@ -17,7 +17,7 @@ use Rattle.fm_mean.specs.Actions.{Loop, Counted, While, NoLoop, loop_of, next_re
 use Rattle.fm_code.specs.declared.body.Frame.{Frame}
 use Rattle.fm_code.specs.declared.body.Start.{Start}
 use Rattle.fm_code.specs.declared.body.Trips.{Trips}
-use Rattle.fm_gen_relation.specs.Sound.{names_in}
+use Rattle.fm_mean.specs.Referring.{names_in}
 use Rattle.fm_gen_relation.specs.Standing.{Slots, values_in, IsResultOf}
 use Rattle.fm_gen_relation.specs.Operands.{BacksStand}
 

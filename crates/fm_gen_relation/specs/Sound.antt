@@ -22,7 +22,8 @@ use Rattle.fm_symbols.specs.declared.names.Variable.{Variable}
 use Rattle.fm_rules.specs.declared.program.Program.{Program}
 use Rattle.fm_mean.specs.Names.{ProgramUnit, kind_of, unit_named, variable_of, result_variable}
 use Rattle.fm_mean.specs.Calls.{is_formal}
-use Rattle.fm_mean.specs.Evaluate.{Scope, Reference, Element, Call, Built, Unknown, reference_of}
+use Rattle.fm_mean.specs.Evaluate.{Call, reference_of}
+use Rattle.fm_mean.specs.Referring.{names_in, calls_among}
 use Rattle.fm_mean.specs.Actions.{trees_in, arguments_in, next_reference}
 use Rattle.fm_mean.specs.Layout.{AreLaidOut}
 use Rattle.fm_mean.specs.ValueTypes.{AreSized}
@@ -30,10 +31,6 @@ use Rattle.fm_mean.specs.Typing.{sort_of}
 use Rattle.fm_mean.specs.TypedTrees.{EntryHasTypes}
 
 -- Names and variables.
-
--- what names mean in a unit, before any frame of it is there
-abbrev pub names_in : Program → ProgramUnit → Scope
-names_in p u = record { program = p; unit = u; values = []; results = [] }
 
 -- whether variables of this kind hold words, and not ports
 abbrev pub is_word : Kind → Bool
@@ -77,27 +74,6 @@ pub record IsSoundUnit (u : ProgramUnit) : Type 0 where
   pub result : HasResult (kind_of u) u
 
 -- Entries.
-
--- whether a name with a list behind it refers to a FUNCTION
-abbrev pub calls_one : Reference → Bool
-calls_one (Element i v) = false
-calls_one (Call n callee) = true
-calls_one (Built f) = false
-calls_one Unknown = false
-
-abbrev pub is_call : Program → ProgramUnit → Tree → Bool
-is_call p u (Number n) = false
-is_call p u (Truth b) = false
-is_call p u (Named name) = false
-is_call p u (Ref name args) = calls_one (reference_of (names_in p u) name)
-is_call p u (Paren e) = false
-is_call p u (Signed op e) = false
-is_call p u (Not e) = false
-is_call p u (Binary op a b) = false
-
--- the references of functions among these
-abbrev pub calls_among : Program → ProgramUnit → List Tree → List Tree
-calls_among p u = filter (is_call p u)
 
 -- as many arguments as the unit has formals
 abbrev pub IsFull : ProgramUnit → Trees → Type 0

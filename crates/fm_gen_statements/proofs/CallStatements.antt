@@ -36,7 +36,8 @@ use Rattle.fm_code.specs.declared.instr.Instr.TheVariants as instr
 use Rattle.fm_code.specs.declared.instr.End.TheVariants as end
 use Rattle.fm_code.specs.declared.scratch.Place.TheVariants as place
 use Rattle.fm_code.specs.Acts.{Over, ReturnsValue, found, then_work, work, nothing}
-use Rattle.fm_gen_relation.specs.Sound.{names_in, calls_one, is_call, IsFull, CallIsFull, HasResult, IsSoundEntry}
+use Rattle.fm_mean.specs.Referring.{names_in, calls_one, is_call}
+use Rattle.fm_gen_relation.specs.Sound.{IsFull, CallIsFull, HasResult, IsSoundEntry}
 use Rattle.fm_gen_relation.proofs.SomeWords.{variable_some}
 use Rattle.fm_gen_relation.specs.Calls.{WhereDone}
 use Rattle.fm_gen_relation.specs.Standing.{Slots, item_by, scope_in, IsFrame, IsWordOf, IsResultOf, AreAllDone}

@@ -43,7 +43,7 @@ use Rattle.fm_code.specs.Acts.{StatementEnd, Act, On, Over, Goes, Fails, gives, 
 use Rattle.fm_code.specs.Acts as acts
 use Rattle.fm_gen_relation.specs.Standing.{Slots, item_by, values_in, scope_in, IsFrame, AreDone}
 use Rattle.fm_gen_operands.specs.Code.{expression_code}
-use Rattle.fm_gen_relation.specs.Sound.{names_in}
+use Rattle.fm_mean.specs.Referring.{names_in}
 use Rattle.fm_gen_statements.specs.Statements.{Addresses, variable_meant, first_in, step_code, bounds_code, loop_code, do_code}
 use Rattle.fm_gen_relation.specs.Frames.{opens_counted, loop_number}
 use Rattle.fm_gen_relation.specs.Sound.{is_word}

@@ -42,7 +42,8 @@ use Rattle.fm_code.specs.declared.instr.Meet.TheVariants as meet
 use Rattle.fm_code.specs.declared.scratch.Scratch.{Scratch}
 use Rattle.fm_code.specs.Acts as acts
 use Rattle.fm_code.specs.Acts.{StatementEnd, Act, On, Over, Fails, found, at_word, by_port, at_port, asks, then_work, work, nothing}
-use Rattle.fm_gen_relation.specs.Sound.{names_in, is_word, IsVariable, IsWord, IsPort, IsSoundUnit, IsSoundEntry, IsSoundSimple, IsSoundStatement, count_iostat}
+use Rattle.fm_mean.specs.Referring.{names_in}
+use Rattle.fm_gen_relation.specs.Sound.{is_word, IsVariable, IsWord, IsPort, IsSoundUnit, IsSoundEntry, IsSoundSimple, IsSoundStatement, count_iostat}
 use Rattle.fm_gen_relation.specs.Standing.{Slots, port_by, scope_in, IsFrame, AreAllDone}
 use Rattle.fm_gen_relation.specs.Operands.{MeanSpan, word_number, holds_words, IsPlace, IsActual, operand_of, target_of}
 use Rattle.fm_gen_relation.specs.Targets.{TargetsFit}

@@ -38,7 +38,7 @@ use Rattle.fm_code.specs.Acts.{StatementEnd, Act, On, Over, then_work, work, not
 use Rattle.fm_code.specs.Acts as acts
 use Rattle.fm_gen_relation.specs.Standing.{Slots, item_by, scope_in, IsFrame, AreDone}
 use Rattle.fm_gen_operands.specs.Code.{expression_code}
-use Rattle.fm_gen_relation.specs.Sound.{names_in}
+use Rattle.fm_mean.specs.Referring.{names_in}
 use Rattle.fm_gen_statements.specs.Statements.{letters, is_logical_kind, is_logical_constant, is_logical_named, is_logical_result, is_logical_reference, is_logical, show, words_shown, variable_shown, named_shown, value_shown, tree_shown, items_code}
 use Rattle.fm_gen_relation.specs.Sound.{is_word}
 use Rattle.fm_gen_operands.specs.Keeps.{then}

@@ -31,7 +31,8 @@ use Rattle.fm_gen_relation.proofs.Done.{statement_done}
 use Rattle.fm_gen_operands.specs.Code.{expression_code}
 use Rattle.fm_gen_operands.specs.Places.{arguments_code}
 use Rattle.fm_gen_operands.specs.Keeps.{KeepsActuals}
-use Rattle.fm_gen_relation.specs.Sound.{calls_among, IsSoundSimple, IsSoundStatement, IsSoundEntry}
+use Rattle.fm_mean.specs.Referring.{calls_among}
+use Rattle.fm_gen_relation.specs.Sound.{IsSoundSimple, IsSoundStatement, IsSoundEntry}
 use Rattle.fm_gen_statements.specs.Statements.{Addresses, goto, assigned_code, print_code, jump_code, test_code, return_code, again_code, end_code, loop_end_code, simple_code, statement_code}
 use Rattle.fm_gen_relation.specs.Frames.{counts_trips}
 use Rattle.fm_gen_statements.specs.Asking.{IsAsking}

@@ -39,7 +39,7 @@ use Rattle.fm_gen_relation.specs.Sound.{is_word}
 use Rattle.fm_gen_relation.specs.Frames.{opens_counted, loop_number}
 use Rattle.fm_gen_operands.specs.Places.{var_code, arguments_code, targets_code, seat_code}
 use Rattle.fm_gen_operands.specs.Code.{push, place_code, trees_count, expression_code, expressions_code}
-use Rattle.fm_gen_relation.specs.Sound.{names_in}
+use Rattle.fm_mean.specs.Referring.{names_in}
 
 -- where an entry begins, or behind the last one
 abbrev pub Addresses : Type 0

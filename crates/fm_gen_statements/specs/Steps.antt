@@ -31,7 +31,8 @@ use Rattle.fm_code.specs.declared.body.Frame.{Frame}
 use Rattle.fm_code.specs.declared.scratch.Place.{Place}
 use Rattle.fm_code.specs.declared.scratch.Place.TheVariants.{Here, Location, Submachine}
 use Rattle.fm_code.specs.Acts.{StatementEnd, Goes, Prints, Calls, Refers, Returns, ReturnsValue, Starts, Closes, Moves, Fails, Asks, Stuck}
-use Rattle.fm_gen_relation.specs.Sound.{names_in, formals_among}
+use Rattle.fm_mean.specs.Referring.{names_in}
+use Rattle.fm_gen_relation.specs.Sound.{formals_among}
 use Rattle.fm_gen_relation.specs.Targets.{TargetsFit}
 use Rattle.fm_gen_relation.specs.Standing.{Slots, scope_in, IsResultOf}
 use Rattle.fm_gen_relation.specs.Operands.{MeanSpan, word_number, operand_of, target_of, IsPlace, IsActual, TakesFrom, holds_words}

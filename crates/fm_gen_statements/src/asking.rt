@@ -3,7 +3,7 @@
 ghost use Rattle.std.specs.Prelude.{◌≡◌, ◌++◌, IfOk, OnOk};
 ghost use Rattle.fm_tree.specs.Tree.{trees_from};
 ghost use Rattle.fm_plain_frame.specs.Units.{unit_of};
-ghost use Rattle.fm_gen_relation.specs.Sound.{names_in};
+ghost use Rattle.fm_mean.specs.Referring.{names_in};
 ghost use Rattle.fm_code.specs.declared.instr.Instr.TheVariants as instr;
 ghost use Rattle.fm_code.specs.declared.instr.Meet.TheVariants as meet;
 ghost use Rattle.fm_gen_statements.specs.Statements.{channel_code, close_code, extras_code, merger_code, receive_code, receive_end, refs_behind, send_code, two_code};

@@ -5,7 +5,7 @@ ghost use Rattle.fm_tree.specs.Tree.{trees_from};
 ghost use Rattle.fm_mean.specs.Actions.{arguments_in, trees_in, where_in};
 ghost use Rattle.fm_mean.specs.Evaluate.{refs_in_all};
 ghost use Rattle.fm_mean.specs.Names.{kind_of, unit_named};
-ghost use Rattle.fm_gen_relation.specs.Sound.{names_in};
+ghost use Rattle.fm_mean.specs.Referring.{names_in};
 ghost use Rattle.fm_gen_operands.specs.Places.{arguments_code, seat_code};
 ghost use Rattle.fm_plain_frame.specs.Units.{unit_of};
 ghost use Rattle.fm_gen_statements.specs.Statements.{block_code, call_by, result_word, return_code, start_by, stuck};
@@ -13,7 +13,7 @@ ghost use Rattle.fm_gen_statements.specs.Statements.{block_code, call_by, result
 use fm_base::{Name, NoMemory, Seq};
 use fm_code::{End, Instr, Meet};
 use fm_gen_operands::{arguments, seat};
-use fm_plain_frame::{UnitView, unit_named};
+use fm_plain_frame::{UnitView, arguments_of, unit_named};
 use fm_tree::{CallPart, Expr, UnitKind};
 
 /// Adds what finds nothing that could be stored.
@@ -21,16 +21,6 @@ pub(crate) fn push_stuck(out: &mut Seq<Instr>) -> Result<(), NoMemory>
     ensures { OnOk result (out.new ≡ out.old ++ stuck) }
 {
     out.push(Instr::End(End::Store(0, 0)))
-}
-
-/// The arguments of a CALL.
-fn arguments_of(arguments: &Option<Seq<Expr>>) -> &[Expr]
-    ensures { trees_from result.now ≡ trees_in arguments.now }
-{
-    match arguments {
-        None => &[],
-        Some(arguments) => arguments.as_slice(),
-    }
 }
 
 /// Adds the code of a CALL, behind which the statement at an address is next.

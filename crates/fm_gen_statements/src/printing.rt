@@ -5,15 +5,15 @@ ghost use Rattle.fm_values.specs.Operations.{is_arithmetic};
 ghost use Rattle.fm_mean.specs.Evaluate.{refs_in};
 ghost use Rattle.fm_mean.specs.Names.{result_variable, variable_of};
 ghost use Rattle.fm_plain_frame.specs.Units.{unit_of};
-ghost use Rattle.fm_gen_relation.specs.Sound.{names_in};
-ghost use Rattle.fm_gen_operands.specs.References.{reference_by};
+ghost use Rattle.fm_mean.specs.Referring.{names_in};
+ghost use Rattle.fm_plain_frame.specs.References.{reference_by};
 ghost use Rattle.fm_gen_statements.specs.Statements.{is_logical, is_logical_constant, is_logical_kind, is_logical_named, is_logical_reference, is_logical_result, item_code, items_code, letters, named_shown, print_code, refs_in_item, show, tree_shown, value_shown, variable_shown, words_shown};
 
 use crate::storing::holds_word;
 use fm_base::{Name, NoMemory, Op, Seq};
 use fm_code::{Build, End, Instr, Span};
-use fm_gen_operands::{Reference, constant_word, emit, push, referent};
-use fm_plain_frame::UnitView;
+use fm_gen_operands::{constant_word, emit, push, referent};
+use fm_plain_frame::{Reference, UnitView};
 use fm_symbols::{Constant, Variable};
 use fm_tree::{Expr, ExprNode, Item, Kind};
 

@@ -1,5 +1,5 @@
-//! Cards, tokens, long expressions, statements read by the whole grammar and spelled again. This crate
-//! has tests alone.
+//! Cards, tokens, long expressions, statements read by the whole grammar and spelled again, and
+//! traces. This crate has tests alone.
 #![tactic(auto)]
 
 #[cfg(test)]
@@ -8,3 +8,5 @@ mod cards_and_tokens;
 mod expressions;
 #[cfg(test)]
 mod statements;
+#[cfg(test)]
+mod traces;

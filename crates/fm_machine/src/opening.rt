@@ -7,7 +7,7 @@ ghost use Rattle.fm_machine_calls.specs.Looks.{look_in};
 ghost use Rattle.fm_machine.specs.Finished.{opened_by, opening, starting, went, told, Stays};
 
 use crate::performing::Finish;
-use crate::spares::{clear_backs, spare_frame};
+use crate::spares::spare_frame;
 use fm_base::{Machine, NoMemory, Seq};
 use fm_code::{Body, Frame, Operand, Pile, Place, Start, Unit};
 use fm_machine_calls::{Look, all_fit, enter, fail, nulls, seat_for, unit_at};
@@ -16,7 +16,7 @@ use std::alloc::Global;
 use std::mem::replace;
 
 /// Makes a frame one of a unit at its first statement. It is made in its place: a frame costs to move.
-fn begin(alloc: Global, number: u32, unit: &Unit, frame: &mut Frame) -> Result<(), NoMemory>
+fn begin(number: u32, unit: &Unit, frame: &mut Frame) -> Result<(), NoMemory>
     ensures { OnOk result (frame.new ≡ new_frame number unit.now (replicate unit.now.words (pos 0)) []) }
 {
     frame.unit = number;
@@ -25,7 +25,7 @@ fn begin(alloc: Global, number: u32, unit: &Unit, frame: &mut Frame) -> Result<(
     frame.loops.refill(unit.loops as usize, None)?;
     frame.results.clear();
     frame.starts.clear();
-    clear_backs(alloc, frame);
+    frame.backs.clear();
     Ok(())
 }
 
@@ -59,7 +59,7 @@ pub(crate) fn open(
     }
     let formals = unit.formals.as_slice();
     let mut frame = spare_frame(alloc, spare);
-    begin(alloc, number, unit, &mut frame)?;
+    begin(number, unit, &mut frame)?;
     enter(
         alloc,
         formals,
@@ -70,7 +70,7 @@ pub(crate) fn open(
     )?;
     let cost = 1 + u64::from(unit.words);
     if keeps {
-        clear_backs(alloc, &mut frame);
+        frame.backs.clear();
         body.frame.address = to;
     } else {
         go_to(&mut body.frame, to);

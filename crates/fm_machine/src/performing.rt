@@ -2,7 +2,6 @@
 
 ghost use Rattle.std.specs.Prelude.{◌≡◌, [], ◌∷◌, false, Some, None, IfOk, IfSome, OnOk};
 ghost use Rattle.fm_code.specs.Acts.{Prints};
-ghost use Rattle.fm_code.specs.Passing.{back_words};
 ghost use Rattle.fm_code.specs.Statements.{Own, action_by, gives_back, results_in, closes, moves, ran, is_stuck_in};
 ghost use Rattle.fm_machine_instr.specs.Told.{ended, told_end};
 ghost use Rattle.fm_machine_calls.specs.Looks.{look_in};
@@ -11,10 +10,10 @@ ghost use Rattle.fm_machine.specs.Finished.{went, told, drops_in, Stays, opening
 use crate::opening::{look_open, look_start, open, start};
 use crate::spares::keep;
 use fm_base::{NoMemory, Printed, Seq, output_line};
-use fm_code::{Ask, Back, Body, Frame, Operand, Pile, Row, Scratch};
+use fm_code::{Ask, Body, Frame, Operand, Pile, Scratch, back_words, word_at};
 use fm_machine_calls::{
     Look, fail, give_all, give_plain, leaves_no_port, look_back, look_close, look_move,
-    look_plainly, look_value, word_at,
+    look_plainly, look_value,
 };
 use fm_machine_instr::{Ending, StatementEnd, change, go_to, write};
 use std::alloc::Global;
@@ -46,17 +45,6 @@ fn print(
     Ok((text, cost))
 }
 
-/// How many words may be given back.
-fn back_words(backs: &[Back]) -> Result<u64, NoMemory>
-    ensures { IfOk result (λ n. n ≡ back_words backs.now) }
-{
-    let mut words: u64 = 0;
-    'backs: for back in backs {
-        words = words.checked_add(u64::from(back.words)).ok_or(NoMemory)?;
-    }
-    Ok(words)
-}
-
 /// The innermost frame gives back to the one below it. The cost.
 #[tactic(auto, using(crate::proofs::Returning::returns_fit, crate::proofs::Returning::returns_so))]
 fn give_back(alloc: Global, spare: &mut Pile<Frame>, body: &mut Body) -> Result<u64, NoMemory>
@@ -69,7 +57,7 @@ fn give_back(alloc: Global, spare: &mut Pile<Frame>, body: &mut Body) -> Result<
     };
     let mut frame = replace(&mut body.frame, caller);
     let backs = frame.backs.as_slice();
-    let mut ports = Row::new(alloc);
+    let mut ports = Seq::new(alloc);
     give_all(
         alloc,
         backs,
@@ -118,7 +106,10 @@ pub(crate) fn return_value_plainly(
     ensures ran { IfOk result (λ c. IfSome c (λ cost. ran (results_in body.old value body.old.below) ≡ Some (record { body = body.new; lines = []; cost = cost }))) }
     ensures stays { IfOk result (λ c. c ≡ None → body.new ≡ body.old) }
 {
-    if body.below.is_empty() || !leaves_no_port(body) {
+    let Some(_) = body.below.first() else {
+        return Ok(None);
+    };
+    if !leaves_no_port(body) {
         return Ok(None);
     }
     leave_result(value, spare, body)?;

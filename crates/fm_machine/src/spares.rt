@@ -1,11 +1,8 @@
 //! Frames that are used again.
 
-ghost use Rattle.std.specs.Prelude.{◌≡◌, []};
-
 use fm_base::Seq;
-use fm_code::{Frame, Pile, Row};
+use fm_code::{Frame, Pile};
 use std::alloc::Global;
-use std::mem::replace;
 
 /// How many frames are kept.
 const KEPT: usize = 8;
@@ -28,19 +25,10 @@ pub(crate) fn spare_frame(alloc: Global, spare: &mut Pile<Frame>) -> Frame {
     Frame {
         unit: 0,
         address: 0,
-        words: Row::new(alloc),
-        loops: Row::new(alloc),
-        results: Row::new(alloc),
-        starts: Row::new(alloc),
+        words: Seq::new(alloc),
+        loops: Seq::new(alloc),
+        results: Seq::new(alloc),
+        starts: Seq::new(alloc),
         backs: Seq::new(alloc),
     }
-}
-
-/// The frame gives nothing back.
-pub(crate) fn clear_backs(alloc: Global, frame: &mut Frame)
-    ensures { frame.new ≡ record (frame.old) { backs = [] } }
-{
-    let mut backs = replace(&mut frame.backs, Seq::new(alloc)).into_vec();
-    backs.clear();
-    frame.backs = Seq::from_vec(backs);
 }

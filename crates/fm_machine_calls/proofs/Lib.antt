@@ -1,4 +1,3 @@
 pub mod Merging
 pub mod Plain
 pub mod Lines
-pub mod Seating

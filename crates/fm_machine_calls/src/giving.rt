@@ -1,15 +1,15 @@
 //! What a frame gives back, and the ports that are let go.
 
-ghost use Rattle.std.specs.Prelude.{◌≡◌, ◌++◌, true, false, length, MatchOption, cond, ◌&&◌, [], ◌∷◌, IfOk, IfSome, OnOk};
+ghost use Rattle.std.specs.Prelude.{◌≡◌, ◌++◌, true, false, length, cond, ◌&&◌, [], ◌∷◌, IfOk, IfSome, OnOk};
 ghost use Rattle.std.specs.List.{list_any};
 ghost use Rattle.fm_code.specs.Acts.{span_of};
 ghost use Rattle.fm_code.specs.declared.body.Back.{Back};
 ghost use Rattle.fm_code.specs.Passing.{spliced, back_fits, back_words, backs_fit, merged, displaced, got_span, given_span, give, give_all, give_ports, live, is_port, ports_in};
 ghost use Rattle.fm_machine_calls.specs.Frames.{given};
 
-use crate::passing::{nulls, words_of};
-use fm_base::NoMemory;
-use fm_code::{Back, Row, Span};
+use crate::passing::nulls;
+use fm_base::{NoMemory, Seq};
+use fm_code::{Back, Span, front, given_span, is_port, words_of};
 use std::alloc::Global;
 
 fn back_fits(mine: usize, theirs: usize, back: Back) -> bool
@@ -47,22 +47,8 @@ pub(crate) fn plain_words(mine: usize, theirs: usize, backs: &[Back]) -> Option<
     Some(words)
 }
 
-fn is_port(word: i64) -> bool
-    ensures { result ≡ is_port word }
-{
-    word != 0
-}
-
-/// The first word, and the rest.
-fn front_word(words: &[i64]) -> Option<(i64, &[i64])>
-    ensures { MatchOption result (words.now ≡ []) (λ f. words.now ≡ f.0 ∷ f.1.now) }
-{
-    let (first, rest) = words.split_first()?;
-    Some((*first, rest))
-}
-
 /// A port word with another over it, unless that is NULL. A port in whose place that one goes is noted.
-fn merge_one(old: i64, new: i64, drops: &mut Row<i64>) -> Result<i64, NoMemory>
+fn merge_one(old: i64, new: i64, drops: &mut Seq<i64>) -> Result<i64, NoMemory>
     ensures word { IfOk result (λ w. w ≡ cond (is_port new) new old) }
     ensures drops { IfOk result (λ w. drops.new ≡ drops.old ++ cond (is_port new && is_port old) (old ∷ []) []) }
 {
@@ -80,18 +66,18 @@ fn merge(
     alloc: Global,
     mine: &[i64],
     theirs: &[i64],
-    drops: &mut Row<i64>,
-) -> Result<Row<i64>, NoMemory>
+    drops: &mut Seq<i64>,
+) -> Result<Seq<i64>, NoMemory>
     requires { length mine.now ≡ length theirs.now }
     ensures merged { IfOk result (λ ws. ws ≡ merged mine.now theirs.now) }
     ensures drops { IfOk result (λ ws. drops.new ≡ drops.old ++ displaced mine.now theirs.now) }
     ensures size { IfOk result (λ ws. length ws ≡ length mine.now) }
 {
-    let mut words = Row::new(alloc);
+    let mut words = Seq::new(alloc);
     let mut mine = mine;
     let mut theirs = theirs;
-    'words: while let Some((old, mine_behind)) = front_word(mine) {
-        let Some((new, theirs_behind)) = front_word(theirs) else {
+    'words: while let Some((old, mine_behind)) = front(mine) {
+        let Some((new, theirs_behind)) = front(theirs) else {
             break;
         };
         words.push(merge_one(old, new, drops)?)?;
@@ -110,16 +96,7 @@ fn got_span(back: Back) -> Span
     }
 }
 
-fn given_span(back: Back) -> Span
-    ensures { result ≡ given_span back }
-{
-    Span {
-        first: back.from,
-        count: back.words,
-    }
-}
-
-fn give_words(back: Back, mine: &mut Row<i64>, theirs: &Row<i64>)
+fn give_words(back: Back, mine: &mut Seq<i64>, theirs: &Seq<i64>)
     requires { back_fits (length mine.old) (length theirs.now) back ≡ true }
     ensures gives { mine.new ≡ spliced mine.old back.to (span_of theirs.now (given_span back)) }
     ensures mine { length mine.new ≡ length mine.old }
@@ -131,9 +108,9 @@ fn give_words(back: Back, mine: &mut Row<i64>, theirs: &Row<i64>)
 fn give_ports(
     alloc: Global,
     back: Back,
-    mine: &mut Row<i64>,
-    theirs: &mut Row<i64>,
-    drops: &mut Row<i64>,
+    mine: &mut Seq<i64>,
+    theirs: &mut Seq<i64>,
+    drops: &mut Seq<i64>,
 ) -> Result<(), NoMemory>
     requires { back_fits (length mine.old) (length theirs.old) back ≡ true }
     ensures gives { OnOk result (give_ports back (given mine.old theirs.old drops.old) ≡ given mine.new theirs.new drops.new) }
@@ -152,9 +129,9 @@ fn give_ports(
 fn give_one(
     alloc: Global,
     back: Back,
-    mine: &mut Row<i64>,
-    theirs: &mut Row<i64>,
-    drops: &mut Row<i64>,
+    mine: &mut Seq<i64>,
+    theirs: &mut Seq<i64>,
+    drops: &mut Seq<i64>,
 ) -> Result<(), NoMemory>
     requires { back_fits (length mine.old) (length theirs.old) back ≡ true }
     ensures gives { OnOk result (give back (given mine.old theirs.old drops.old) ≡ given mine.new theirs.new drops.new) }
@@ -173,9 +150,9 @@ fn give_one(
 pub fn give_all(
     alloc: Global,
     backs: &[Back],
-    mine: &mut Row<i64>,
-    theirs: &mut Row<i64>,
-    drops: &mut Row<i64>,
+    mine: &mut Seq<i64>,
+    theirs: &mut Seq<i64>,
+    drops: &mut Seq<i64>,
 ) -> Result<(), NoMemory>
     requires { backs_fit (length mine.old) (length theirs.old) backs.now ≡ true }
     ensures gives { OnOk result (give_all backs.now (given mine.old theirs.old drops.old) ≡ given mine.new theirs.new drops.new) }
@@ -187,7 +164,7 @@ pub fn give_all(
 }
 
 /// Words are given back in order, where none of them is a port word. Takes no memory.
-pub fn give_plain(backs: &[Back], mine: &mut Row<i64>, theirs: &Row<i64>)
+pub fn give_plain(backs: &[Back], mine: &mut Seq<i64>, theirs: &Seq<i64>)
     requires fit { backs_fit (length mine.old) (length theirs.now) backs.now ≡ true }
     requires plain { list_any (λ (b : Back). b.port) backs.now ≡ false }
     ensures { mine.new ≡ (give_all backs.now (given mine.old theirs.now [])).mine }
@@ -197,7 +174,7 @@ pub fn give_plain(backs: &[Back], mine: &mut Row<i64>, theirs: &Row<i64>)
     }
 }
 
-fn push_live(words: &[i64], ports: &mut Row<i64>) -> Result<(), NoMemory>
+fn push_live(words: &[i64], ports: &mut Seq<i64>) -> Result<(), NoMemory>
     ensures { OnOk result (ports.new ≡ ports.old ++ live words.now) }
 {
     'words: for word in words {
@@ -212,7 +189,7 @@ fn push_live(words: &[i64], ports: &mut Row<i64>) -> Result<(), NoMemory>
 pub(crate) fn push_ports(
     spans: &[Span],
     words: &[i64],
-    ports: &mut Row<i64>,
+    ports: &mut Seq<i64>,
 ) -> Result<(), NoMemory>
     ensures { OnOk result (ports.new ≡ ports.old ++ ports_in spans.now words.now) }
 {

@@ -10,7 +10,7 @@ mod seats;
 pub use giving::{give_all, give_plain};
 pub use looking::{
     Look, fail, leaves_no_port, line_of, look_back, look_close, look_move, look_plainly,
-    look_value, push_frame_ports, push_start_ports, unit_at, word_at,
+    look_value, push_frame_ports, push_start_ports, unit_at,
 };
 pub use passing::{all_fit, enter, nulls};
-pub use seats::{Seat, seat_for};
+pub use seats::seat_for;

@@ -12,8 +12,8 @@ ghost use Rattle.fm_machine_calls.specs.declared.looking.Look.TheVariants as loo
 ghost use Rattle.fm_machine_calls.specs.Looks.{look_in, look_by};
 
 use crate::giving::{backs_fit, give_all, plain_words, push_ports};
-use fm_base::{Fault, Line, NoMemory};
-use fm_code::{Ask, Back, Body, Entry, Frame, Row, SharedCode, Start, Unit};
+use fm_base::{Fault, Line, NoMemory, Seq};
+use fm_code::{Ask, Back, Body, Entry, Frame, SharedCode, Start, Unit, is_port, word_at};
 use std::alloc::Global;
 
 /// What a body does.
@@ -77,7 +77,7 @@ pub fn fail(body: &Body, fault: Fault) -> Ask
 }
 
 /// The step with these ports let go.
-fn look_by(alloc: Global, ports: Row<i64>) -> Look
+fn look_by(alloc: Global, ports: Seq<i64>) -> Look
     ensures { result ≡ look_by ports }
 {
     let mut ports = ports;
@@ -94,7 +94,7 @@ fn push_unit_ports(
     code: &SharedCode,
     unit: u32,
     words: &[i64],
-    ports: &mut Row<i64>,
+    ports: &mut Seq<i64>,
 ) -> Result<(), NoMemory>
     ensures { OnOk result (ports.new ≡ ports.old ++ ports_in (ports_of (slice_get code.now.units unit)) words.now) }
 {
@@ -108,7 +108,7 @@ fn push_unit_ports(
 pub fn push_start_ports(
     code: &SharedCode,
     starts: &[Start],
-    ports: &mut Row<i64>,
+    ports: &mut Seq<i64>,
 ) -> Result<(), NoMemory>
     ensures { OnOk result (ports.new ≡ ports.old ++ flat_map (λ (s : Start). ports_in (ports_of (slice_get code.now.units s.unit)) s.words) starts.now) }
 {
@@ -123,7 +123,7 @@ fn push_ports_with(
     code: &SharedCode,
     frame: &Frame,
     words: &[i64],
-    ports: &mut Row<i64>,
+    ports: &mut Seq<i64>,
 ) -> Result<(), NoMemory>
     ensures { OnOk result (ports.new ≡ ports.old ++ (ports_in (ports_of (slice_get code.now.units frame.now.unit)) words.now ++ flat_map (λ (s : Start). ports_in (ports_of (slice_get code.now.units s.unit)) s.words) frame.now.starts)) }
 {
@@ -135,7 +135,7 @@ fn push_ports_with(
 pub fn push_frame_ports(
     code: &SharedCode,
     frame: &Frame,
-    ports: &mut Row<i64>,
+    ports: &mut Seq<i64>,
 ) -> Result<(), NoMemory>
     ensures { OnOk result (ports.new ≡ ports.old ++ (ports_in (ports_of (slice_get code.now.units frame.now.unit)) frame.now.words ++ flat_map (λ (s : Start). ports_in (ports_of (slice_get code.now.units s.unit)) s.words) frame.now.starts)) }
 {
@@ -143,7 +143,7 @@ pub fn push_frame_ports(
 }
 
 /// Adds the ports of the innermost frame, with these words, and of its starts.
-fn push_left_ports(body: &Body, words: &[i64], ports: &mut Row<i64>) -> Result<(), NoMemory>
+fn push_left_ports(body: &Body, words: &[i64], ports: &mut Seq<i64>) -> Result<(), NoMemory>
     ensures { OnOk result (ports.new ≡ ports.old ++ left_ports body.now words.now) }
 {
     push_ports_with(&body.code, &body.frame, words, ports)
@@ -162,16 +162,16 @@ fn gives_ports(backs: &[Back]) -> bool
 
 /// The ports that the innermost frame lets go as it returns to this one.
 #[tactic(auto, using(crate::proofs::Plain::plain_theirs, crate::proofs::Plain::plain_drops))]
-fn dropped(alloc: Global, body: &Body, caller: &Frame) -> Result<Row<i64>, NoMemory>
+fn dropped(alloc: Global, body: &Body, caller: &Frame) -> Result<Seq<i64>, NoMemory>
     requires { backs_fit (length caller.now.words) (length body.now.frame.words) body.now.frame.backs ≡ true }
     ensures { IfOk result (λ ports. ports ≡ (given body.now caller.now).drops ++ left_ports body.now (given body.now caller.now).theirs) }
 {
-    let mut ports = Row::new(alloc);
+    let mut ports = Seq::new(alloc);
     let backs = body.frame.backs.as_slice();
     let words = body.frame.words.as_slice();
     if gives_ports(backs) {
-        let mut mine = Row::from_slice(alloc, caller.words.as_slice())?;
-        let mut theirs = Row::from_slice(alloc, words)?;
+        let mut mine = Seq::from_slice(alloc, caller.words.as_slice())?;
+        let mut theirs = Seq::from_slice(alloc, words)?;
         give_all(alloc, backs, &mut mine, &mut theirs, &mut ports)?;
         push_left_ports(body, theirs.as_slice(), &mut ports)?;
     } else {
@@ -232,30 +232,20 @@ pub fn look_plainly(body: &Body) -> Option<u64>
 pub fn look_value(alloc: Global, body: &Body, value: i64) -> Result<Look, NoMemory>
     ensures { IfOk result (λ l. l ≡ look_in (results_in body.now value body.now.below)) }
 {
-    if body.below.is_empty() {
+    let Some(_) = body.below.first() else {
         return Ok(Look::Asks(Ask::End));
-    }
-    let mut ports = Row::new(alloc);
+    };
+    let mut ports = Seq::new(alloc);
     push_frame_ports(&body.code, &body.frame, &mut ports)?;
     Ok(look_by(alloc, ports))
-}
-
-/// The word of a frame, or 0 where there is none.
-pub fn word_at(words: &[i64], number: usize) -> i64
-    ensures { result ≡ word_at words.now number }
-{
-    match words.get(number) {
-        Some(word) => *word,
-        None => 0,
-    }
 }
 
 /// A port that is let go, if it is one.
 fn look_at_port(alloc: Global, word: i64) -> Result<Look, NoMemory>
     ensures { IfOk result (λ l. l ≡ look_by (live (word ∷ []))) }
 {
-    let mut ports = Row::new(alloc);
-    if word != 0 {
+    let mut ports = Seq::new(alloc);
+    if is_port(word) {
         ports.push(word)?;
     }
     Ok(look_by(alloc, ports))

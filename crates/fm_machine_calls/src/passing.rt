@@ -1,38 +1,21 @@
 //! What a unit that is opened gets.
 
-ghost use Rattle.std.specs.Prelude.{◌≡◌, ◌++◌, [], ◌∷◌, MatchOption, pos, true, length, replicate, IfOk, OnOk};
-ghost use Rattle.fm_code.specs.Acts.{has_span, span_of};
+ghost use Rattle.std.specs.Prelude.{◌≡◌, ◌++◌, pos, true, length, replicate, IfOk, OnOk};
+ghost use Rattle.fm_code.specs.Acts.{has_span};
 ghost use Rattle.fm_code.specs.Passing.{fits, all_fit, back_of, pass, pass_all};
 ghost use Rattle.fm_code.specs.declared.ask.Operand.TheVariants as operand;
 ghost use Rattle.fm_machine_calls.specs.Frames.{passed};
 
 use fm_base::{NoMemory, Seq};
-use fm_code::{Back, Formal, Operand, Row, Span};
+use fm_code::{Back, Formal, Operand, Span, front, words_of};
 use std::alloc::Global;
 
-/// The first of a list, and the rest.
-pub(crate) fn front<T: Copy>(items: &[T]) -> Option<(T, &[T])>
-    ensures { MatchOption result (items.now ≡ []) (λ f. items.now ≡ f.0 ∷ f.1.now) }
-{
-    let (first, rest) = items.split_first()?;
-    Some((*first, rest))
-}
-
 /// So many words of 0.
-pub fn nulls(alloc: Global, count: u32) -> Result<Row<i64>, NoMemory>
+pub fn nulls(alloc: Global, count: u32) -> Result<Seq<i64>, NoMemory>
     ensures { IfOk result (λ r. r ≡ replicate count (pos 0)) }
 {
     let words = vec![in alloc; 0i64; count as usize]?;
-    Ok(Row::from_vec(words))
-}
-
-/// The words of a span, as far as they are there.
-pub(crate) fn words_of(words: &[i64], span: Span) -> &[i64]
-    ensures { result.now ≡ span_of words.now span }
-{
-    let (_, from) = words.split_at(words.len().min(span.first as usize));
-    let (there, _) = from.split_at(from.len().min(span.count as usize));
-    there
+    Ok(Seq::from_vec(words))
 }
 
 fn has_span(words: usize, span: Span) -> bool
@@ -100,8 +83,8 @@ fn push_back(backs: &mut Seq<Back>, formal: Formal, span: Span, port: bool) -> R
 fn pass_words(
     formal: Formal,
     span: Span,
-    mine: &Row<i64>,
-    theirs: &mut Row<i64>,
+    mine: &Seq<i64>,
+    theirs: &mut Seq<i64>,
     backs: &mut Seq<Back>,
 ) -> Result<(), NoMemory>
     requires { fits (length mine.now) (length theirs.old) formal (operand.Words span) ≡ true }
@@ -117,8 +100,8 @@ fn pass_ports(
     alloc: Global,
     formal: Formal,
     span: Span,
-    mine: &mut Row<i64>,
-    theirs: &mut Row<i64>,
+    mine: &mut Seq<i64>,
+    theirs: &mut Seq<i64>,
     backs: &mut Seq<Back>,
 ) -> Result<(), NoMemory>
     requires { fits (length mine.old) (length theirs.old) formal (operand.Ports span) ≡ true }
@@ -137,8 +120,8 @@ fn pass_one(
     alloc: Global,
     formal: Formal,
     operand: Operand,
-    mine: &mut Row<i64>,
-    theirs: &mut Row<i64>,
+    mine: &mut Seq<i64>,
+    theirs: &mut Seq<i64>,
     backs: &mut Seq<Back>,
 ) -> Result<(), NoMemory>
     requires { fits (length mine.old) (length theirs.old) formal operand ≡ true }
@@ -162,8 +145,8 @@ pub fn enter(
     alloc: Global,
     formals: &[Formal],
     operands: &[Operand],
-    mine: &mut Row<i64>,
-    theirs: &mut Row<i64>,
+    mine: &mut Seq<i64>,
+    theirs: &mut Seq<i64>,
     backs: &mut Seq<Back>,
 ) -> Result<(), NoMemory>
     requires { all_fit (length mine.old) (length theirs.old) formals.now operands.now ≡ true }

@@ -10,12 +10,12 @@ ghost use Rattle.fm_machine_instr.specs.Told.{progressed};
 
 use crate::work::{Progress, Work};
 use fm_base::{NoMemory, Printed, Seq};
-use fm_code::{Build, Frame, Operand, Place, Row, Span};
+use fm_code::{Build, Frame, Operand, Place, Span};
 use fm_values::is_truth;
 use std::alloc::Global;
 
 /// The words of a span, if the frame has them.
-pub(crate) fn span_of(words: &Row<i64>, span: Span) -> Option<&[i64]>
+pub(crate) fn span_of(words: &Seq<i64>, span: Span) -> Option<&[i64]>
     ensures { MatchOption result (has_span (length words.now) span ≡ false) (λ ws. (has_span (length words.now) span ≡ true) × (ws.now ≡ span_of words.now span)) }
 {
     let words = words.as_slice();
@@ -71,7 +71,7 @@ fn show_truth(work: &mut Work) -> Result<Progress, NoMemory>
     Ok(Progress::On)
 }
 
-fn push_numbers(line: &mut Row<Printed>, words: &[i64]) -> Result<(), NoMemory>
+fn push_numbers(line: &mut Seq<Printed>, words: &[i64]) -> Result<(), NoMemory>
     ensures { OnOk result (line.new ≡ line.old ++ map number_item words.now) }
 {
     'words: for word in words {
@@ -80,7 +80,7 @@ fn push_numbers(line: &mut Row<Printed>, words: &[i64]) -> Result<(), NoMemory>
     Ok(())
 }
 
-fn push_truths(line: &mut Row<Printed>, words: &[i64]) -> Result<(), NoMemory>
+fn push_truths(line: &mut Seq<Printed>, words: &[i64]) -> Result<(), NoMemory>
     ensures { OnOk result (line.new ≡ line.old ++ map truth_item words.now) }
 {
     'words: for word in words {

@@ -5,7 +5,8 @@ ghost use Rattle.fm_code.specs.Statements.{at_statement};
 ghost use Rattle.fm_machine_instr.specs.Told.{changed};
 
 use crate::statement_end::Change;
-use fm_code::{Frame, Row, Trips};
+use fm_base::Seq;
+use fm_code::{Frame, Trips};
 
 /// Goes on at a statement: no reference of that one is done yet.
 pub fn go_to(frame: &mut Frame, to: u32)
@@ -16,7 +17,7 @@ pub fn go_to(frame: &mut Frame, to: u32)
 }
 
 /// Writes a word, if it is there.
-pub fn write(words: &mut Row<i64>, number: usize, word: i64)
+pub fn write(words: &mut Seq<i64>, number: usize, word: i64)
     ensures { words.new ≡ slice_set words.old number word }
 {
     if number < words.len() {
@@ -24,7 +25,7 @@ pub fn write(words: &mut Row<i64>, number: usize, word: i64)
     }
 }
 
-fn write_trips(loops: &mut Row<Option<Trips>>, number: usize, trips: Option<Trips>)
+fn write_trips(loops: &mut Seq<Option<Trips>>, number: usize, trips: Option<Trips>)
     ensures { loops.new ≡ slice_set loops.old number trips }
 {
     if number < loops.len() {

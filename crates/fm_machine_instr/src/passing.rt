@@ -6,8 +6,8 @@ ghost use Rattle.fm_code.specs.Acts.{statement, work};
 ghost use Rattle.fm_machine_instr.specs.Told.{IsTold, PassesWords, with_operands};
 
 use crate::building::span_of;
-use fm_base::NoMemory;
-use fm_code::{Build, End, Frame, Instr, Operand, Row, Span};
+use fm_base::{NoMemory, Seq};
+use fm_code::{Build, End, Frame, Instr, Operand, Span};
 
 /// What is told at once of a statement. What it passes stands beside it.
 #[derive(Clone, Copy)]
@@ -25,7 +25,7 @@ pub enum Passing {
 }
 
 /// Words of the frame are the next operand, if it has them.
-fn pass_words(operands: &mut Row<Operand>, span: Span, frame: &Frame) -> bool
+fn pass_words(operands: &mut Seq<Operand>, span: Span, frame: &Frame) -> bool
     ensures { PassesWords result span operands.old operands.new frame.now }
 {
     if span_of(&frame.words, span).is_none() {
@@ -38,7 +38,7 @@ fn pass_words(operands: &mut Row<Operand>, span: Span, frame: &Frame) -> bool
 }
 
 /// What is told by the instruction that ends a statement which passed these operands.
-fn passing_by(end: End, frame: &Frame, operands: &Row<Operand>) -> Passing
+fn passing_by(end: End, frame: &Frame, operands: &Seq<Operand>) -> Passing
     ensures { IsTold result (work (instr.End end ∷ []) [] (with_operands operands.now) frame.now) operands.now }
 {
     match end {
@@ -54,7 +54,7 @@ fn passing_by(end: End, frame: &Frame, operands: &Row<Operand>) -> Passing
 }
 
 /// Tells at once how the next statement of a frame ends, where it passes words of the frame alone: the operands are what it passes.
-pub fn tell_passing(code: &[Instr], frame: &Frame, operands: &mut Row<Operand>) -> Passing
+pub fn tell_passing(code: &[Instr], frame: &Frame, operands: &mut Seq<Operand>) -> Passing
     ensures { IsTold result (statement code.now frame.now.address frame.now) operands.new }
 {
     operands.clear();

@@ -3,9 +3,11 @@
 
 mod nodes;
 mod parts;
+mod seats;
 mod workers;
 
 pub use fm_base::{Machine, Plan};
 pub use nodes::place;
-pub use parts::{is_numbered, part};
+pub use parts::part;
+pub use seats::{Seat, fitted, located, parted};
 pub use workers::worker_of;

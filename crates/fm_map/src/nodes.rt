@@ -1,18 +1,10 @@
 //! Nodes of machines.
 
-ghost use Rattle.std.specs.Prelude.{◌≡◌, ◌≤◌, ◌<◌, ◌+◌, ◌*◌, ◌-ℤ◌, ◌≤ℤ◌, pos, [], ◌∷◌, IfSome, MatchOption};
+ghost use Rattle.std.specs.Prelude.{◌≡◌, ◌≤◌, ◌<◌, ◌+◌, ◌*◌, ◌-ℤ◌, ◌≤ℤ◌, pos, IfSome};
 ghost use Rattle.fm_values.specs.Trips.{natural};
 ghost use Rattle.fm_map.specs.Placement.{node_of, place_in, product};
 
 use fm_base::Machine;
-
-// The first of a list, and the rest.
-fn front<T: Copy>(items: &[T]) -> Option<(T, &[T])>
-    ensures { MatchOption result (items.now ≡ []) (λ f. items.now ≡ f.0 ∷ f.1.now) }
-{
-    let (first, rest) = items.split_first()?;
-    Some((*first, rest))
-}
 
 // The place with one more dimension in front, of the place in the others.
 fn place_in_front(extent: u32, subscript: i64, behind: u32) -> u32
@@ -31,15 +23,15 @@ fn place_in(extents: &[u32], subscripts: &[i64]) -> Option<u32>
     ensures place { result ≡ place_in extents.now subscripts.now }
     ensures below { IfSome result (λ place. place < product extents.now) }
 {
-    let Some((extent, extents)) = front(extents) else {
+    let Some((extent, extents)) = extents.split_first() else {
         return if subscripts.is_empty() { Some(0) } else { None };
     };
-    let (subscript, subscripts) = front(subscripts)?;
-    if subscript < 1 || i64::from(extent) < subscript {
+    let (subscript, subscripts) = subscripts.split_first()?;
+    if *subscript < 1 || i64::from(*extent) < *subscript {
         return None;
     }
     let behind = place_in(extents, subscripts)?;
-    Some(place_in_front(extent, subscript, behind))
+    Some(place_in_front(*extent, *subscript, behind))
 }
 
 /// The node of a machine at subscripts from 1 in a shape of these extents, in column order. None exactly

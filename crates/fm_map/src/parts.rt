@@ -6,7 +6,7 @@ ghost use Rattle.fm_map.specs.Placement.{part_of};
 use fm_base::Machine;
 
 /// Whether each node of a machine has a number below 4,294,967,296.
-pub fn is_numbered(machine: Machine) -> bool
+pub(crate) fn is_numbered(machine: Machine) -> bool
     ensures { result ≡ nat_le (machine.first + machine.count) 4294967296 }
 {
     u64::from(machine.first) + u64::from(machine.count) <= 4_294_967_296

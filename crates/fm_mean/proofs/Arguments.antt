@@ -18,10 +18,10 @@ use Rattle.fm_values.specs.Places as array
 use Rattle.fm_values.specs.Places.{element_place, size}
 use Rattle.fm_values.proofs.PlaceLaws.{place_below}
 use Rattle.fm_symbols.specs.Headings.{is_function}
-use Rattle.fm_symbols.specs.Context.{symbols_of}
+use Rattle.fm_symbols.specs.Context.{symbols_of, symbol_place}
 use Rattle.fm_symbols.specs.declared.names.Variable.{Variable}
 use Rattle.fm_net.specs.Typed.{AllIn}
-use Rattle.fm_mean.specs.Names.{ProgramUnit, unit_named, kind_of, place_in, variable_at, variable_of}
+use Rattle.fm_mean.specs.Names.{ProgramUnit, unit_named, kind_of, variable_at, variable_of}
 use Rattle.fm_mean.specs.declared.place.Actual.{Actual}
 use Rattle.fm_mean.specs.declared.place.Span.{Span}
 use Rattle.fm_mean.specs.declared.place.Actual.TheVariants.{Given}
@@ -58,7 +58,7 @@ variable_at_there vs (Some i) j v e = go (slice_get vs i) refl e
     go (Some w) is e' = subst (λ (x : ℕ × Variable). slice_get vs x.0 ≡ Some x.1) (same_pair (i, w) (j, v) e') is
 
 pub variable_there : (u : ProgramUnit) (name : List ℕ) (j : ℕ) (v : Variable) → variable_of u name ≡ Some (j, v) → slice_get u.names.variables j ≡ Some v
-variable_there u name j v e = variable_at_there u.names.variables (place_in (get (symbols_of u.names) name)) j v e
+variable_there u name j v e = variable_at_there u.names.variables (symbol_place (get (symbols_of u.names) name)) j v e
 
 function_no_element : (o : Option (ℕ × ProgramUnit)) (i : ℕ) (v : Variable) → function_by o ≡ Element i v → ⊥
 function_no_element None i v e = absurd (cc e)

@@ -1,10 +1,11 @@
 -- What a unit that declares nothing twice says of its names.
-use Rattle.std.proofs.Common.{◌≡◌, inl, inr, ℕ, zero, suc, ◌<◌, arith, Bool, true, false, ◌||◌, ◌&&◌, Some, unwrap_or, List, [], ◌∷◌, ◌++◌, slice_get, refl, sym, ap, ◌∙◌}
+use Rattle.std.proofs.Common.{◌≡◌, inl, inr, ℕ, zero, suc, ◌<◌, arith, Bool, true, false, ◌||◌, ◌&&◌, Some, unwrap_or, List, [], ◌∷◌, ◌++◌, slice_get, option_map, refl, sym, ap, ◌∙◌, subst}
 use Rattle.std.specs.List.{flat_map}
+use Rattle.std.proofs.lemmas.Grind.{flat_map-append}
+use Rattle.std.proofs.lemmas.Option.{slice_get-map}
 use Rattle.fm_base.specs.declared.name.Line.{Line}
-use Rattle.fm_base.specs.declared.rule.Refusal.{Refusal}
 use Rattle.fm_base.specs.declared.rule.Rule.TheVariants.{E30}
-use Rattle.fm_base.specs.Verdict.{place, when}
+use Rattle.fm_base.specs.Verdict.{place}
 use Rattle.fm_tree.specs.declared.program_unit.Placed.{Placed}
 use Rattle.fm_tree.specs.declared.program_unit.Unit as tree
 use Rattle.fm_tree.specs.declared.statement.Defined.{Defined}
@@ -15,11 +16,12 @@ use Rattle.fm_symbols.specs.Headings.{heading_formals, heading_kind, heading_nam
 use Rattle.fm_rules.specs.ConstantParts.{definitions_in}
 use Rattle.fm_rules.specs.declared.sheet.Aspect.{Aspect}
 use Rattle.fm_rules.specs.declared.sheet.Aspect.TheVariants as aspect
-use Rattle.fm_rules.specs.Declarations.{Fact, fact, constant_fact, name_facts, facts_by, facts_in, facts_of, same_aspect, says, said, clashes, takes_function, clashes_behind, declared_twice_in, repeated_processors}
+use Rattle.fm_rules.specs.Declarations.{Fact, fact, constant_fact, name_facts, facts_by, facts_in, facts_of, same_aspect, says, said, clash_of, clashes, clashes_among, takes_function, declared_twice_in, repeated_processors}
 use Rattle.fm_rules.specs.FunctionTitles.{is_other_function}
+use Rattle.fm_rules.proofs.Earlier.{behind, behind_append, with_earlier_behind}
 use Rattle.fm_mean.proofs.Unbroken.{left_empty, right_empty, not_when, or_left, or_right}
 use Rattle.fm_mean.specs.Names.{same_name}
-use Rattle.fm_mean.proofs.Members.{In, in_left, in_map, in_flat, got_in, passes, same_names}
+use Rattle.fm_mean.proofs.Members.{In, in_left, in_right, in_map, in_flat, got_in, passes, same_names}
 
 never : true ≡ false → ⊥
 never e = absurd (cc)
@@ -37,93 +39,95 @@ says_self name what f named alike = both (same_name name f.name) (same_aspect wh
 was_said : (facts : List Fact) (g : Fact) (name : List ℕ) (what : Aspect) → In g facts → g.name ≡ name → same_aspect what g.what ≡ true → said facts name what ≡ true
 was_said facts g name what h named alike = passes (says name what) g facts h (says_self name what g named alike)
 
+-- a fact of a list, with those that stand before it, some of which are named
+record Later (listed : List (List Fact × Fact)) (some : List Fact) (f : Fact) : Type 0 where
+  before : List Fact
+  here : In (before, f) listed
+  kept : (g : Fact) → In g some → In g before
+
+later : (before fs : List Fact) (f : Fact) → In f fs → Later (behind before fs) before f
+later before [] f h = absurd h
+later before (x ∷ fs) f (inl e) = record { before = before; here = inl (ap (λ (y : Fact). (before, y)) e); kept = λ g k. k }
+later before (x ∷ fs) f (inr h) =
+    let r = later (before ++ x ∷ []) fs f h in
+    record { before = r.before; here = inr r.here; kept = λ g k. r.kept g (in_left g before (x ∷ []) k) }
+
+-- of two facts of a list the later one
+later_at : (before fs : List Fact) (j i : ℕ) (g f : Fact) → j < i → slice_get fs j ≡ Some g → slice_get fs i ≡ Some f → Later (behind before fs) (g ∷ []) f
+later_at before [] j i g f less at_g at_f = absurd (cc)
+later_at before (x ∷ fs) j zero g f less at_g at_f = absurd (omega (arith, less))
+later_at before (x ∷ fs) zero (suc i) g f less at_g at_f =
+    let r = later (before ++ x ∷ []) fs f (got_in f fs i at_f) in
+    record { before = r.before; here = inr r.here; kept = λ y k. r.kept y (in_right y before (x ∷ []) (subst (λ (z : Fact). In y (z ∷ [])) (the_fact g x (sym at_g)) k)) }
+  where
+    the_fact : (a b : Fact) → Some a ≡ Some b → a ≡ b
+    the_fact a b e = cc
+later_at before (x ∷ fs) (suc j) (suc i) g f less at_g at_f =
+    let r = later_at (before ++ x ∷ []) fs j i g f (omega (arith, less)) at_g at_f in
+    record { before = r.before; here = inr r.here; kept = r.kept }
+
+in_empty : {X : Type 0} {Y : Type 0} (f : X → List Y) (x : X) (xs : List X) → flat_map f xs ≡ [] → In x xs → f x ≡ []
+in_empty f x [] e h = absurd h
+in_empty f x (y ∷ xs) e (inl same) = ap f (sym same) ∙ left_empty (f y) (flat_map f xs) e
+in_empty f x (y ∷ xs) e (inr h) = in_empty f x xs (right_empty (f y) (flat_map f xs) e) h
+
 module _ (titles : ByName Bool) (heading : Stmt) where
-  -- a fact doesn't clash with those before it
-  one_clean : (before fs : List Fact) (f : Fact) → clashes_behind titles heading before (f ∷ fs) ≡ [] → (clashes (said before f.name) f.what ≡ false) × (takes_function titles heading f ≡ false)
-  one_clean before fs f e =
-      let none = not_when (clashes (said before f.name) f.what || takes_function titles heading f) (place f.line.0 E30)
-      (left_empty (when (clashes (said before f.name) f.what || takes_function titles heading f) (place f.line.0 E30)) (clashes_behind titles heading (f ∷ before) fs) e) in
+  -- none of these facts clashes with those before it
+  abbrev AreClean : List (List Fact × Fact) → Type 0
+  AreClean listed = flat_map (clash_of titles heading) listed ≡ []
+
+  one_clean : (listed : List (List Fact × Fact)) (before : List Fact) (f : Fact) → AreClean listed → In (before, f) listed → (clashes (said before f.name) f.what ≡ false) × (takes_function titles heading f ≡ false)
+  one_clean listed before f e h =
+      let none = not_when (clashes (said before f.name) f.what || takes_function titles heading f) (place f.line.0 E30) (in_empty (clash_of titles heading) (before, f) listed e h) in
       (or_left (clashes (said before f.name) f.what) (takes_function titles heading f) none, or_right (clashes (said before f.name) f.what) (takes_function titles heading f) none)
 
-  rest_clean : (before fs : List Fact) (f : Fact) → clashes_behind titles heading before (f ∷ fs) ≡ [] → clashes_behind titles heading (f ∷ before) fs ≡ []
-  rest_clean before fs f e = right_empty (when (clashes (said before f.name) f.what || takes_function titles heading f) (place f.line.0 E30)) (clashes_behind titles heading (f ∷ before) fs) e
+  behind_clean : (fs : List Fact) → clashes_among titles heading fs ≡ [] → AreClean (behind [] fs)
+  behind_clean fs e = ap (λ (l : List (List Fact × Fact)). flat_map (clash_of titles heading) l) (sym (with_earlier_behind fs)) ∙ e
 
-  -- a fact of a list, with facts before the list
-  pub later : (before fs : List Fact) (f g : Fact) (what : Aspect) → clashes_behind titles heading before fs ≡ [] → In f fs → In g before → g.name ≡ f.name → same_aspect what g.what ≡ true
-      → (all : List Fact) × (said all f.name what ≡ true) × (clashes (said all f.name) f.what ≡ false)
-  later before [] f g what e h k named alike = absurd h
-  later before (x ∷ fs) f g what e (inl s) k named alike =
-      (before, was_said before g f.name what k named alike, ap (λ (x : Fact). clashes (said before x.name) x.what) (sym s) ∙ (one_clean before fs x e).0)
-  later before (x ∷ fs) f g what e (inr h) k named alike = later (x ∷ before) fs f g what (rest_clean before fs x e) h (inr k) named alike
+  parts_clean : (xs ys : List Fact) → AreClean (behind [] (xs ++ ys)) → AreClean (behind [] xs) × AreClean (behind xs ys)
+  parts_clean xs ys e =
+      let front = flat_map (clash_of titles heading) (behind [] xs) in
+      let end = flat_map (clash_of titles heading) (behind xs ys) in
+      let whole : front ++ end ≡ [] =
+      sym (flat_map-append (clash_of titles heading) (behind [] xs) (behind xs ys)) ∙ ap (λ (l : List (List Fact × Fact)). flat_map (clash_of titles heading) l) (sym (behind_append [] xs ys)) ∙ e in
+      (left_empty front end whole, right_empty front end whole)
 
   -- what a fact takes from other FUNCTIONs
-  pub takes_none : (before fs : List Fact) (f : Fact) → clashes_behind titles heading before fs ≡ [] → In f fs → takes_function titles heading f ≡ false
-  takes_none before [] f e h = absurd h
-  takes_none before (x ∷ fs) f e (inl s) = ap (takes_function titles heading) (sym s) ∙ (one_clean before fs x e).1
-  takes_none before (x ∷ fs) f e (inr h) = takes_none (x ∷ before) fs f (rest_clean before fs x e) h
+  pub takes_none : (fs : List Fact) (f : Fact) → clashes_among titles heading fs ≡ [] → In f fs → takes_function titles heading f ≡ false
+  takes_none fs f e h = let r = later [] fs f h in (one_clean (behind [] fs) r.before f (behind_clean fs e) r.here).1
 
-  abbrev onto : List Fact → List Fact → List Fact
-  onto [] before = before
-  onto (x ∷ xs) before = onto xs (x ∷ before)
-
-  behind_clean : (xs before ys : List Fact) → clashes_behind titles heading before (xs ++ ys) ≡ [] → clashes_behind titles heading (onto xs before) ys ≡ []
-  behind_clean [] before ys e = e
-  behind_clean (x ∷ xs) before ys e = behind_clean xs (x ∷ before) ys (rest_clean before (xs ++ ys) x e)
-
-  kept_onto : (xs before : List Fact) (g : Fact) → In g before → In g (onto xs before)
-  kept_onto [] before g h = h
-  kept_onto (x ∷ xs) before g h = kept_onto xs (x ∷ before) g (inr h)
-
-  put_onto : (xs before : List Fact) (g : Fact) → In g xs → In g (onto xs before)
-  put_onto [] before g h = absurd h
-  put_onto (x ∷ xs) before g (inl e) = kept_onto xs (x ∷ before) g (inl e)
-  put_onto (x ∷ xs) before g (inr h) = put_onto xs (x ∷ before) g h
-
-  front_clean : (xs before ys : List Fact) → clashes_behind titles heading before (xs ++ ys) ≡ [] → clashes_behind titles heading before xs ≡ []
-  front_clean [] before ys e = refl
-  front_clean (x ∷ xs) before ys e = joined (when (clashes (said before x.name) x.what || takes_function titles heading x) (place x.line.0 E30)) (clashes_behind titles heading (x ∷ before) xs)
-      (left_empty (when (clashes (said before x.name) x.what || takes_function titles heading x) (place x.line.0 E30)) (clashes_behind titles heading (x ∷ before) (xs ++ ys)) e)
-      (front_clean xs (x ∷ before) ys (rest_clean before (xs ++ ys) x e))
-    where
-      joined : (as' bs : List Refusal) → as' ≡ [] → bs ≡ [] → as' ++ bs ≡ []
-      joined as' bs e h = ap (λ xs. xs ++ bs) e ∙ h
+  -- a fact behind others, and what one of them says
+  pub across : (xs ys : List Fact) (f g : Fact) (what : Aspect) → clashes_among titles heading (xs ++ ys) ≡ [] → In g xs → In f ys → g.name ≡ f.name → same_aspect what g.what ≡ true
+      → (all : List Fact) × (said all f.name what ≡ true) × (clashes (said all f.name) f.what ≡ false)
+  across xs ys f g what e h k named alike =
+      let r = later xs ys f k in
+      (r.before, was_said r.before g f.name what (r.kept g h) named alike, (one_clean (behind xs ys) r.before f (parts_clean xs ys (behind_clean (xs ++ ys) e)).1 r.here).0)
 
   -- names of formals are distinct
-  distinct : (line : Line) (names : List (List ℕ)) (before : List Fact) → clashes_behind titles heading before (name_facts line aspect.Formal names) ≡ [] → (j i : ℕ) (a : List ℕ) → j < i → slice_get names j ≡ Some a → slice_get names i ≡ Some a → ⊥
-  distinct line [] before e j i a less ej ei = absurd (cc)
-  distinct line (x ∷ xs) before e zero zero a less ej ei = absurd (omega (arith, less))
-  distinct line (x ∷ xs) before e (suc j) zero a less ej ei = absurd (omega (arith, less))
-  distinct line (x ∷ xs) before e zero (suc i) a less ej ei =
-      let y = later (fact line aspect.Formal x ∷ before) (name_facts line aspect.Formal xs) (fact line aspect.Formal a) (fact line aspect.Formal x) aspect.Formal
-      (rest_clean before (name_facts line aspect.Formal xs) (fact line aspect.Formal x) e) (in_map (fact line aspect.Formal) a xs (got_in a xs i ei)) (inl refl) (the_name x a ej) refl in
-      never (sym y.1 ∙ y.2)
+  distinct : (line : Line) (names : List (List ℕ)) (before : List Fact) → AreClean (behind before (name_facts line aspect.Formal names)) → (j i : ℕ) (a : List ℕ) → j < i → slice_get names j ≡ Some a → slice_get names i ≡ Some a → ⊥
+  distinct line names before e j i a less at_j at_i =
+      let f = fact line aspect.Formal a in
+      let fs = name_facts line aspect.Formal names in
+      let r = later_at before fs j i f f less (of_name j at_j) (of_name i at_i) in
+      never (sym (was_said r.before f a aspect.Formal (r.kept f (inl refl)) refl refl) ∙ (one_clean (behind before fs) r.before f e r.here).0)
     where
-      the_name : (a b : List ℕ) → Some a ≡ Some b → a ≡ b
-      the_name a b e = cc
-  distinct line (x ∷ xs) before e (suc j) (suc i) a less ej ei =
-      distinct line xs (fact line aspect.Formal x ∷ before) (rest_clean before (name_facts line aspect.Formal xs) (fact line aspect.Formal x) e) j i a (omega (arith, less)) ej ei
+      of_name : (k : ℕ) → slice_get names k ≡ Some a → slice_get (name_facts line aspect.Formal names) k ≡ Some (fact line aspect.Formal a)
+      of_name k at = slice_get-map (fact line aspect.Formal) names k ∙ ap (option_map (fact line aspect.Formal)) at
 
-  formals_clean : (line : Line) (t : Stmt) → clashes_behind titles heading [] (facts_by line t) ≡ [] → (before : List Fact) × (clashes_behind titles heading before (name_facts line aspect.Formal (heading_formals t)) ≡ [])
+  formals_clean : (line : Line) (t : Stmt) → AreClean (behind [] (facts_by line t)) → (before : List Fact) × AreClean (behind before (name_facts line aspect.Formal (heading_formals t)))
   unfolding heading_formals facts_by
   formals_clean line (stmt.Process n formals) e = ([], e)
   formals_clean line (stmt.Subroutine n formals) e = ([], e)
-  formals_clean line (stmt.Function n formals) e = (_, rest_clean [] (name_facts line aspect.Formal formals) (fact line aspect.Own n) e)
-  formals_clean line (stmt.IntegerFunction n formals) e =
-      (_, rest_clean (fact line aspect.Own n ∷ []) (name_facts line aspect.Formal formals) (fact line aspect.Value n) (rest_clean [] (fact line aspect.Value n ∷ name_facts line aspect.Formal formals) (fact line aspect.Own n) e))
-  formals_clean line (stmt.LogicalFunction n formals) e =
-      (_, rest_clean (fact line aspect.Own n ∷ []) (name_facts line aspect.Formal formals) (fact line aspect.Value n) (rest_clean [] (fact line aspect.Value n ∷ name_facts line aspect.Formal formals) (fact line aspect.Own n) e))
+  formals_clean line (stmt.Function n formals) e = (_, (parts_clean (fact line aspect.Own n ∷ []) (name_facts line aspect.Formal formals) e).1)
+  formals_clean line (stmt.IntegerFunction n formals) e = (_, (parts_clean (fact line aspect.Own n ∷ fact line aspect.Value n ∷ []) (name_facts line aspect.Formal formals) e).1)
+  formals_clean line (stmt.LogicalFunction n formals) e = (_, (parts_clean (fact line aspect.Own n ∷ fact line aspect.Value n ∷ []) (name_facts line aspect.Formal formals) e).1)
   formals_clean line t e = ([], refl)
-
-  -- a fact behind others
-  pub across : (xs ys : List Fact) (f g : Fact) (what : Aspect) → clashes_behind titles heading [] (xs ++ ys) ≡ [] → In g xs → In f ys → g.name ≡ f.name → same_aspect what g.what ≡ true
-      → (all : List Fact) × (said all f.name what ≡ true) × (clashes (said all f.name) f.what ≡ false)
-  across xs ys f g what e k h named alike = later (onto xs []) ys f g what (behind_clean xs [] ys e) h (put_onto xs [] g k) named alike
 
 -- ---- a unit
 
 module _ (titles : ByName Bool) (u : tree.Unit) (clean : declared_twice_in titles u ≡ []) where
-  facts_clean : clashes_behind titles u.heading.stmt [] (facts_in u.heading ++ flat_map facts_in u.specs) ≡ []
-  facts_clean = left_empty (clashes_behind titles u.heading.stmt [] (facts_of u)) (repeated_processors u.specs) clean
+  facts_clean : clashes_among titles u.heading.stmt (facts_in u.heading ++ flat_map facts_in u.specs) ≡ []
+  facts_clean = left_empty (clashes_among titles u.heading.stmt (facts_of u)) (repeated_processors u.specs) clean
 
   -- what is said of formals
   named_in : (line : Line) (what : Aspect) (names : List (List ℕ)) (i : ℕ) (name : List ℕ) → slice_get names i ≡ Some name → In (fact line what name) (name_facts line what names)
@@ -188,11 +192,13 @@ module _ (titles : ByName Bool) (u : tree.Unit) (clean : declared_twice_in title
   -- a formal is no other FUNCTION's name
   pub no_formal_function : (i : ℕ) (name : List ℕ) → slice_get (heading_formals u.heading.stmt) i ≡ Some name → is_other_function titles u.heading.stmt name ≡ false
   no_formal_function i name e =
-      takes_none titles u.heading.stmt [] (facts_in u.heading ++ flat_map facts_in u.specs) (fact u.heading.line aspect.Formal name) facts_clean
+      takes_none titles u.heading.stmt (facts_in u.heading ++ flat_map facts_in u.specs) (fact u.heading.line aspect.Formal name) facts_clean
       (in_left (fact u.heading.line aspect.Formal name) (facts_in u.heading) (flat_map facts_in u.specs) (formal_said u.heading.line u.heading.stmt i name e))
 
   -- no formal stands twice
   pub formals_distinct : (j i : ℕ) (a : List ℕ) → j < i → slice_get (heading_formals u.heading.stmt) j ≡ Some a → slice_get (heading_formals u.heading.stmt) i ≡ Some a → ⊥
   formals_distinct j i a less ej ei =
-      let x = formals_clean titles u.heading.stmt u.heading.line u.heading.stmt (front_clean titles u.heading.stmt (facts_in u.heading) [] (flat_map facts_in u.specs) facts_clean) in
+      let facts = facts_in u.heading ++ flat_map facts_in u.specs in
+      let front = (parts_clean titles u.heading.stmt (facts_in u.heading) (flat_map facts_in u.specs) (behind_clean titles u.heading.stmt facts facts_clean)).0 in
+      let x = formals_clean titles u.heading.stmt u.heading.line u.heading.stmt front in
       distinct titles u.heading.stmt u.heading.line (heading_formals u.heading.stmt) x.0 x.1 j i a less ej ei

@@ -31,7 +31,7 @@ use Rattle.fm_rules.specs.declared.typing.Referent.{Referent}
 use Rattle.fm_rules.specs.declared.typing.Referent.TheVariants as referent
 use Rattle.fm_rules.specs.declared.typing.Arguments.{Arguments}
 use Rattle.fm_rules.specs.Typing.{symbol_type, result_in, value_type, operator_kind}
-use Rattle.fm_rules.specs.Expressions.{array_or, arguments_judged, function_referent, in_parentheses, intrinsic_or, judged, no_arguments, operated, reference_judged, referent_of}
+use Rattle.fm_rules.specs.Expressions.{array_or, arguments_judged, function_referent, in_parentheses, intrinsic_or, judged, operated, reference_judged, referent_of}
 use Rattle.fm_rules.specs.declared.program.Program.{Program}
 use Rattle.fm_mean.specs.Names.{ProgramUnit, context, variable_of, unit_named}
 use Rattle.fm_mean.specs.Evaluate.{Scope, Reference, Element, Call, Built, Unknown, function_by, is_array, reference_of}
@@ -280,7 +280,7 @@ module _ (p : Program) (own : HaveNoOwnConstants p) (s : Scope) (same : s.progra
   arg_typed (Number n) h = refl
   arg_typed (Truth b) h = refl
   arg_typed (Named name) h = name_is s (context p) name sizes
-  arg_typed (Ref name args) h = reference_is (arguments_judged (context p) sc (referent_of (context p) sc name) no_arguments 0 args) name h
+  arg_typed (Ref name args) h = reference_is (arguments_judged (context p) sc (referent_of (context p) sc name) 0 args) name h
   arg_typed (Paren e) h = paren_is e (judged (context p) sc e).expr_type (judged (context p) sc e).flags refl (in_parentheses_unflagged p own (judged (context p) sc e).expr_type (judged (context p) sc e).flags h)
   arg_typed (Signed o e) h = refl
   arg_typed (Not e) h = refl

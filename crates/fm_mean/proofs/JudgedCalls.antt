@@ -11,7 +11,7 @@ use Rattle.fm_tree.specs.PortFields.{FieldKind}
 use Rattle.fm_tree.specs.PortReading as reading
 use Rattle.fm_tree.specs.declared.port_type.Kind.{Kind}
 use Rattle.fm_tree.specs.declared.port_type.Kind.TheVariants as kind
-use Rattle.fm_symbols.specs.Context.{symbol_by, symbol_of, symbols_of, scope_of, formal_by, formal_in}
+use Rattle.fm_symbols.specs.Context.{symbol_by, symbol_of, symbols_of, scope_of, formal_by, formal_in, symbol_place}
 use Rattle.fm_symbols.specs.Headings.{heading_formals}
 use Rattle.fm_symbols.specs.declared.context.Context.{Context}
 use Rattle.fm_symbols.specs.declared.context.Scope as symbols
@@ -30,12 +30,12 @@ use Rattle.fm_rules.specs.declared.typing.Arguments.{Arguments}
 use Rattle.fm_rules.specs.Flags.{both, e42, e50}
 use Rattle.fm_rules.specs.Typing.{fits, is_port, same_scalar}
 use Rattle.fm_rules.specs.Expressions as typing
-use Rattle.fm_rules.specs.Expressions.{arguments_judged, fits_wanted, formals_in, is_stray_port, judged, no_arguments, reference_judged, wanted, with_argument}
+use Rattle.fm_rules.specs.Expressions.{arguments_judged, fits_wanted, formals_in, is_stray_port, judged, reference_judged, wanted}
 use Rattle.fm_rules.specs.JudgedStatements as ports
 use Rattle.fm_rules.specs.PortFitting.{is_whole, is_as_long, is_kind_of, fits_formal, breaks_variable, breaks_formal, break_formals}
 use Rattle.fm_rules.specs.PortRules.{actuals_break, breaks_unit}
 use Rattle.fm_rules.specs.declared.program.Program.{Program}
-use Rattle.fm_mean.specs.Names.{ProgramUnit, unit_at, context, place_in, formal_place}
+use Rattle.fm_mean.specs.Names.{ProgramUnit, unit_at, context, formal_place}
 use Rattle.fm_mean.specs.Evaluate.{Scope}
 use Rattle.fm_mean.specs.Fits.{sort_of_variable}
 use Rattle.fm_mean.specs.ValueTypes.{arg_type, ArgumentsAreOf}
@@ -147,7 +147,7 @@ formal_fits u w t o k v (kind.Out p) (b ∷ bs) h some there sized ek eb e stray
 
 -- the formals of a unit are variables, at the places of their numbers
 abbrev pub HaveFormals : ProgramUnit → Type 0
-HaveFormals w = (i : ℕ) (name : List ℕ) → slice_get (heading_formals w.tree.heading.stmt) i ≡ Some name → place_in (get (symbols_of w.names) name) ≡ Some (formal_place w (suc i))
+HaveFormals w = (i : ℕ) (name : List ℕ) → slice_get (heading_formals w.tree.heading.stmt) i ≡ Some name → symbol_place (get (symbols_of w.names) name) ≡ Some (formal_place w (suc i))
 
 -- a fact of each of the trees
 abbrev pub AllTrees : (Tree → Type 0) → Trees → Type 0
@@ -158,7 +158,7 @@ abbrev count_of : Trees → ℕ
 count_of NoTrees = 0
 count_of (More t ts) = suc (count_of ts)
 
-formal_there : (w : ProgramUnit) (name : List ℕ) (i : ℕ) → place_in (get (symbols_of w.names) name) ≡ Some i → (v : Variable) × (slice_get w.names.variables i ≡ Some v) × (get (symbols_of w.names) name ≡ Some (symbol_of i v))
+formal_there : (w : ProgramUnit) (name : List ℕ) (i : ℕ) → symbol_place (get (symbols_of w.names) name) ≡ Some i → (v : Variable) × (slice_get w.names.variables i ≡ Some v) × (get (symbols_of w.names) name ≡ Some (symbol_of i v))
 formal_there w name i e = go (stands w name)
   where
     the_number : (a b : ℕ) → Some a ≡ Some b → a ≡ b
@@ -168,37 +168,25 @@ formal_there w name i e = go (stands w name)
     no e = absurd (cc)
 
     go : Stands w name (get (symbols_of w.names) name) → (v : Variable) × (slice_get w.names.variables i ≡ Some v) × (get (symbols_of w.names) name ≡ Some (symbol_of i v))
-    go (stands_none at none) = absurd (no (sym (ap place_in at) ∙ e))
-    go (stands_constant c at none there) = absurd (no (sym (constant_placeless c) ∙ sym (ap place_in at) ∙ e))
+    go (stands_none at none) = absurd (no (sym (ap symbol_place at) ∙ e))
+    go (stands_constant c at none there) = absurd (no (sym (constant_placeless c) ∙ sym (ap symbol_place at) ∙ e))
     go (stands_variable k v at there here) =
-        let same : k ≡ i = the_number k i (sym (symbol_placed v.kind v.bounds v.words k) ∙ sym (ap place_in at) ∙ e) in
+        let same : k ≡ i = the_number k i (sym (symbol_placed v.kind v.bounds v.words k) ∙ sym (ap symbol_place at) ∙ e) in
         (v, subst (λ k. slice_get w.names.variables k ≡ Some v) same here, subst (λ k. get (symbols_of w.names) name ≡ Some (symbol_of k v)) same at)
 
 module _ (c : Context) (sc : symbols.Scope) (r : Referent) where
-  fit_before : (ts : Trees) (a : Arguments) (i : ℕ) → (arguments_judged c sc r a i ts).fit ≡ true → a.fit ≡ true
-  fit_before NoTrees a i e = e
-  fit_before (More t ts) a i e =
-      let j = judged c sc t in
-      first_so a.fit (fits_wanted (wanted c r i) j.expr_type) (fit_before ts (with_argument a (wanted c r i) j) (i + 1) e)
-
-  flags_before : (ts : Trees) (a : Arguments) (i : ℕ) → IsUnflagged (arguments_judged c sc r a i ts).flags → IsUnflagged a.flags
-  flags_before NoTrees a i h = h
-  flags_before (More t ts) a i h =
-      let j = judged c sc t in
-      left_unflagged a.flags (both j.flags (e50 (is_stray_port (wanted c r i) j.expr_type))) (flags_before ts (with_argument a (wanted c r i) j) (i + 1) h)
-
-  count_is : (ts : Trees) (a : Arguments) (i : ℕ) → (arguments_judged c sc r a i ts).count ≡ i + count_of ts
-  count_is NoTrees a i = omega arith
-  count_is (More t ts) a i = omega (arith, count_is ts (with_argument a (wanted c r i) (judged c sc t)) (i + 1))
+  count_is : (ts : Trees) (i : ℕ) → (arguments_judged c sc r i ts).count ≡ count_of ts
+  count_is NoTrees i = refl
+  count_is (More t ts) i = ap suc (count_is ts (i + 1))
 
   -- each argument breaks nothing
-  pub parts_unflagged : (ts : Trees) (a : Arguments) (i : ℕ) → IsUnflagged (arguments_judged c sc r a i ts).flags → AllTrees (λ t. IsUnflagged (judged c sc t).flags) ts
-  parts_unflagged NoTrees a i h = tt
-  parts_unflagged (More t ts) a i h =
+  pub parts_unflagged : (ts : Trees) (i : ℕ) → IsUnflagged (arguments_judged c sc r i ts).flags → AllTrees (λ t. IsUnflagged (judged c sc t).flags) ts
+  parts_unflagged NoTrees i h = tt
+  parts_unflagged (More t ts) i h =
       let j = judged c sc t in
-      let next = with_argument a (wanted c r i) j in
       let stray = e50 (is_stray_port (wanted c r i) j.expr_type) in
-      (left_unflagged j.flags stray (right_unflagged a.flags (both j.flags stray) (flags_before ts next (i + 1) h)), parts_unflagged ts next (i + 1) h)
+      let rest = (arguments_judged c sc r (i + 1) ts).flags in
+      (left_unflagged j.flags stray (left_unflagged (both j.flags stray) rest h), parts_unflagged ts (i + 1) (right_unflagged (both j.flags stray) rest h))
 
 module _ (c : Context) (s : Scope) (k : ℕ) (w : ProgramUnit) (sizes : HaveSizes w)
     (typed : (t : Tree) → IsUnflagged (judged c (scope_of s.unit.tree s.unit.names) t).flags → ArgIs s.unit (judged c (scope_of s.unit.tree s.unit.names) t).expr_type (arg_type s t)) where
@@ -208,30 +196,30 @@ module _ (c : Context) (s : Scope) (k : ℕ) (w : ProgramUnit) (sizes : HaveSize
   abbrev HasSome : Tree → Type 0
   HasSome t = IsUnflagged (judged c sc t).flags → (judged c sc t).expr_type ≡ Nothing → ⊥
 
-  each_of : (ts : Trees) (names : List (List ℕ)) (a : Arguments) (i : ℕ) → IsUnflagged (arguments_judged c sc (referent.Unit k) a i ts).flags → (arguments_judged c sc (referent.Unit k) a i ts).fit ≡ true
-      → ((j : ℕ) → wanted c (referent.Unit k) (i + j) ≡ slice_get (map (formal_in (symbols_of w.names)) names) j) → ((j : ℕ) (name : List ℕ) → slice_get names j ≡ Some name → place_in (get (symbols_of w.names) name) ≡ Some (formal_place w (suc (i + j))))
+  each_of : (ts : Trees) (names : List (List ℕ)) (i : ℕ) → IsUnflagged (arguments_judged c sc (referent.Unit k) i ts).flags → (arguments_judged c sc (referent.Unit k) i ts).fit ≡ true
+      → ((j : ℕ) → wanted c (referent.Unit k) (i + j) ≡ slice_get (map (formal_in (symbols_of w.names)) names) j) → ((j : ℕ) (name : List ℕ) → slice_get names j ≡ Some name → symbol_place (get (symbols_of w.names) name) ≡ Some (formal_place w (suc (i + j))))
       → count_of ts ≡ length names → AllTrees HasSome ts → break_formals w.names s.unit.names (map (ports.type_of c sc) (list_of ts)) (map (formal_in (symbols_of w.names)) names) ≡ false → ArgumentsAreOf s w (suc i) ts
   unfolding ports.type_of
-  each_of NoTrees names a i h fit at placed many some broken = tt
-  each_of (More t ts) [] a i h fit at placed many some broken = absurd (omega (arith, many))
-  each_of (More t ts) (name ∷ names) a i h fit at placed many some broken =
+  each_of NoTrees names i h fit at placed many some broken = tt
+  each_of (More t ts) [] i h fit at placed many some broken = absurd (omega (arith, many))
+  each_of (More t ts) (name ∷ names) i h fit at placed many some broken =
       let j = judged c sc t in
-      let next = with_argument a (wanted c (referent.Unit k) i) j in
+      let next = arguments_judged c sc (referent.Unit k) (i + 1) ts in
       let stray = e50 (is_stray_port (wanted c (referent.Unit k) i) j.expr_type) in
       let here : i + 0 ≡ i = omega arith in
       let want : wanted c (referent.Unit k) i ≡ Some (formal_in (symbols_of w.names) name) = ap (wanted c (referent.Unit k)) (sym here) ∙ at 0 in
-      let place : place_in (get (symbols_of w.names) name) ≡ Some (formal_place w (suc i)) = placed 0 name refl ∙ ap (λ (i : ℕ). Some (formal_place w (suc i))) here in
+      let place : symbol_place (get (symbols_of w.names) name) ≡ Some (formal_place w (suc i)) = placed 0 name refl ∙ ap (λ (i : ℕ). Some (formal_place w (suc i))) here in
       let v = formal_there w name (formal_place w (suc i)) place in
       let full : wanted c (referent.Unit k) i ≡ Some (formal_by (Some (symbol_of (formal_place w (suc i)) v.0))) = want ∙ ap (λ (o : Option Symbol). Some (formal_by o)) v.2 in
-      let both_flags = right_unflagged a.flags (both j.flags stray) (flags_before c sc (referent.Unit k) ts next (i + 1) h) in
+      let both_flags = left_unflagged (both j.flags stray) next.flags h in
       let own = left_unflagged j.flags stray both_flags in
-      let fits = second_so a.fit (fits_wanted (wanted c (referent.Unit k) i) j.expr_type) (fit_before c sc (referent.Unit k) ts next (i + 1) fit) in
+      let fits = first_so (fits_wanted (wanted c (referent.Unit k) i) j.expr_type) next.fit fit in
       let one = breaks_formal w.names s.unit.names j.expr_type (formal_in (symbols_of w.names) name) in
       let more = break_formals w.names s.unit.names (map (ports.type_of c sc) (list_of ts)) (map (formal_in (symbols_of w.names)) names) in
       let x = formal_fits s.unit w j.expr_type (arg_type s t) (formal_place w (suc i)) v.0 v.0.kind v.0.bounds (typed t own) (some.0 own) v.1 (sizes (formal_place w (suc i)) v.0 v.1) refl refl
       (ap (λ (o : Option Formal). fits_wanted o j.expr_type) (sym full) ∙ fits) (ap (λ (o : Option Formal). is_stray_port o j.expr_type) (sym full) ∙ (right_unflagged j.flags stray both_flags).e50)
       (ap (λ (o : Option Symbol). breaks_formal w.names s.unit.names j.expr_type (formal_by o)) (sym v.2) ∙ or_left one more broken) in
-      let rest = each_of ts names next (i + 1) h fit
+      let rest = each_of ts names (i + 1) (right_unflagged (both j.flags stray) next.flags h) (second_so (fits_wanted (wanted c (referent.Unit k) i) j.expr_type) next.fit fit)
       (λ n. ap (wanted c (referent.Unit k)) (omega arith) ∙ at (suc n))
       (λ n name there. placed (suc n) name there ∙ ap (λ (i : ℕ). Some (formal_place w (suc i))) (omega arith))
       (omega (arith, many)) some.1 (or_right one more broken) in
@@ -242,7 +230,7 @@ module _ (c : Context) (s : Scope) (k : ℕ) (w : ProgramUnit) (sizes : HaveSize
 module _ (p : Program) (s : Scope) (sizes : (k : ℕ) (w : ProgramUnit) → unit_at p k ≡ Some w → HaveSizes w) (formals : (k : ℕ) (w : ProgramUnit) → unit_at p k ≡ Some w → HaveFormals w)
     (typed : (t : Tree) → IsUnflagged (judged (context p) (scope_of s.unit.tree s.unit.names) t).flags → ArgIs s.unit (judged (context p) (scope_of s.unit.tree s.unit.names) t).expr_type (arg_type s t)) where
   abbrev judged_all : ℕ → Trees → Arguments
-  judged_all k ts = arguments_judged (context p) (scope_of s.unit.tree s.unit.names) (referent.Unit k) no_arguments 0 ts
+  judged_all k ts = arguments_judged (context p) (scope_of s.unit.tree s.unit.names) (referent.Unit k) 0 ts
 
   -- the arguments of the unit with a number
   pub arguments_are : (k : ℕ) (w : ProgramUnit) (ts : Trees) → unit_at p k ≡ Some w → IsUnflagged (reference_judged (context p) (referent.Unit k) (judged_all k ts)).flags
@@ -256,9 +244,9 @@ module _ (p : Program) (s : Scope) (sizes : (k : ℕ) (w : ProgramUnit) → unit
       let right = not_false (a.fit && nat_eq a.count (formals_in (slice_get (context p).scopes k))) (right_unflagged a.flags (e42 (not (a.fit && nat_eq a.count (formals_in (slice_get (context p).scopes k))))) h).e42 in
       let count : a.count ≡ formals_in (slice_get (context p).scopes k) = (Decides-eqb a.count (formals_in (slice_get (context p).scopes k))).0 (second_so a.fit (nat_eq a.count (formals_in (slice_get (context p).scopes k))) right) in
       let many : formals_in (slice_get (context p).scopes k) ≡ length fs = ap (λ (o : Option symbols.Scope). formals_in o) there in
-      let counted = count_is (context p) (scope_of s.unit.tree s.unit.names) (referent.Unit k) ts no_arguments 0 in
+      let counted = count_is (context p) (scope_of s.unit.tree s.unit.names) (referent.Unit k) ts 0 in
       let names_here : slice_get p.names.units k ≡ Some w.names = (unit_parts (slice_get p.units.units k) (slice_get p.names.units k) w is).1 in
-      each_of (context p) s k w (sizes k w is) typed ts names no_arguments 0 (left_unflagged a.flags (e42 (not (a.fit && nat_eq a.count (formals_in (slice_get (context p).scopes k))))) h)
+      each_of (context p) s k w (sizes k w is) typed ts names 0 (left_unflagged a.flags (e42 (not (a.fit && nat_eq a.count (formals_in (slice_get (context p).scopes k))))) h)
       (first_so a.fit (nat_eq a.count (formals_in (slice_get (context p).scopes k))) right)
       (λ j. ap (wanted (context p) (referent.Unit k)) (omega arith) ∙ ap (λ (o : Option symbols.Scope). typing.formal_in o j) there)
       (λ j name at. formals k w is j name at ∙ ap (λ (i : ℕ). Some (formal_place w (suc i))) (omega arith))

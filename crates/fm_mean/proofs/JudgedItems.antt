@@ -21,12 +21,11 @@ use Rattle.fm_symbols.specs.declared.symbol.Direction.TheVariants as direction
 use Rattle.fm_symbols.specs.declared.symbol.Scalar.{Scalar}
 use Rattle.fm_symbols.specs.declared.symbol.Scalar.TheVariants as scalar
 use Rattle.fm_rules.specs.declared.flags.Flags.{Flags}
-use Rattle.fm_rules.specs.Flags.{both, no_flags}
 use Rattle.fm_rules.specs.declared.typing.ExprType.{ExprType}
 use Rattle.fm_rules.specs.declared.typing.ExprType.TheVariants.{Value, Array, Port, Ports, Function, Nothing}
 use Rattle.fm_rules.specs.Expressions.{judged}
 use Rattle.fm_rules.specs.VariableTypes.{target_judged, variable_judged}
-use Rattle.fm_rules.specs.TypeStatements.{any_from, in_any}
+use Rattle.fm_rules.specs.TypeStatements.{in_any}
 use Rattle.fm_rules.specs.JudgedStatements as ports
 use Rattle.fm_rules.specs.PortFitting.{goes, is_port_to, lacks_port, lacks_ports, message_in, message_of, port_variable, messages_differ, ports_differ, is_one_port, is_scalar_kind, is_scalar, number_in, has_elements, is_kind_of, is_array_in, fits_field, fit_fields}
 use Rattle.fm_net.specs.Typed.{AllIn}
@@ -43,14 +42,9 @@ use Rattle.fm_mean.proofs.JudgedPlaces.{PlaceIs, PortIs}
 -- ---- lists
 
 -- nothing is broken in one of a list
-pub each_unflagged : {X : Type 0} (g : X → Flags) (before : Flags) (xs : List X) → IsUnflagged (any_from g before xs) → IsUnflagged before × AllIn (λ x. IsUnflagged (g x)) xs
-each_unflagged g before [] h = (h, tt)
-each_unflagged g before (x ∷ xs) h =
-    let rest = each_unflagged g (both before (g x)) xs h in
-    (left_unflagged before (g x) rest.0, (right_unflagged before (g x) rest.0, rest.1))
-
 pub all_unflagged : {X : Type 0} (g : X → Flags) (xs : List X) → IsUnflagged (in_any g xs) → AllIn (λ x. IsUnflagged (g x)) xs
-all_unflagged g xs h = (each_unflagged g no_flags xs h).1
+all_unflagged g [] h = tt
+all_unflagged g (x ∷ xs) h = (left_unflagged (g x) (in_any g xs) h, all_unflagged g xs (right_unflagged (g x) (in_any g xs) h))
 
 pub all_left : {X : Type 0} (P : X → Type 0) (xs ys : List X) → AllIn P (xs ++ ys) → AllIn P xs
 all_left P [] ys h = tt

@@ -23,7 +23,7 @@ use Rattle.fm_rules.specs.declared.typing.Referent.TheVariants as referent
 use Rattle.fm_rules.specs.declared.typing.Arguments.{Arguments}
 use Rattle.fm_rules.specs.Flags.{e41}
 use Rattle.fm_rules.specs.Typing.{symbol_type, plain}
-use Rattle.fm_rules.specs.Expressions.{array_or, arguments_judged, no_arguments}
+use Rattle.fm_rules.specs.Expressions.{array_or, arguments_judged}
 use Rattle.fm_rules.specs.VariableTypes.{element_of, is_bare, is_fixed, subscripted, target_judged, target_named, target_type, variable_judged}
 use Rattle.fm_mean.specs.Names.{ProgramUnit, variable_of}
 use Rattle.fm_mean.specs.Fits.{sort_of_variable}
@@ -180,7 +180,7 @@ module _ (u : ProgramUnit) (c : Context) where
   sc = scope_of u.tree u.names
 
   abbrev subscripts : Var → Arguments
-  subscripts v = arguments_judged c sc (array_or (get sc.symbols v.name) referent.Unknown) no_arguments 0 (trees_from v.subscripts)
+  subscripts v = arguments_judged c sc (array_or (get sc.symbols v.name) referent.Unknown) 0 (trees_from v.subscripts)
 
   -- a variable, as one that holds a port
   pub port_is : (v : Var) → IsUnflagged (variable_judged c sc v).flags → PortIs u v.name (variable_judged c sc v).expr_type

@@ -82,7 +82,7 @@ body_clean ns n c s (y ∷ es) zero x e is =
 body_clean ns n c s (y ∷ es) (suc i) x e is = body_clean ns n c s es i x (right_empty (ports.broken_at ns n c s y.line.0 y.stmt) (ports.broken_body ns n c s es) e) is
 
 module _ (p : Program) (h : HaveMeanings p) (n : ℕ) (u : ProgramUnit) (is : unit_at p n ≡ Some u) where
-  abbrev sc : symbols.Scope
+  abbrev pub sc : symbols.Scope
   sc = scope_of u.tree u.names
 
   entry_types : (i : ℕ) (e : Entry) → slice_get u.tree.body i ≡ Some e → types.broken_in_entry (context p) sc u.names.variables e ≡ []
@@ -140,7 +140,7 @@ module _ (p : Program) (h : HaveMeanings p) (n : ℕ) (u : ProgramUnit) (is : un
         call = not_when b4 (place line E53) (right_empty (w0 ++ w1 ++ w2 ++ w3) w4 r4);
       }
 
-  flags_here : (i : ℕ) (e : Entry) → slice_get u.tree.body i ≡ Some e → IsUnflagged (typed_flags (context p) sc u.names.variables e.stmt)
+  pub flags_here : (i : ℕ) (e : Entry) → slice_get u.tree.body i ≡ Some e → IsUnflagged (typed_flags (context p) sc u.names.variables e.stmt)
   unfolding has_stray_port
   flags_here i e at =
       left_unflagged (typed_flags (context p) sc u.names.variables e.stmt) (e46 (is_function sc.kind && is_barred e.stmt))

@@ -23,7 +23,7 @@ use Rattle.fm_rules.specs.declared.typing.Judgement.{Judgement}
 use Rattle.fm_rules.specs.declared.typing.Referent.{Referent}
 use Rattle.fm_rules.specs.declared.typing.Referent.TheVariants as referent
 use Rattle.fm_rules.specs.Flags.{e43}
-use Rattle.fm_rules.specs.Expressions.{array_or, arguments_judged, function_referent, intrinsic_or, judged, no_arguments, reference_judged, referent_of}
+use Rattle.fm_rules.specs.Expressions.{array_or, arguments_judged, function_referent, intrinsic_or, judged, reference_judged, referent_of}
 use Rattle.fm_rules.specs.TypeStatements.{callee_at, callee_in, calls}
 use Rattle.fm_rules.specs.declared.calls.CallKind.{CallKind}
 use Rattle.fm_rules.specs.JudgedStatements as ports
@@ -49,7 +49,7 @@ never e = absurd (cc)
 -- ---- what a reference that calls is judged to be
 
 -- a reference that calls a unit is judged to be one of this unit, which is a FUNCTION
-abbrev Calls : Program → Referent → Reference → Type 0
+abbrev pub Calls : Program → Referent → Reference → Type 0
 Calls p r m = (k : ℕ) (w : ProgramUnit) → m ≡ Call k w → (r ≡ referent.Unit k) × (unit_at p k ≡ Some w) × (is_function (kind_of w) ≡ true)
 
 array_calls : (p : Program) (j : ℕ) (v : Variable) (kd : Kind) (bs : List (ℤ × ℤ)) (words : ℕ) (r : Referent) (m : Reference) → v.bounds ≡ bs → Calls p r m → Calls p (array_or (Some (symbol_by kd bs words j)) r) (mean.array_or (Some (j, v)) m)
@@ -124,7 +124,7 @@ module _ (p : Program) where
   abbrev mean_rest : Scope → List ℕ → Reference
   mean_rest s name = mean.intrinsic_or (intrinsic_named name) (function_by (unit_named s.program name))
 
-  reference_calls : (s : Scope) (name : List ℕ) → s.program ≡ p → Calls p (referent_of (context p) (scope_of s.unit.tree s.unit.names) name) (reference_of s name)
+  pub reference_calls : (s : Scope) (name : List ℕ) → s.program ≡ p → Calls p (referent_of (context p) (scope_of s.unit.tree s.unit.names) name) (reference_of s name)
   reference_calls s name same = go (stands s.unit name)
     where
       rest : Calls p (ref_rest name) (mean_rest s name)
@@ -175,11 +175,11 @@ module _ (p : Program) (own : HaveNoOwnConstants p) (results : HaveResults p) (s
   reference_of_unit u n is name args sound k callee s calls at =
       let here = reference_calls p s name at.program k callee calls in
       let there : referent_of (context p) (scope_of u.tree u.names) name ≡ referent.Unit k = ap (λ (w : ProgramUnit). referent_of (context p) (scope_of w.tree w.names) name) (sym at.unit) ∙ here.0 in
-      let judged_as : Referent → Judgement = λ r. reference_judged (context p) r (arguments_judged (context p) (scope_of u.tree u.names) r no_arguments 0 args) in
+      let judged_as : Referent → Judgement = λ r. reference_judged (context p) r (arguments_judged (context p) (scope_of u.tree u.names) r 0 args) in
       let flags : IsUnflagged (judged_as (referent.Unit k)).flags = subst (λ (r : Referent). IsUnflagged (judged_as r).flags) there sound.flags in
       let some = some_trees u args (all_right (IsMeant u (context p)) (stands.subscripted (array name) name) (stands.in_trees array args) sound.names) in
       arguments_are p s sizes formals (arg_typed p own s at.program (typed_in u n is s at)) k callee args here.1
-      (subst (λ (w : ProgramUnit). IsUnflagged (reference_judged (context p) (referent.Unit k) (arguments_judged (context p) (scope_of w.tree w.names) (referent.Unit k) no_arguments 0 args)).flags) (sym at.unit) flags)
+      (subst (λ (w : ProgramUnit). IsUnflagged (reference_judged (context p) (referent.Unit k) (arguments_judged (context p) (scope_of w.tree w.names) (referent.Unit k) 0 args)).flags) (sym at.unit) flags)
       (subst (λ (w : ProgramUnit). AllTrees (HasSome w) args) (sym at.unit) some)
       (function_unbroken p k callee here.1 here.2 s.unit.names (map (ports.type_of (context p) (scope_of s.unit.tree s.unit.names)) (list_of args)))
 
@@ -188,21 +188,21 @@ module _ (p : Program) (own : HaveNoOwnConstants p) (results : HaveResults p) (s
   reference_typed u n is t sound = tt
 
   -- the unit that is called
-  callee_is : (c : Context) (kd : CallKind) (o : Option ℕ) (sc : symbols.Scope) (ts : Trees) → IsUnflagged (reference_judged c (callee_at c kd o) (arguments_judged c sc (callee_at c kd o) no_arguments 0 ts)).flags → (k : ℕ) × (o ≡ Some k) × (callee_at c kd o ≡ referent.Unit k)
-  callee_is c kd None sc ts h = absurd (never (right_unflagged (arguments_judged c sc referent.Unknown no_arguments 0 ts).flags (e43 true) h).e43)
+  callee_is : (c : Context) (kd : CallKind) (o : Option ℕ) (sc : symbols.Scope) (ts : Trees) → IsUnflagged (reference_judged c (callee_at c kd o) (arguments_judged c sc (callee_at c kd o) 0 ts)).flags → (k : ℕ) × (o ≡ Some k) × (callee_at c kd o ≡ referent.Unit k)
+  callee_is c kd None sc ts h = absurd (never (right_unflagged (arguments_judged c sc referent.Unknown 0 ts).flags (e43 true) h).e43)
   callee_is c kd (Some k) sc ts h = (k, refl, by_scope (slice_get c.scopes k) refl h)
     where
-      by_kind : (b : Bool) → IsUnflagged (reference_judged c (if b then referent.Unit k else referent.Unknown) (arguments_judged c sc (if b then referent.Unit k else referent.Unknown) no_arguments 0 ts)).flags → (if b then referent.Unit k else referent.Unknown) ≡ referent.Unit k
+      by_kind : (b : Bool) → IsUnflagged (reference_judged c (if b then referent.Unit k else referent.Unknown) (arguments_judged c sc (if b then referent.Unit k else referent.Unknown) 0 ts)).flags → (if b then referent.Unit k else referent.Unknown) ≡ referent.Unit k
       by_kind true h = refl
-      by_kind false h = absurd (never (right_unflagged (arguments_judged c sc referent.Unknown no_arguments 0 ts).flags (e43 true) h).e43)
+      by_kind false h = absurd (never (right_unflagged (arguments_judged c sc referent.Unknown 0 ts).flags (e43 true) h).e43)
 
-      by_scope : (o : Option symbols.Scope) → slice_get c.scopes k ≡ o → IsUnflagged (reference_judged c (callee_in kd k (slice_get c.scopes k)) (arguments_judged c sc (callee_in kd k (slice_get c.scopes k)) no_arguments 0 ts)).flags
+      by_scope : (o : Option symbols.Scope) → slice_get c.scopes k ≡ o → IsUnflagged (reference_judged c (callee_in kd k (slice_get c.scopes k)) (arguments_judged c sc (callee_in kd k (slice_get c.scopes k)) 0 ts)).flags
           → callee_in kd k (slice_get c.scopes k) ≡ referent.Unit k
       by_scope None is h =
-          absurd (never (right_unflagged (arguments_judged c sc referent.Unknown no_arguments 0 ts).flags (e43 true)
-          (subst (λ (o : Option symbols.Scope). IsUnflagged (reference_judged c (callee_in kd k o) (arguments_judged c sc (callee_in kd k o) no_arguments 0 ts)).flags) is h)).e43)
+          absurd (never (right_unflagged (arguments_judged c sc referent.Unknown 0 ts).flags (e43 true)
+          (subst (λ (o : Option symbols.Scope). IsUnflagged (reference_judged c (callee_in kd k o) (arguments_judged c sc (callee_in kd k o) 0 ts)).flags) is h)).e43)
       by_scope (Some x) is h =
-          ap (callee_in kd k) is ∙ by_kind (calls kd x.kind) (subst (λ (o : Option symbols.Scope). IsUnflagged (reference_judged c (callee_in kd k o) (arguments_judged c sc (callee_in kd k o) no_arguments 0 ts)).flags) is h)
+          ap (callee_in kd k) is ∙ by_kind (calls kd x.kind) (subst (λ (o : Option symbols.Scope). IsUnflagged (reference_judged c (callee_in kd k o) (arguments_judged c sc (callee_in kd k o) 0 ts)).flags) is h)
 
   the_pair : (a b : ℕ × ProgramUnit) → Some a ≡ Some b → a ≡ b
   the_pair a b e = cc
@@ -219,12 +219,12 @@ module _ (p : Program) (own : HaveNoOwnConstants p) (results : HaveResults p) (s
       let called = callee_is (context p) kd (get (context p).units name) sc ts h in
       let k = called.0 in
       let there : unit_at p k ≡ Some v.1 = numbered_at k (unit_at p k) v refl (sym (ap (numbered p) called.1) ∙ named) in
-      let flags : IsUnflagged (reference_judged (context p) (referent.Unit k) (arguments_judged (context p) sc (referent.Unit k) no_arguments 0 ts)).flags =
-      subst (λ (r : Referent). IsUnflagged (reference_judged (context p) r (arguments_judged (context p) sc r no_arguments 0 ts)).flags) called.2 h in
+      let flags : IsUnflagged (reference_judged (context p) (referent.Unit k) (arguments_judged (context p) sc (referent.Unit k) 0 ts)).flags =
+      subst (λ (r : Referent). IsUnflagged (reference_judged (context p) r (arguments_judged (context p) sc r 0 ts)).flags) called.2 h in
       let unbroken : breaks_unit p.names.units (context p) u.names (map (ports.type_of (context p) sc) (list_of ts)) (Some k) ≡ false =
       ap (λ (l : List Tree). breaks_unit p.names.units (context p) u.names (map (ports.type_of (context p) sc) l) (Some k)) (list_back args)
       ∙ sym (ap (breaks_unit p.names.units (context p) u.names (map (ports.type_of (context p) sc) args)) called.1) ∙ broken in
       arguments_are p s sizes formals (arg_typed p own s at.program (typed_in u n is s at)) k v.1 ts there
-      (subst (λ (w : ProgramUnit). IsUnflagged (reference_judged (context p) (referent.Unit k) (arguments_judged (context p) (scope_of w.tree w.names) (referent.Unit k) no_arguments 0 ts)).flags) (sym at.unit) flags)
+      (subst (λ (w : ProgramUnit). IsUnflagged (reference_judged (context p) (referent.Unit k) (arguments_judged (context p) (scope_of w.tree w.names) (referent.Unit k) 0 ts)).flags) (sym at.unit) flags)
       (subst (λ (w : ProgramUnit). AllTrees (HasSome w) ts) (sym at.unit) (some_list u args some))
       (subst (λ (w : ProgramUnit). breaks_unit p.names.units (context p) w.names (map (ports.type_of (context p) (scope_of w.tree w.names)) (list_of ts)) (Some k) ≡ false) (sym at.unit) unbroken)

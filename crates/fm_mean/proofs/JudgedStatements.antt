@@ -36,7 +36,7 @@ use Rattle.fm_rules.specs.declared.typing.Referent.TheVariants as referent
 use Rattle.fm_rules.specs.declared.typing.Arguments.{Arguments}
 use Rattle.fm_rules.specs.Flags.{both, e40, e43, e46, e50}
 use Rattle.fm_rules.specs.Typing.{needed, needed_value, operand, operator_kind, result_in, same_scalar, value_type}
-use Rattle.fm_rules.specs.Expressions.{array_or, arguments_judged, function_referent, in_parentheses, intrinsic_or, judged, no_arguments, operated, reference_judged, referent_of}
+use Rattle.fm_rules.specs.Expressions.{array_or, arguments_judged, function_referent, in_parentheses, intrinsic_or, judged, operated, reference_judged, referent_of}
 use Rattle.fm_rules.specs.VariableTypes.{target_judged, target_named, variable_judged}
 use Rattle.fm_rules.specs.TypeStatements.{assignment_flags, call_flags, changes_formal, expr_flags, extra_flags, in_any, integer_flags, loop_flags, loop_variable_flags, optional_flags, port_flags, position_flags, simple_flags, target_flags, typed_flags, value_for}
 use Rattle.fm_rules.specs.declared.calls.CallKind.{CallKind}
@@ -140,7 +140,7 @@ module _ (p : Program) (results : HaveResults p) where
   tree_has_type u array (Truth b) some h e = absurd (cc e)
   tree_has_type u array (Named name) some h e = typed_symbol u (context p) (symbol_in (context p) (scope_of u.tree u.names) name) some.0 e
   tree_has_type u array (Ref name args) some h e =
-      reference_some (scope_of u.tree u.names) (arguments_judged (context p) (scope_of u.tree u.names) (referent_of (context p) (scope_of u.tree u.names) name) no_arguments 0 args) name h e
+      reference_some (scope_of u.tree u.names) (arguments_judged (context p) (scope_of u.tree u.names) (referent_of (context p) (scope_of u.tree u.names) name) 0 args) name h e
   tree_has_type u array (Paren t) some h e =
       let j = judged (context p) (scope_of u.tree u.names) t in
       parenthesized j.expr_type j.flags (λ h e. tree_has_type u array t some h e) h e

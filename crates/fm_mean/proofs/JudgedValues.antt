@@ -12,7 +12,7 @@ use Rattle.fm_tree.specs.PortReading as reading
 use Rattle.fm_tree.specs.declared.port_type.Kind.{Kind}
 use Rattle.fm_tree.specs.declared.port_type.Kind.TheVariants as kind
 use Rattle.fm_tree.specs.declared.program_unit.Unit as tree
-use Rattle.fm_symbols.specs.Context.{symbol_by, symbol_of, symbols_of, constant_symbol, scope_of, scopes_of, unit_numbers, function_at, function_named, is_function_scope, scalar_by, result_in as scope_result}
+use Rattle.fm_symbols.specs.Context.{symbol_by, symbol_of, symbols_of, constant_symbol, scope_of, scopes_of, unit_numbers, function_at, function_named, is_function_scope, scalar_by, result_in as scope_result, symbol_place}
 use Rattle.fm_symbols.specs.Headings.{heading_name, is_function}
 use Rattle.fm_symbols.specs.declared.context.Context.{Context}
 use Rattle.fm_symbols.specs.declared.context.Scope as symbols
@@ -33,9 +33,9 @@ use Rattle.fm_rules.specs.declared.typing.Referent.TheVariants as referent
 use Rattle.fm_rules.specs.declared.typing.Arguments.{Arguments}
 use Rattle.fm_rules.specs.Flags.{e40, e43, e50}
 use Rattle.fm_rules.specs.Typing.{result_in, value_type, operator_kind}
-use Rattle.fm_rules.specs.Expressions.{array_or, arguments_judged, function_referent, in_parentheses, intrinsic_or, judged, no_arguments, operated, reference_judged, referent_of}
+use Rattle.fm_rules.specs.Expressions.{array_or, arguments_judged, function_referent, in_parentheses, intrinsic_or, judged, operated, reference_judged, referent_of}
 use Rattle.fm_rules.specs.declared.program.Program.{Program}
-use Rattle.fm_mean.specs.Names.{ProgramUnit, unit_with, unit_at, numbered, unit_named, context, kind_of, place_in, variable_at, variable_of, variable_if, constant_of, result_variable}
+use Rattle.fm_mean.specs.Names.{ProgramUnit, unit_with, unit_at, numbered, unit_named, context, kind_of, variable_at, variable_of, variable_if, constant_of, result_variable}
 use Rattle.fm_mean.specs.Evaluate.{Scope, Reference, Element, Call, Unknown, function_by, is_array, reference_of}
 use Rattle.fm_mean.specs.Evaluate as mean
 use Rattle.fm_mean.specs.ValueTypes.{word_type, result_type, ref_type, given_by, type_of}
@@ -56,11 +56,11 @@ pub data Stands (u : ProgramUnit) (name : List ℕ) (o : Option Symbol) : Type 0
   stands_constant : (c : Constant) → o ≡ Some (constant_symbol c) → variable_of u name ≡ None → constant_of u name ≡ Some c → Stands u name o
   stands_variable : (k : ℕ) (v : Variable) → o ≡ Some (symbol_of k v) → variable_of u name ≡ Some (k, v) → slice_get u.names.variables k ≡ Some v → Stands u name o
 
-pub constant_placeless : (c : Constant) → place_in (Some (constant_symbol c)) ≡ None
+pub constant_placeless : (c : Constant) → symbol_place (Some (constant_symbol c)) ≡ None
 constant_placeless (constant.Integer n) = refl
 constant_placeless (constant.Logical b) = refl
 
-pub symbol_placed : (k : Kind) (bs : List (ℤ × ℤ)) (words place : ℕ) → place_in (Some (symbol_by k bs words place)) ≡ Some place
+pub symbol_placed : (k : Kind) (bs : List (ℤ × ℤ)) (words place : ℕ) → symbol_place (Some (symbol_by k bs words place)) ≡ Some place
 symbol_placed kind.Integer [] words place = refl
 symbol_placed kind.Integer (b ∷ bs) words place = refl
 symbol_placed kind.Logical [] words place = refl
@@ -73,8 +73,8 @@ symbol_placed (kind.Out t) (b ∷ bs) words place = refl
 pub stands : (u : ProgramUnit) (name : List ℕ) → Stands u name (get (symbols_of u.names) name)
 stands u name = go (get (symbols_of u.names) name) refl
   where
-    placed : (o : Option Symbol) (i : Option ℕ) → get (symbols_of u.names) name ≡ o → place_in o ≡ i → variable_of u name ≡ variable_at u.names.variables i
-    placed o i is at = ap (λ o. variable_at u.names.variables (place_in o)) is ∙ ap (variable_at u.names.variables) at
+    placed : (o : Option Symbol) (i : Option ℕ) → get (symbols_of u.names) name ≡ o → symbol_place o ≡ i → variable_of u name ≡ variable_at u.names.variables i
+    placed o i is at = ap (λ o. variable_at u.names.variables (symbol_place o)) is ∙ ap (variable_at u.names.variables) at
 
     by : (y : Symbol) → get (symbols_of u.names) name ≡ Some y → Comes u.names.constants u.names.variables 0 name y → Stands u name (get (symbols_of u.names) name)
     by y is (from_constant c at made) =
@@ -263,7 +263,7 @@ module _ (p : Program) (own : HaveNoOwnConstants p) where
   value_typed s same (Truth b) q h e = same_kind scalar.Logical q e
   value_typed s same (Named name) q h e = name_typed s (context p) name q e
   value_typed s same (Ref name args) q h e =
-      named_agrees s (arguments_judged (context p) (scope_of s.unit.tree s.unit.names) (referent_of (context p) (scope_of s.unit.tree s.unit.names) name) no_arguments 0 args) name same q h e
+      named_agrees s (arguments_judged (context p) (scope_of s.unit.tree s.unit.names) (referent_of (context p) (scope_of s.unit.tree s.unit.names) name) 0 args) name same q h e
   value_typed s same (Paren t) q h e =
       let j = judged (context p) (scope_of s.unit.tree s.unit.names) t in
       value_typed s same t q (in_parentheses_unflagged j.expr_type j.flags h) (in_parentheses_typed j.expr_type j.flags q e)

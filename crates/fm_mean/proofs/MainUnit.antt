@@ -1,9 +1,10 @@
 -- A program has a PROGRAM: the source has a PROGRAM statement, which stands first in its unit.
-use Rattle.std.proofs.Common.{◌≡◌, ℕ, zero, suc, ◌+◌, ◌<◌, ◌≤◌, Bool, true, false, cond, not, ◌&&◌, Option, Some, None, List, [], ◌∷◌, ◌++◌, length, map, slice_get, get_or, refl, sym, ap, ◌∙◌, subst, arith, append_assoc}
+use Rattle.std.proofs.Common.{◌≡◌, ℕ, zero, suc, ◌+◌, ◌<◌, ◌≤◌, Bool, true, false, cond, not, ◌&&◌, Option, Some, None, option_map, List, [], ◌∷◌, ◌++◌, length, map, slice_get, get_or, refl, sym, ap, ◌∙◌, subst, arith, append_assoc}
 use Rattle.std.specs.Prelude.{if◌then◌else◌, nat_eq}
 use Rattle.std.specs.List.{position_from, cons_option}
 use Rattle.std.proofs.lemmas.Bool.Decides.{nat_tests}
 use Rattle.std.proofs.lemmas.Iterator.Adapters.{position_from-zero}
+use Rattle.std.proofs.lemmas.Option.{slice_get-map}
 use Rattle.fm_base.specs.declared.name.Label.{Label}
 use Rattle.fm_base.specs.declared.name.Line.{Line}
 use Rattle.fm_base.specs.declared.rule.Rule.TheVariants.{E20, E21, E22, E23, E24, E25, E29}
@@ -30,17 +31,16 @@ use Rattle.fm_rules.specs.StructureForms.{misplaced, opener_of}
 use Rattle.fm_rules.specs.StructureLookups.{is_before}
 use Rattle.fm_rules.specs.StructureRules.{is_badly_ended, is_foreign, is_misplaced, is_unmatched, jumps_into_block, lacks_target, repeats_label}
 use Rattle.fm_symbols.specs.Headings.{heading_kind}
-use Rattle.fm_symbols.specs.Context.{scopes_of}
 use Rattle.fm_symbols.specs.declared.names.UnitNames.{UnitNames}
 use Rattle.fm_rules.specs.Units.{units_of}
 use Rattle.fm_rules.specs.UnitTitles.{is_function_named, titles_of}
 use Rattle.fm_rules.specs.BrokenStructure as source
 use Rattle.fm_rules.specs.FunctionTitles as facts
 use Rattle.fm_rules.specs.Names.{unit_names}
-use Rattle.fm_rules.specs.Race.{is_program, is_main}
+use Rattle.fm_rules.specs.Main.{is_program, is_main}
 use Rattle.fm_net.specs.Typed.{AllIn}
 use Rattle.fm_rules.specs.declared.program.Program.{Program}
-use Rattle.fm_mean.specs.Names.{ProgramUnit, unit_with, unit_at, kind_of, context, main_number}
+use Rattle.fm_mean.specs.Names.{ProgramUnit, unit_with, unit_at, kind_of, main_number}
 use Rattle.fm_mean.proofs.Unbroken.{Unbroken, from_rules, left_empty, right_empty, not_when}
 
 -- ---- lists
@@ -123,17 +123,17 @@ late_kept (p ∷ ps) entries place h =
     let a = adds entries place p (bracket_of (form_of p.stmt)) in
     late_kept ps (with_statement (bracket_of (form_of p.stmt)) entries place p) (place + 1) (subst IsLate (sym a.is) (late_more entries a.more h))
 
-program_own : (t : Stmt) (inner : Option Open) → source.is_program t ≡ true → own_forms (form_of t) (contained_form t) inner ≡ form.Heading unit_kind.Program ∷ []
+program_own : (t : Stmt) (inner : Option Open) → source.is_program_statement t ≡ true → own_forms (form_of t) (contained_form t) inner ≡ form.Heading unit_kind.Program ∷ []
 unfolding form_of contained_form
 program_own (stmt.Program name) inner e = refl
 program_own t inner e = absurd (cc e)
 
-program_stays : (t : Stmt) → source.is_program t ≡ true → bracket_of (form_of t) ≡ Stays
+program_stays : (t : Stmt) → source.is_program_statement t ≡ true → bracket_of (form_of t) ≡ Stays
 unfolding form_of bracket_of
 program_stays (stmt.Program name) e = refl
 program_stays t e = absurd (cc e)
 
-late_here : (p : Placed) (entries : List EntryMark) (place : ℕ) → source.is_program p.stmt ≡ true → 1 ≤ length entries → IsLate (with_statement Stays entries place p)
+late_here : (p : Placed) (entries : List EntryMark) (place : ℕ) → source.is_program_statement p.stmt ≡ true → 1 ≤ length entries → IsLate (with_statement Stays entries place p)
 late_here p entries place is some =
     let own = marks_of p.line p.label place (own_forms (form_of p.stmt) (contained_form p.stmt) (head_of (behind entries))) in
     let ends = marks_of p.line None place (ends_behind p (behind (entries ++ own))) in
@@ -146,9 +146,9 @@ late_here p entries place is some =
 late_found : (ps : List Placed) (entries : List EntryMark) (place : ℕ) → 1 ≤ length entries → (source.program_lines ps ≡ [] → ⊥) → IsLate (laid_behind entries place ps)
 late_found [] entries place some lines = absurd (lines refl)
 late_found (p ∷ ps) entries place some lines =
-    go (source.is_program p.stmt) refl (λ longer none. late_found ps (with_statement (bracket_of (form_of p.stmt)) entries place p) (place + 1) longer none)
+    go (source.is_program_statement p.stmt) refl (λ longer none. late_found ps (with_statement (bracket_of (form_of p.stmt)) entries place p) (place + 1) longer none)
   where
-    go : (b : Bool) → source.is_program p.stmt ≡ b
+    go : (b : Bool) → source.is_program_statement p.stmt ≡ b
         → (1 ≤ length (with_statement (bracket_of (form_of p.stmt)) entries place p) → (source.program_lines ps ≡ [] → ⊥) → IsLate (laid_behind entries place (p ∷ ps)))
         → IsLate (laid_behind entries place (p ∷ ps))
     go true is rest =
@@ -161,7 +161,7 @@ late_found (p ∷ ps) entries place some lines =
 
 -- ---- it is broken
 
-entry_clean : (ms : List EntryMark) (k : ℕ) (es : List EntryMark) (i : ℕ) → broken_from ms k es ≡ [] → i < length es → broken_at ms (k + i) ≡ []
+pub entry_clean : (ms : List EntryMark) (k : ℕ) (es : List EntryMark) (i : ℕ) → broken_from ms k es ≡ [] → i < length es → broken_at ms (k + i) ≡ []
 entry_clean ms k [] i e h = absurd (omega (arith, h))
 entry_clean ms k (m ∷ es) zero e h = ap (broken_at ms) (omega arith) ∙ left_empty (broken_at ms k) (broken_from ms (k + 1) es) e
 entry_clean ms k (m ∷ es) (suc i) e h = ap (broken_at ms) (omega arith) ∙ entry_clean ms (k + 1) es i (right_empty (broken_at ms k) (broken_from ms (k + 1) es) e) (omega (arith, h))
@@ -195,7 +195,7 @@ late_broken ms clean h =
 
 -- ---- units
 
-program_kind : (t : Stmt) → source.is_program t ≡ true → is_program (heading_kind t) ≡ true
+program_kind : (t : Stmt) → source.is_program_statement t ≡ true → is_program (heading_kind t) ≡ true
 unfolding heading_kind
 program_kind (stmt.Program name) e = refl
 program_kind t e = absurd (cc e)
@@ -203,7 +203,7 @@ program_kind t e = absurd (cc e)
 -- a unit whose heading is no PROGRAM has no PROGRAM statement
 unit_without : (c : List Placed) → (is_program (heading_kind (get_or c 0 blank_statement).stmt) ≡ true → ⊥) → broken_in_unit (laid_out c) ≡ [] → source.program_lines c ≡ []
 unit_without [] other clean = refl
-unit_without (q ∷ qs) other clean = go (source.is_program q.stmt) refl
+unit_without (q ∷ qs) other clean = go (source.is_program_statement q.stmt) refl
   where
     lines : (ls : List ℕ) → source.program_lines qs ≡ ls → source.program_lines qs ≡ []
     lines [] is = is
@@ -214,7 +214,7 @@ unit_without (q ∷ qs) other clean = go (source.is_program q.stmt) refl
         nothing : (l : ℕ) (ls : List ℕ) → l ∷ ls ≡ [] → ⊥
         nothing l ls e = absurd (cc)
 
-    go : (b : Bool) → source.is_program q.stmt ≡ b → source.program_lines (q ∷ qs) ≡ []
+    go : (b : Bool) → source.is_program_statement q.stmt ≡ b → source.program_lines (q ∷ qs) ≡ []
     go true is = absurd (other (program_kind q.stmt is))
     go false is = ap (λ b. cons_option (if b then Some q.line.0 else None) (source.program_lines qs)) is ∙ lines (source.program_lines qs) refl
 
@@ -268,45 +268,49 @@ some_program ps clean none =
     no_lines [] e h = absurd (cc)
     no_lines (l ∷ ls) e h = absurd (cc)
 
-none_named : (f : tree.Unit → UnitNames) (us : List tree.Unit) (i : ℕ) → position_from is_main i (scopes_of us (map f us)) ≡ None → AllIn IsNoProgram us
-none_named f [] i e = tt
-none_named f (u ∷ us) i e = go (is_program (heading_kind u.heading.stmt)) refl e (λ h. none_named f us (i + 1) h)
+none_named : (us : List tree.Unit) (i : ℕ) → position_from is_main i us ≡ None → AllIn IsNoProgram us
+none_named [] i e = tt
+none_named (u ∷ us) i e = go (is_main u) refl e (λ h. none_named us (i + 1) h)
   where
     no : false ≡ true → ⊥
     no e = absurd (cc)
 
-    go : (b : Bool) → is_program (heading_kind u.heading.stmt) ≡ b → cond b (Some i) (position_from is_main (i + 1) (scopes_of us (map f us))) ≡ None
-        → (position_from is_main (i + 1) (scopes_of us (map f us)) ≡ None → AllIn IsNoProgram us) → AllIn IsNoProgram (u ∷ us)
+    go : (b : Bool) → is_main u ≡ b → cond b (Some i) (position_from is_main (i + 1) us) ≡ None → (position_from is_main (i + 1) us ≡ None → AllIn IsNoProgram us) → AllIn IsNoProgram (u ∷ us)
     go true is h rest = absurd (cc h)
     go false is h rest = ((λ e. no (sym is ∙ e)), rest h)
 
-not_none : (us : List tree.Unit) (ns : List UnitNames) → Unbroken us ns → position_from is_main 0 (scopes_of us ns) ≡ None → ⊥
-not_none us ns h e =
-    let all = none_named (unit_names (facts.titles_of us)) us 0 (subst (λ (ns : List UnitNames). position_from is_main 0 (scopes_of us ns) ≡ None) h.names_are e) in
-    some_program h.statements h.structure (subst (AllIn IsNoProgram) h.units_are all)
+not_none : (us : List tree.Unit) (ns : List UnitNames) → Unbroken us ns → position_from is_main 0 us ≡ None → ⊥
+not_none us ns h e = some_program h.statements h.structure (subst (AllIn IsNoProgram) h.units_are (none_named us 0 e))
 
 -- the unit that is found
-record IsFound (us : List tree.Unit) (ns : List UnitNames) (i m : ℕ) : Type 0 where
+record IsFound (us : List tree.Unit) (i m : ℕ) : Type 0 where
   at : ℕ
   is : m ≡ i + at
-  unit : ProgramUnit
-  here : unit_with (slice_get us at) (slice_get ns at) ≡ Some unit
-  heads : is_program (kind_of unit) ≡ true
+  unit : tree.Unit
+  here : slice_get us at ≡ Some unit
+  heads : is_main unit ≡ true
 
-found : (us : List tree.Unit) (ns : List UnitNames) (i m : ℕ) → position_from is_main i (scopes_of us ns) ≡ Some m → IsFound us ns i m
-found [] ns i m e = absurd (cc)
-found (u ∷ us) [] i m e = absurd (cc)
-found (u ∷ us) (n ∷ ns) i m e = go (is_program (heading_kind u.heading.stmt)) refl e (λ h. found us ns (i + 1) m h)
+found : (us : List tree.Unit) (i m : ℕ) → position_from is_main i us ≡ Some m → IsFound us i m
+found [] i m e = absurd (cc)
+found (u ∷ us) i m e = go (is_main u) refl e (λ h. found us (i + 1) m h)
   where
     the_number : (a b : ℕ) → Some a ≡ Some b → a ≡ b
     the_number a b e = cc
 
-    go : (b : Bool) → is_program (heading_kind u.heading.stmt) ≡ b → cond b (Some i) (position_from is_main (i + 1) (scopes_of us ns)) ≡ Some m
-        → (position_from is_main (i + 1) (scopes_of us ns) ≡ Some m → IsFound us ns (i + 1) m) → IsFound (u ∷ us) (n ∷ ns) i m
-    go true is h next = record { at = zero; is = omega (arith, the_number i m h); unit = record { tree = u; names = n }; here = refl; heads = is }
+    go : (b : Bool) → is_main u ≡ b → cond b (Some i) (position_from is_main (i + 1) us) ≡ Some m → (position_from is_main (i + 1) us ≡ Some m → IsFound us (i + 1) m) → IsFound (u ∷ us) i m
+    go true is h next = record { at = zero; is = omega (arith, the_number i m h); unit = u; here = refl; heads = is }
     go false is h next =
         let rest = next h in
         record { at = suc rest.at; is = omega (arith, rest.is); unit = rest.unit; here = rest.here; heads = rest.heads }
+
+-- each unit has names
+names_there : (us : List tree.Unit) (ns : List UnitNames) (k : ℕ) (u : tree.Unit) → Unbroken us ns → slice_get us k ≡ Some u → slice_get ns k ≡ None → ⊥
+names_there us ns k u h here none =
+    let f = unit_names (facts.titles_of us) in
+    nothing (f u) (sym none ∙ ap (λ (l : List UnitNames). slice_get l k) h.names_are ∙ slice_get-map f us k ∙ ap (option_map f) here)
+  where
+    nothing : (n : UnitNames) → None ≡ Some n → ⊥
+    nothing n e = absurd (cc)
 
 program_is : (k : UnitKind) → is_program k ≡ true → k ≡ unit_kind.Program
 program_is unit_kind.Program e = refl
@@ -325,18 +329,22 @@ pub record HasMain (p : Program) : Type 0 where
 pub main_there : (p : Program) → HasMain p
 main_there p = go (main_number p) refl
   where
-    counted : position_from is_main 0 (context p).scopes ≡ main_number p
-    counted = sym (position_from-zero is_main (context p).scopes)
+    counted : position_from is_main 0 p.units.units ≡ main_number p
+    counted = sym (position_from-zero is_main p.units.units)
+
+    named : (m : ℕ) (u : tree.Unit) → main_number p ≡ Some m → slice_get p.units.units m ≡ Some u → is_main u ≡ true → (o : Option UnitNames) → slice_get p.names.units m ≡ o → HasMain p
+    named m u is here heads None none = absurd (from_rules p ⊥ (λ a b. absurd a) (λ h. names_there p.units.units p.names.units m u h here none))
+    named m u is here heads (Some n) some = record {
+      number = m;
+      is = is;
+      unit = record { tree = u; names = n };
+      here = ap (λ (o : Option tree.Unit). unit_with o (slice_get p.names.units m)) here ∙ ap (unit_with (Some u)) some;
+      heads = program_is (heading_kind u.heading.stmt) heads;
+    }
 
     go : (o : Option ℕ) → main_number p ≡ o → HasMain p
     go None is = absurd (from_rules p ⊥ (λ a b. absurd a) (λ h. not_none p.units.units p.names.units h (counted ∙ is)))
     go (Some m) is =
-        let f = found p.units.units p.names.units 0 m (counted ∙ is) in
+        let f = found p.units.units 0 m (counted ∙ is) in
         let same : f.at ≡ m = omega (arith, f.is) in
-        record {
-          number = m;
-          is = is;
-          unit = f.unit;
-          here = subst (λ k. unit_at p k ≡ Some f.unit) same f.here;
-          heads = program_is (kind_of f.unit) f.heads;
-        }
+        named m f.unit is (subst (λ k. slice_get p.units.units k ≡ Some f.unit) same f.here) f.heads (slice_get p.names.units m) refl

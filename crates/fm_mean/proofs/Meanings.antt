@@ -1,14 +1,15 @@
 -- The names of a unit that breaks no rule: constants, variables, formals.
-use Rattle.std.proofs.Common.{◌≡◌, ◌⊎◌, inl, inr, ℕ, zero, suc, ◌+◌, ◌<◌, ◌==◌, Bool, true, false, cond, Option, Some, None, unwrap_or, List, [], ◌∷◌, ◌++◌, map, slice_get, refl, sym, ap, ◌∙◌, arith}
-use Rattle.std.specs.Prelude.{if◌then◌else◌, fold}
+use Rattle.std.proofs.Common.{◌≡◌, ◌⊎◌, inl, inr, ℕ, zero, suc, ◌+◌, ◌<◌, ◌==◌, Bool, true, false, cond, Option, Some, None, unwrap_or, List, [], ◌∷◌, ◌++◌, map, slice_get, refl, sym, ap, ◌∙◌, subst, arith, ◌||◌}
+use Rattle.std.specs.Prelude.{if◌then◌else◌}
 use Rattle.std.specs.FinMap.{get, empty, get-empty}
 use Rattle.std.specs.Ordering.{nat_cmp}
 use Rattle.std.specs.Cmp.Lexicographic.{slice_cmp}
 use Rattle.std.specs.List.{list_any}
+use Rattle.std.proofs.lemmas.List.Folds.{list_any-append}
 use Rattle.fm_tree.specs.declared.program_unit.Placed.{Placed}
 use Rattle.fm_tree.specs.declared.statement.Defined.{Defined}
 use Rattle.fm_symbols.specs.ByName.{ByName}
-use Rattle.fm_symbols.specs.Context.{constant_entry, constant_symbol, variable_entries, symbol_of}
+use Rattle.fm_symbols.specs.Context.{constant_entry, constant_symbol, variable_entries, symbol_of, symbol_place}
 use Rattle.fm_symbols.specs.declared.names.Constant.{Constant}
 use Rattle.fm_symbols.specs.declared.symbol.Symbol.{Symbol}
 use Rattle.fm_rules.specs.declared.constants.Known.{Known}
@@ -16,14 +17,15 @@ use Rattle.fm_rules.specs.Constants.{constants_of, with_definition, with_definit
 use Rattle.fm_rules.specs.ConstantValues as constants
 use Rattle.fm_rules.specs.ConstantParts.{definitions_in}
 use Rattle.fm_rules.specs.declared.sheet.Occurrence.{Occurrence}
-use Rattle.fm_rules.specs.Occurrences.{is_of, with_occurrence, first_occurrences}
+use Rattle.fm_rules.specs.Occurrences.{is_of, first_occurrences}
+use Rattle.fm_rules.proofs.Earlier.{first_occurrences_behind, firsts_behind}
 use Rattle.fm_rules.specs.declared.sheet.Sheet.{Sheet}
 use Rattle.fm_rules.specs.Sheets.{numbered}
 use Rattle.fm_rules.specs.Variables.{those_that, variable, words_of, laid_out}
-use Rattle.fm_mean.specs.Names.{same_name, constant_in, place_in, formal_from}
+use Rattle.fm_mean.specs.Names.{same_name, constant_in, formal_from}
 use Rattle.fm_mean.proofs.FirstEntries.{or_then, first_entry, new_there}
 use Rattle.fm_mean.proofs.JudgedValues.{symbol_placed}
-use Rattle.fm_mean.proofs.Members.{In, in_left, in_right, in_either, passing, name_is, same_names}
+use Rattle.fm_mean.proofs.Members.{In, in_either, name_is, same_names}
 
 pub none_some : {X : Type 0} (x : X) → None ≡ Some x → ⊥
 none_some x e = absurd (cc)
@@ -146,28 +148,43 @@ constant_found (x ∷ cs) q c e = go (same_name q x.0) refl e (λ h. constant_fo
 
 -- ---- occurrences
 
-kept_one : (os : List Occurrence) (o x : Occurrence) → In x os → In x (with_occurrence os o)
-kept_one os o x h = elim (list_any (is_of o.name) os) as (λ (b : Bool). In x (cond b os (os ++ o ∷ []))) [ true ↦ h | false ↦ in_left x os (o ∷ []) h ]
+either_known : (a b : Bool) → (a || (b || false)) ≡ true → (a ≡ true) ⊎ (b ≡ true)
+either_known true b e = inl refl
+either_known false true e = inr refl
+either_known false false e = absurd (cc e)
 
-kept_all : (xs acc : List Occurrence) (x : Occurrence) → In x acc → In x (fold with_occurrence acc xs)
-kept_all [] acc x h = h
-kept_all (o ∷ xs) acc x h = kept_all xs (with_occurrence acc o) x (kept_one acc o x h)
+-- the name of o is among those before, or the first of its name is here
+abbrev IsNoted : List Occurrence → Occurrence → List Occurrence → Type 0
+IsNoted before o firsts = (list_any (is_of o.name) before ≡ true) ⊎ ((x : Occurrence) × In x firsts × (o.name ≡ x.name))
 
-added : (acc : List Occurrence) (o : Occurrence) → (x : Occurrence) × In x (with_occurrence acc o) × (o.name ≡ x.name)
-added acc o = go (list_any (is_of o.name) acc) refl
-  where
-    go : (b : Bool) → list_any (is_of o.name) acc ≡ b → (x : Occurrence) × In x (cond b acc (acc ++ o ∷ [])) × (o.name ≡ x.name)
-    go true is = let r = passing (is_of o.name) acc is in (r.0, r.1, name_is o.name r.0.name r.2)
-    go false is = (o, in_right o acc (o ∷ []) (inl refl), refl)
+module _ (before rest : List Occurrence) (y o : Occurrence) where
+  noted_here : (b : Bool) → list_any (is_of y.name) before ≡ b → o.name ≡ y.name → IsNoted before o (cond b rest (y ∷ rest))
+  noted_here true is same = inl (ap (λ (n : List ℕ). list_any (is_of n) before) same ∙ is)
+  noted_here false is same = inr (y, inl refl, same)
 
-noted : (os acc : List Occurrence) (o : Occurrence) → In o os → (x : Occurrence) × In x (fold with_occurrence acc os) × (o.name ≡ x.name)
-noted [] acc o h = absurd h
-noted (y ∷ os) acc o (inl s) = let a = added acc y in (a.0, kept_all os (with_occurrence acc y) a.0 a.1, ap (λ (z : Occurrence). z.name) (sym s) ∙ a.2)
-noted (y ∷ os) acc o (inr h) = noted os (with_occurrence acc y) o h
+  noted_by : (b : Bool) → list_any (is_of y.name) before ≡ b → (list_any (is_of o.name) before ≡ true) ⊎ (is_of o.name y ≡ true) → IsNoted before o (cond b rest (y ∷ rest))
+  noted_by b is (inl e) = inl e
+  noted_by b is (inr e) = noted_here b is (name_is o.name y.name e)
+
+  noted_later : (b : Bool) → list_any (is_of y.name) before ≡ b → IsNoted (before ++ y ∷ []) o rest → IsNoted before o (cond b rest (y ∷ rest))
+  noted_later b is (inl e) = noted_by b is (either_known (list_any (is_of o.name) before) (is_of o.name y) (sym (list_any-append (is_of o.name) before (y ∷ [])) ∙ e))
+  noted_later true is (inr r) = inr r
+  noted_later false is (inr r) = inr (r.0, inr r.1, r.2)
+
+noted : (before os : List Occurrence) (o : Occurrence) → In o os → IsNoted before o (firsts_behind before os)
+noted before [] o h = absurd h
+noted before (y ∷ os) o (inl s) =
+    noted_here before (firsts_behind (before ++ y ∷ []) os) y o (list_any (is_of y.name) before) refl (ap (λ (z : Occurrence). z.name) (sym s))
+noted before (y ∷ os) o (inr h) =
+    noted_later before (firsts_behind (before ++ y ∷ []) os) y o (list_any (is_of y.name) before) refl (noted (before ++ y ∷ []) os o h)
 
 -- a name that occurs is among the first occurrences
 pub first_noted : (os : List Occurrence) (o : Occurrence) → In o os → (x : Occurrence) × In x (first_occurrences os) × (o.name ≡ x.name)
-first_noted os o h = noted os [] o h
+first_noted os o h = subst (λ (l : List Occurrence). (x : Occurrence) × In x l × (o.name ≡ x.name)) (sym (first_occurrences_behind os)) (go (noted [] os o h))
+  where
+    go : (false ≡ true) ⊎ ((x : Occurrence) × In x (firsts_behind [] os) × (o.name ≡ x.name)) → (x : Occurrence) × In x (firsts_behind [] os) × (o.name ≡ x.name)
+    go (inl e) = absurd (cc e)
+    go (inr r) = r
 
 pub chosen : (test : Occurrence → Bool) (os : List Occurrence) (o : Occurrence) → In o os → test o ≡ true → In o (those_that test os)
 chosen test [] o h e = absurd h
@@ -213,16 +230,16 @@ what_there s (x ∷ os) w place q y e = go (same_name q x.name) refl e (λ h. wh
 
 -- the place of a formal is that of its variable
 pub formal_here : (s : Sheet) (os : List Occurrence) (w place i : ℕ) (q : List ℕ) (o : Occurrence) → In o os → q ≡ o.name → ((n : List ℕ) → (unwrap_or (get s.formals n) 0 == suc i) ≡ same_name q n)
-    → place_in (first_entry (variable_entries place (laid_out s w os)) q) ≡ Some (formal_from place (suc i) (laid_out s w os))
+    → symbol_place (first_entry (variable_entries place (laid_out s w os)) q) ≡ Some (formal_from place (suc i) (laid_out s w os))
 formal_here s [] w place i q o h e alike = absurd h
 formal_here s (x ∷ os) w place i q o h e alike = go (same_name q x.name) refl h (λ k. formal_here s os (w + words_of s x.name) (place + 1) i q o k e alike)
   where
     go : (b : Bool) → same_name q x.name ≡ b → (x ≡ o) ⊎ In o os
-        → (In o os → place_in (first_entry (variable_entries (place + 1) (laid_out s (w + words_of s x.name) os)) q) ≡ Some (formal_from (place + 1) (suc i) (laid_out s (w + words_of s x.name) os)))
-        → place_in (first_entry (variable_entries place (laid_out s w (x ∷ os))) q) ≡ Some (formal_from place (suc i) (laid_out s w (x ∷ os)))
+        → (In o os → symbol_place (first_entry (variable_entries (place + 1) (laid_out s (w + words_of s x.name) os)) q) ≡ Some (formal_from (place + 1) (suc i) (laid_out s (w + words_of s x.name) os)))
+        → symbol_place (first_entry (variable_entries place (laid_out s w (x ∷ os))) q) ≡ Some (formal_from place (suc i) (laid_out s w (x ∷ os)))
     go true is h rest =
         let rest' = laid_out s (w + words_of s x.name) os in
-        ap (λ b. place_in (cond b (Some (symbol_of place (variable s w x.name))) (first_entry (variable_entries (place + 1) rest') q))) is
+        ap (λ b. symbol_place (cond b (Some (symbol_of place (variable s w x.name))) (first_entry (variable_entries (place + 1) rest') q))) is
         ∙ symbol_placed (variable s w x.name).kind (variable s w x.name).bounds (variable s w x.name).words place
         ∙ sym (ap (λ b. Some (cond b place (formal_from (suc place) (suc i) rest'))) (alike x.name ∙ is))
     go false is (inl s') rest = absurd (no (sym (same_names q x.name (e ∙ ap (λ (z : Occurrence). z.name) (sym s'))) ∙ is))
@@ -231,7 +248,7 @@ formal_here s (x ∷ os) w place i q o h e alike = go (same_name q x.name) refl 
         no e = absurd (cc)
     go false is (inr k) rest =
         let rest' = laid_out s (w + words_of s x.name) os in
-        ap (λ b. place_in (cond b (Some (symbol_of place (variable s w x.name))) (first_entry (variable_entries (place + 1) rest') q))) is ∙ rest k
+        ap (λ b. symbol_place (cond b (Some (symbol_of place (variable s w x.name))) (first_entry (variable_entries (place + 1) rest') q))) is ∙ rest k
         ∙ ap (λ (n : ℕ). Some (formal_from n (suc i) rest')) (omega arith) ∙ sym (ap (λ b. Some (cond b place (formal_from (suc place) (suc i) rest'))) (alike x.name ∙ is))
 
 -- numbers of formals

@@ -5,7 +5,7 @@ use Rattle.fm_tree.specs.PortFields.{FieldKind, Integer, Logical}
 use Rattle.fm_tree.specs.PortReading as reading
 use Rattle.fm_tree.specs.declared.port_type.Kind.{Kind}
 use Rattle.fm_tree.specs.declared.port_type.Kind.TheVariants as kind
-use Rattle.fm_symbols.specs.Context.{symbol_by, symbol_of, constant_symbol, constant_entry, variable_entries, symbols_of}
+use Rattle.fm_symbols.specs.Context.{symbol_by, symbol_of, constant_symbol, constant_entry, variable_entries, symbols_of, symbol_place}
 use Rattle.fm_symbols.specs.declared.names.Constant.{Constant}
 use Rattle.fm_symbols.specs.declared.names.Constant.TheVariants as constant
 use Rattle.fm_symbols.specs.declared.names.Variable.{Variable}
@@ -19,7 +19,7 @@ use Rattle.fm_symbols.specs.declared.context.Context.{Context}
 use Rattle.fm_symbols.specs.Context.{or_else, is_function_scope, function_at, function_named}
 use Rattle.fm_rules.specs.declared.typing.ExprType.TheVariants.{Value}
 use Rattle.fm_rules.specs.Typing.{symbol_type}
-use Rattle.fm_mean.specs.Names.{same_name, constant_in, place_in, variable_at, variable_of}
+use Rattle.fm_mean.specs.Names.{same_name, constant_in, variable_at, variable_of}
 use Rattle.fm_mean.specs.Evaluate.{Scope}
 use Rattle.fm_mean.specs.Fits.{sort_of_variable}
 use Rattle.fm_mean.specs.ValueTypes.{word_type, constant_type, named_type}
@@ -144,7 +144,7 @@ by_variable s name r place (Some w) v is sort = ap (λ (x : Variable). word_type
     the_variable a b e = cc
 
 by_symbol : (s : Scope) (c : Context) (name : List ℕ) (r : Scalar) (o : Option Symbol) → get (symbols_of s.unit.names) name ≡ o → symbol_type (or_else o (function_named c name)) ≡ Value r
-    → named_type s name (variable_at s.unit.names.variables (place_in o)) ≡ Some (field_kind r)
+    → named_type s name (variable_at s.unit.names.variables (symbol_place o)) ≡ Some (field_kind r)
 by_symbol s c name r None is e = absurd (no_value c (get c.units name) r e)
 by_symbol s c name r (Some (symbol.Constant q)) is e = ap Some (constant_typed s.unit.names name q is) ∙ ap (λ q. Some (field_kind q)) (the_scalar q r e)
 by_symbol s c name r (Some (symbol.Variable q place)) is e =

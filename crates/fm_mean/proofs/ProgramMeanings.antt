@@ -16,7 +16,8 @@ use Rattle.fm_tree.specs.declared.statement.Stmt.{Stmt}
 use Rattle.fm_tree.specs.declared.statement.Stmt.TheVariants as stmt
 use Rattle.fm_tree.specs.Layout.{contained_in, laid_out, statement_of, test_of}
 use Rattle.fm_tree.specs.Units.{body_of, cut_of, entries_from, entry_of, unit_of}
-use Rattle.fm_symbols.specs.Context.{constant_entry, variable_entries, context_of, function_at, function_named, is_function_scope, or_else, scalar_by, scope_of, scopes_of, symbol_in, symbols_of, result_in as scope_result, title_entry, titles_from, unit_numbers}
+use Rattle.fm_symbols.specs.Context.{constant_entry, variable_entries, context_of, function_at, function_named, is_function_scope, or_else, scalar_by, scope_of, scopes_of, symbol_in, symbols_of, result_in as scope_result, number_told, unit_numbers, symbol_place}
+use Rattle.fm_symbols.specs.Titles.{heading_of, title_by, titles_from}
 use Rattle.fm_symbols.specs.Headings.{heading_formals, heading_kind, heading_name, is_function}
 use Rattle.fm_symbols.specs.declared.names.UnitNames.{UnitNames}
 use Rattle.fm_symbols.specs.declared.context.Scope as symbols
@@ -24,7 +25,7 @@ use Rattle.fm_symbols.specs.declared.symbol.Symbol.{Symbol}
 use Rattle.fm_symbols.specs.declared.symbol.Symbol.TheVariants as symbol
 use Rattle.fm_rules.specs.Constants.{constants_of}
 use Rattle.fm_rules.specs.NameTypes.{types_of}
-use Rattle.fm_rules.specs.FunctionTitles.{is_other_function, is_function_title, is_own_name, title_by, title_of, titles_of}
+use Rattle.fm_rules.specs.FunctionTitles.{is_other_function, is_function_title, is_own_name, function_told, titles_of}
 use Rattle.fm_rules.specs.declared.sheet.Occurrence.{Occurrence}
 use Rattle.fm_rules.specs.Arrays.{is_array}
 use Rattle.fm_rules.specs.Occurrences.{stands_in, occurrence, in_placed, in_entry, occurrences}
@@ -35,7 +36,7 @@ use Rattle.fm_rules.specs.BrokenNames.{broken_in}
 use Rattle.fm_rules.specs.UnitTitles as source
 use Rattle.fm_net.specs.Typed.{AllIn}
 use Rattle.fm_rules.specs.declared.program.Program.{Program}
-use Rattle.fm_mean.specs.Names.{ProgramUnit, unit_at, context, constant_in, same_name, place_in, formal_from, formal_place}
+use Rattle.fm_mean.specs.Names.{ProgramUnit, unit_at, context, constant_in, same_name, formal_from, formal_place}
 use Rattle.fm_mean.specs.TypedTrees.{HasTypes}
 use Rattle.fm_mean.proofs.Unbroken.{Unbroken, each_empty, from_rules}
 use Rattle.fm_mean.proofs.FirstEntries.{first_entry, first_there}
@@ -57,28 +58,34 @@ never e = absurd (cc)
 -- ---- FUNCTIONs by name
 
 -- the first unit with a name
-titled : (us : List tree.Unit) (m : ℕ) (q : List ℕ) → first_entry (flat_map title_of us) q ≡ Some true → (k : ℕ) × (u : tree.Unit) × (first_entry (titles_from m us) q ≡ Some (m + k)) × (slice_get us k ≡ Some u) × (is_function (heading_kind u.heading.stmt) ≡ true)
+abbrev numbers_from : ℕ → List tree.Unit → List (List ℕ × ℕ)
+numbers_from m us = titles_from number_told m (map heading_of us)
+
+abbrev flags_from : ℕ → List tree.Unit → List (List ℕ × Bool)
+flags_from m us = titles_from function_told m (map heading_of us)
+
+titled : (us : List tree.Unit) (m : ℕ) (q : List ℕ) → first_entry (flags_from m us) q ≡ Some true → (k : ℕ) × (u : tree.Unit) × (first_entry (numbers_from m us) q ≡ Some (m + k)) × (slice_get us k ≡ Some u) × (is_function (heading_kind u.heading.stmt) ≡ true)
 titled [] m q e = absurd (cc)
 titled (u ∷ us) m q e = go (heading_name u.heading.stmt) e (λ h. titled us (m + 1) q h)
   where
     the_flag : (a b : Bool) → Some a ≡ Some b → a ≡ b
     the_flag a b h = cc
 
-    behind : (es : List (List ℕ × ℕ)) → first_entry es q ≡ first_entry (titles_from (m + 1) us) q → (k : ℕ) × (w : tree.Unit) × (first_entry (titles_from (m + 1) us) q ≡ Some (m + 1 + k)) × (slice_get us k ≡ Some w) × (is_function (heading_kind w.heading.stmt) ≡ true)
+    behind : (es : List (List ℕ × ℕ)) → first_entry es q ≡ first_entry (numbers_from (m + 1) us) q → (k : ℕ) × (w : tree.Unit) × (first_entry (numbers_from (m + 1) us) q ≡ Some (m + 1 + k)) × (slice_get us k ≡ Some w) × (is_function (heading_kind w.heading.stmt) ≡ true)
         → (k : ℕ) × (w : tree.Unit) × (first_entry es q ≡ Some (m + k)) × (slice_get (u ∷ us) k ≡ Some w) × (is_function (heading_kind w.heading.stmt) ≡ true)
     behind es same r = (suc r.0, r.1, same ∙ r.2 ∙ ap (λ (n : ℕ). Some n) (omega arith), r.3, r.4)
 
-    by_name : (name : List ℕ) (b : Bool) → same_name q name ≡ b → cond b (Some (is_function (heading_kind u.heading.stmt))) (first_entry (flat_map title_of us) q) ≡ Some true
-        → (first_entry (flat_map title_of us) q ≡ Some true → (k : ℕ) × (w : tree.Unit) × (first_entry (titles_from (m + 1) us) q ≡ Some (m + 1 + k)) × (slice_get us k ≡ Some w) × (is_function (heading_kind w.heading.stmt) ≡ true))
-        → (k : ℕ) × (w : tree.Unit) × (first_entry ((name, m) ∷ titles_from (m + 1) us) q ≡ Some (m + k)) × (slice_get (u ∷ us) k ≡ Some w) × (is_function (heading_kind w.heading.stmt) ≡ true)
+    by_name : (name : List ℕ) (b : Bool) → same_name q name ≡ b → cond b (Some (is_function (heading_kind u.heading.stmt))) (first_entry (flags_from (m + 1) us) q) ≡ Some true
+        → (first_entry (flags_from (m + 1) us) q ≡ Some true → (k : ℕ) × (w : tree.Unit) × (first_entry (numbers_from (m + 1) us) q ≡ Some (m + 1 + k)) × (slice_get us k ≡ Some w) × (is_function (heading_kind w.heading.stmt) ≡ true))
+        → (k : ℕ) × (w : tree.Unit) × (first_entry ((name, m) ∷ numbers_from (m + 1) us) q ≡ Some (m + k)) × (slice_get (u ∷ us) k ≡ Some w) × (is_function (heading_kind w.heading.stmt) ≡ true)
     by_name name true is h rest =
-        (zero, u, ap (λ b. cond b (Some m) (first_entry (titles_from (m + 1) us) q)) is ∙ ap (λ (n : ℕ). Some n) (omega arith), refl, the_flag (is_function (heading_kind u.heading.stmt)) true h)
-    by_name name false is h rest = behind ((name, m) ∷ titles_from (m + 1) us) (ap (λ b. cond b (Some m) (first_entry (titles_from (m + 1) us) q)) is) (rest h)
+        (zero, u, ap (λ b. cond b (Some m) (first_entry (numbers_from (m + 1) us) q)) is ∙ ap (λ (n : ℕ). Some n) (omega arith), refl, the_flag (is_function (heading_kind u.heading.stmt)) true h)
+    by_name name false is h rest = behind ((name, m) ∷ numbers_from (m + 1) us) (ap (λ b. cond b (Some m) (first_entry (numbers_from (m + 1) us) q)) is) (rest h)
 
-    go : (o : Option (List ℕ)) → first_entry (title_by o (is_function (heading_kind u.heading.stmt)) ++ flat_map title_of us) q ≡ Some true
-        → (first_entry (flat_map title_of us) q ≡ Some true → (k : ℕ) × (w : tree.Unit) × (first_entry (titles_from (m + 1) us) q ≡ Some (m + 1 + k)) × (slice_get us k ≡ Some w) × (is_function (heading_kind w.heading.stmt) ≡ true))
-        → (k : ℕ) × (w : tree.Unit) × (first_entry (title_entry m o ++ titles_from (m + 1) us) q ≡ Some (m + k)) × (slice_get (u ∷ us) k ≡ Some w) × (is_function (heading_kind w.heading.stmt) ≡ true)
-    go None e rest = behind (titles_from (m + 1) us) refl (rest e)
+    go : (o : Option (List ℕ)) → first_entry (title_by o (is_function (heading_kind u.heading.stmt)) ++ flags_from (m + 1) us) q ≡ Some true
+        → (first_entry (flags_from (m + 1) us) q ≡ Some true → (k : ℕ) × (w : tree.Unit) × (first_entry (numbers_from (m + 1) us) q ≡ Some (m + 1 + k)) × (slice_get us k ≡ Some w) × (is_function (heading_kind w.heading.stmt) ≡ true))
+        → (k : ℕ) × (w : tree.Unit) × (first_entry (title_by o m ++ numbers_from (m + 1) us) q ≡ Some (m + k)) × (slice_get (u ∷ us) k ≡ Some w) × (is_function (heading_kind w.heading.stmt) ≡ true)
+    go None e rest = behind (numbers_from (m + 1) us) refl (rest e)
     go (Some name) e rest = by_name name (same_name q name) refl e rest
 
 scope_there : (f : tree.Unit → UnitNames) (us : List tree.Unit) (k : ℕ) (u : tree.Unit) → slice_get us k ≡ Some u → slice_get (scopes_of us (map f us)) k ≡ Some (scope_of u (f u))
@@ -97,10 +104,10 @@ function_there us heading q e none = go (get (titles_of us) q) refl e
     first true b e = refl
     first false b e = absurd (cc e)
 
-    titled_here : first_entry (flat_map title_of us) q ≡ Some true → ⊥
+    titled_here : first_entry (flags_from 0 us) q ≡ Some true → ⊥
     titled_here at =
         let r = titled us 0 q at in
-        let number : get (unit_numbers us) q ≡ Some r.0 = first_there (titles_from 0 us) q ∙ r.2 ∙ ap (λ (n : ℕ). Some n) (omega arith) in
+        let number : get (unit_numbers us) q ≡ Some r.0 = first_there (numbers_from 0 us) q ∙ r.2 ∙ ap (λ (n : ℕ). Some n) (omega arith) in
         let scope = scope_there (unit_names (titles_of us)) us r.0 r.1 r.3 in
         none_some (symbol.Function r.0)
         (sym none ∙ ap (function_at (context_of us (names_of us))) number ∙ ap (λ (o : Option symbols.Scope). if is_function_scope o then Some (symbol.Function r.0) else None) scope
@@ -109,7 +116,7 @@ function_there us heading q e none = go (get (titles_of us) q) refl e
     go : (o : Option Bool) → get (titles_of us) q ≡ o → (is_function_title (get (titles_of us) q) && not (is_own_name (heading_name heading) q)) ≡ true → ⊥
     go None is h = absurd (never (sym (first (is_function_title (get (titles_of us) q)) (not (is_own_name (heading_name heading) q)) h) ∙ ap is_function_title is))
     go (Some false) is h = absurd (never (sym (first (is_function_title (get (titles_of us) q)) (not (is_own_name (heading_name heading) q)) h) ∙ ap is_function_title is))
-    go (Some true) is h = titled_here (sym (first_there (flat_map title_of us) q) ∙ is)
+    go (Some true) is h = titled_here (sym (first_there (flags_from 0 us) q) ∙ is)
 
 -- ---- the names of a unit
 
@@ -212,23 +219,23 @@ module _ (p : Program) where
       by_name None is f = unnamed w.tree.heading.stmt function is
       by_name (Some name) is f = f name is
 
-  the_formal : (w : ProgramUnit) (i : ℕ) (o : Option ℕ) (k : ℕ) → unit_at p k ≡ Some w → (name : List ℕ) → slice_get (heading_formals w.tree.heading.stmt) i ≡ Some name → place_in (get (symbols_of w.names) name) ≡ o → o ≡ Some (formal_place w (suc i))
+  the_formal : (w : ProgramUnit) (i : ℕ) (o : Option ℕ) (k : ℕ) → unit_at p k ≡ Some w → (name : List ℕ) → slice_get (heading_formals w.tree.heading.stmt) i ≡ Some name → symbol_place (get (symbols_of w.names) name) ≡ o → o ≡ Some (formal_place w (suc i))
   the_formal w i o k is name at here = go o here
     where
-      rule : Unbroken p.units.units p.names.units → place_in (get (symbols_of w.names) name) ≡ Some (formal_place w (suc i))
+      rule : Unbroken p.units.units p.names.units → symbol_place (get (symbols_of w.names) name) ≡ Some (formal_place w (suc i))
       rule h =
           let u = unit_of_rules p.units.units p.names.units h k w (parts_of p k w is).0 (parts_of p k w is).1 in
-          ap (λ (n : UnitNames). place_in (get (symbols_of n) name)) u.0 ∙ formal_symbol (titles_of p.units.units) w.tree u.1 i name at ∙ sym (ap (λ (n : UnitNames). Some (formal_from 0 (suc i) n.variables)) u.0)
+          ap (λ (n : UnitNames). symbol_place (get (symbols_of n) name)) u.0 ∙ formal_symbol (titles_of p.units.units) w.tree u.1 i name at ∙ sym (ap (λ (n : UnitNames). Some (formal_from 0 (suc i) n.variables)) u.0)
 
       the_number : (a b : ℕ) → Some a ≡ Some b → a ≡ b
       the_number a b e = cc
 
-      go : (o : Option ℕ) → place_in (get (symbols_of w.names) name) ≡ o → o ≡ Some (formal_place w (suc i))
+      go : (o : Option ℕ) → symbol_place (get (symbols_of w.names) name) ≡ o → o ≡ Some (formal_place w (suc i))
       go None is = absurd (refuted (λ h. none_some (formal_place w (suc i)) (sym is ∙ rule h)))
       go (Some j) is = ap (λ (n : ℕ). Some n) (from_rules p (j ≡ formal_place w (suc i)) (ℕ_set j (formal_place w (suc i))) (λ h. the_number j (formal_place w (suc i)) (sym is ∙ rule h)))
 
   formals : (k : ℕ) (w : ProgramUnit) → unit_at p k ≡ Some w → HaveFormals w
-  formals k w is i name at = the_formal w i (place_in (get (symbols_of w.names) name)) k is name at refl
+  formals k w is i name at = the_formal w i (symbol_place (get (symbols_of w.names) name)) k is name at refl
 
   meant_all : (u : ProgramUnit) (names : List (List ℕ)) → ((q : List ℕ) → In q names → IsMeant u (context p) q) → AllIn (IsMeant u (context p)) names
   meant_all u [] f = tt

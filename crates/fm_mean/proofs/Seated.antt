@@ -1,5 +1,5 @@
 -- Each process is on the first node of its machine.
-use Rattle.std.proofs.Common.{◌≡◌, ℕ, suc, ℤ, pos, Bool, true, false, cond, Option, Some, None, List, [], ◌∷◌, ◌++◌, map, length, slice_get, Result, Ok, Err, refl, sym, subst}
+use Rattle.std.proofs.Common.{◌≡◌, ℕ, ℤ, pos, Bool, true, false, cond, Option, Some, None, List, [], ◌∷◌, ◌++◌, map, length, slice_get, Result, Ok, Err, refl, sym, subst}
 use Rattle.std.specs.Ordering.{int_eq}
 use Rattle.std.specs.FinMap as finite
 use Rattle.fm_base.specs.declared.fault.Fault.{Fault}
@@ -30,7 +30,7 @@ use Rattle.fm_mean.specs.Process.{Start, Frame, framed, Kid, Phase, Running, Joi
 use Rattle.fm_base.specs.declared.path.ChanName.{ChanName}
 use Rattle.fm_base.specs.declared.schedule.Machine.{Machine}
 use Rattle.fm_base.specs.declared.fault.Fault.TheVariants.{BadMachine}
-use Rattle.std.specs.Prelude.{◌-ℤ◌, int_le, nat_lt, ◌&&◌, ◌+◌}
+use Rattle.std.specs.Prelude.{nat_lt, ◌+◌}
 use Rattle.fm_tree.specs.Tree.{trees_from}
 use Rattle.fm_tree.specs.declared.statement.Where.TheVariants as put_at
 use Rattle.fm_net.specs.Machine.{Ask}

@@ -7,11 +7,11 @@ use Rattle.fm_net.specs.Typed.{AllIn}
 use Rattle.fm_mean.specs.Operands.{◌>>=◌}
 use Rattle.fm_values.specs.Places.{element_place}
 use Rattle.fm_tree.specs.PortFields.{PortFields, FieldKind, NoFields, FieldThen}
-use Rattle.fm_symbols.specs.Context.{symbols_of, unit_numbers}
+use Rattle.fm_symbols.specs.Context.{symbols_of, unit_numbers, symbol_place}
 use Rattle.std.specs.FinMap.{get}
 use Rattle.fm_symbols.specs.declared.names.Variable.{Variable}
 use Rattle.fm_rules.specs.declared.program.Program.{Program}
-use Rattle.fm_mean.specs.Names.{ProgramUnit, unit_at, numbered, unit_named, place_in, variable_at, variable_of}
+use Rattle.fm_mean.specs.Names.{ProgramUnit, unit_at, numbered, unit_named, variable_at, variable_of}
 use Rattle.fm_mean.specs.declared.place.Span.{Span}
 use Rattle.fm_mean.specs.Evaluate.{Scope, whole, single, spans_by, place_of, places_of, numbers_of, refs_in_var}
 use Rattle.fm_mean.specs.Actions.{scalar_place}
@@ -42,7 +42,7 @@ sort_by vs (Some i) j v e = go (slice_get vs i) refl e
         subst (λ (x : ℕ × Variable). sort_at vs x.0 ≡ Some (sort_of_variable x.1)) both (sort_there vs i w is)
 
 variable_sort : (u : ProgramUnit) (name : List ℕ) (j : ℕ) (v : Variable) → variable_of u name ≡ Some (j, v) → sort_at u.names.variables j ≡ Some (sort_of_variable v)
-variable_sort u name j v e = sort_by u.names.variables (place_in (get (symbols_of u.names) name)) j v e
+variable_sort u name j v e = sort_by u.names.variables (symbol_place (get (symbols_of u.names) name)) j v e
 
 spans_sort : (u : ProgramUnit) (o : Option (ℕ × Variable)) (ts : Trees) (ks : Result (List ℤ) Fault) (x : Span) (s : FieldKind)
     → ((j : ℕ) (v : Variable) → o ≡ Some (j, v) → sort_at u.names.variables j ≡ Some (sort_of_variable v)) → spans_by o ts ks ≡ Ok x → option_map (λ v. (sort_of_variable v.1)) o ≡ Some s → sort_at u.names.variables x.variable ≡ Some s

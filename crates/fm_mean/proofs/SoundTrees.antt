@@ -35,7 +35,7 @@ use Rattle.fm_rules.specs.declared.typing.Referent.TheVariants as referent
 use Rattle.fm_rules.specs.declared.typing.Arguments.{Arguments}
 use Rattle.fm_rules.specs.Flags.{both, e40, e41, e42, e43, e46, e50}
 use Rattle.fm_rules.specs.Typing.{needed, needed_value, operand, operator_kind, plain, symbol_type}
-use Rattle.fm_rules.specs.Expressions.{array_or, arguments_judged, formals_in, in_parentheses, judged, no_arguments, operated, reference_judged, referent_of}
+use Rattle.fm_rules.specs.Expressions.{array_or, arguments_judged, formals_in, in_parentheses, judged, operated, reference_judged, referent_of}
 use Rattle.fm_rules.specs.VariableTypes.{element_of, is_bare, subscripted, target_judged, target_named}
 use Rattle.fm_rules.specs.TypeStatements.{call_flags, callee_of, changes_formal, expr_flags, extra_flags, in_any, integer_flags, item_flags, logical_flags, loop_flags, loop_variable_flags, optional_flags, port_flags, position_flags, printed, simple_flags, target_flags, typed_flags, value_for}
 use Rattle.fm_rules.specs.declared.calls.CallKind.{CallKind}
@@ -121,7 +121,7 @@ module _ (p : Program) (array : List ℕ → Bool) (u : ProgramUnit) where
   both_sound xs ys h k = all_append (Sound p array u) xs ys h k
 
   abbrev arguments_of : List ℕ → Trees → Arguments
-  arguments_of name args = arguments_judged (context p) sc (referent_of (context p) sc name) no_arguments 0 args
+  arguments_of name args = arguments_judged (context p) sc (referent_of (context p) sc name) 0 args
 
   mutual
     -- a tree without broken rules has none in its parts
@@ -131,7 +131,7 @@ module _ (p : Program) (array : List ℕ → Bool) (u : ProgramUnit) where
     parts (Named name) h some = tt
     parts (Ref name args) h some =
         both_sound (applied.applied_each args) (Ref name args ∷ [])
-        (each args (parts_unflagged (context p) sc (referent_of (context p) sc name) args no_arguments 0 (reference_flags (context p) (referent_of (context p) sc name) (arguments_of name args) h))
+        (each args (parts_unflagged (context p) sc (referent_of (context p) sc name) args 0 (reference_flags (context p) (referent_of (context p) sc name) (arguments_of name args) h))
         (meant_right (stands.subscripted (array name) name) (stands.in_trees array args) some))
         (record { flags = h; names = some }, tt)
     parts (Paren t) h some = parts t (parenthesized_flags (judged (context p) sc t).expr_type (judged (context p) sc t).flags h) some
@@ -172,8 +172,8 @@ module _ (p : Program) (array : List ℕ → Bool) (u : ProgramUnit) where
       go false e =
           listed v.subscripts
           (from_trees (λ t. IsUnflagged (judged (context p) sc t).flags) v.subscripts
-          (parts_unflagged (context p) sc (base v) (trees_from v.subscripts) no_arguments 0
-          (subscripted_flags (context p) (base v) (arguments_judged (context p) sc (base v) no_arguments 0 (trees_from v.subscripts)) (h e)))) some.1
+          (parts_unflagged (context p) sc (base v) (trees_from v.subscripts) 0
+          (subscripted_flags (context p) (base v) (arguments_judged (context p) sc (base v) 0 (trees_from v.subscripts)) (h e)))) some.1
 
   port_parts : (v : Var) → IsUnflagged (port_flags (context p) sc v) → Meant (stands.in_var array v) → Sounds (applied.in_var v)
   port_parts v h some = var_parts v (else_flags (is_bare v.subscripts) (plain (symbol_type (symbol_in (context p) sc v.name))) (element_of (context p) sc v) h) some
@@ -226,7 +226,7 @@ module _ (p : Program) (array : List ℕ → Bool) (u : ProgramUnit) where
   call_parts k name ts h some =
       let r = callee_of (context p) k name in
       listed ts (from_trees (λ t. IsUnflagged (judged (context p) sc t).flags) ts
-      (parts_unflagged (context p) sc r (trees_from ts) no_arguments 0 (reference_flags (context p) r (arguments_judged (context p) sc r no_arguments 0 (trees_from ts)) h))) some
+      (parts_unflagged (context p) sc r (trees_from ts) 0 (reference_flags (context p) r (arguments_judged (context p) sc r 0 (trees_from ts)) h))) some
 
   pub simple_parts : (k : Simple) → IsUnflagged (simple_flags (context p) sc u.names.variables k) → Meant (stands.in_simple array k) → Sounds (applied.in_simple k)
   unfolding simple_flags stands.in_simple applied.in_simple

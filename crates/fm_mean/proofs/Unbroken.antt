@@ -16,7 +16,7 @@ use Rattle.fm_rules.specs.BrokenStructure.{broken_structure}
 use Rattle.fm_rules.specs.Names.{names_of}
 use Rattle.fm_rules.specs.BrokenNames.{broken_names}
 use Rattle.fm_rules.specs.Broken.{Then, IsBrokenUnit, IsBrokenUse}
-use Rattle.fm_rules.specs.Program.{IsLawful}
+use Rattle.fm_rules.specs.Program.{AreShaped, IsLawful}
 use Rattle.fm_rules.specs.declared.program.Program.{Program}
 
 -- ---- lists that are empty
@@ -66,6 +66,7 @@ next_clean P Q clean q b = clean q (inr (first_clean P Q clean, b))
 -- units and names that break no rule
 pub record Unbroken (us : List tree.Unit) (ns : List UnitNames) : Type 0 where
   pub statements : List Placed
+  pub shaped : AreShaped statements
   pub units_are : us ≡ units_of statements
   pub names_are : ns ≡ names_of us
   pub structure : broken_structure statements ≡ []
@@ -84,6 +85,7 @@ opened units names h =
     let ns = names_of (units_of ps) in
     record {
       statements = ps;
+      shaped = h.1.shaped;
       units_are = h.1.units_are;
       names_are = h.1.names_are ∙ ap names_of (sym h.1.units_are);
       structure = nothing_in (broken_structure ps) (first_clean (Contains (broken_structure ps)) (IsBrokenUnit (units_of ps)) h.1.clean);

@@ -14,7 +14,7 @@ use Rattle.fm_tree.specs.declared.statement.Decl.{Decl}
 use Rattle.fm_tree.specs.declared.statement.Stmt.{Stmt}
 use Rattle.fm_tree.specs.declared.statement.Stmt.TheVariants as stmt
 use Rattle.fm_symbols.specs.ByName.{ByName}
-use Rattle.fm_symbols.specs.Context.{constant_entry, variable_entries, symbols_of, symbol_by, scalar_by}
+use Rattle.fm_symbols.specs.Context.{constant_entry, variable_entries, symbols_of, symbol_by, scalar_by, symbol_place}
 use Rattle.fm_symbols.specs.Headings.{heading_formals, heading_kind, heading_name, is_function}
 use Rattle.fm_symbols.specs.declared.names.Constant.{Constant}
 use Rattle.fm_symbols.specs.declared.symbol.Symbol.{Symbol}
@@ -34,7 +34,7 @@ use Rattle.fm_rules.specs.Sheets.{kind_in, kind_entries, kinds_at, kinds_from, o
 use Rattle.fm_rules.specs.Variables.{is_variable, names_variable, variables_among, variable}
 use Rattle.fm_rules.specs.Names.{unit_names}
 use Rattle.fm_rules.specs.BrokenNames.{broken_in, untyped_in, is_long}
-use Rattle.fm_mean.specs.Names.{same_name, constant_in, place_in, formal_from}
+use Rattle.fm_mean.specs.Names.{same_name, constant_in, formal_from}
 use Rattle.fm_mean.proofs.Unbroken.{left_empty, right_empty}
 use Rattle.fm_mean.proofs.FirstEntries.{first_entry, first_there}
 use Rattle.fm_mean.proofs.Members.{In, in_left, in_either, in_map, in_flat, got_in, name_is, same_self, same_names}
@@ -195,13 +195,13 @@ module _ (titles : ByName Bool) (u : tree.Unit) (clean : broken_in titles u ≡ 
           ap (λ (o : Option ℕ). unwrap_or o 0 == suc i) (ap (first_entry (numbered 1 (heading_formals heading))) (sym (name_is q m is)) ∙ here) ∙ (Decides-eqb (1 + i) (suc i)).1 (omega arith)
       go false is = other (first_entry (numbered 1 (heading_formals heading)) m) refl is
 
-  pub formal_symbol : (i : ℕ) (q : List ℕ) → slice_get (heading_formals heading) i ≡ Some q → place_in (get (symbols_of (unit_names titles u)) q) ≡ Some (formal_from 0 (suc i) (unit_names titles u).variables)
+  pub formal_symbol : (i : ℕ) (q : List ℕ) → slice_get (heading_formals heading) i ≡ Some q → symbol_place (get (symbols_of (unit_names titles u)) q) ≡ Some (formal_from 0 (suc i) (unit_names titles u).variables)
   formal_symbol i q e =
       let none = formal_unknown i q e in
       let o = occurrence u.heading.line q in
       let within = in_left o (in_placed array u.heading) (flat_map (in_placed array) u.specs ++ flat_map (in_entry array) u.body) (in_map (occurrence u.heading.line) q (stands_in array heading) (formal_stands array heading i q e)) in
       let x = variable_among q o within refl (variable_if q none (no_formal_function titles u first_parts.0 i q e)) in
-      ap place_in (unknown_symbol q none) ∙ formal_here s (variables_among titles heading s s.first) 0 0 i q x.0 x.1 x.2 (numbers_alike i q e)
+      ap symbol_place (unknown_symbol q none) ∙ formal_here s (variables_among titles heading s s.first) 0 0 i q x.0 x.1 x.2 (numbers_alike i q e)
 
   -- a FUNCTION's own name
   pub own_constant : (q : List ℕ) (c : Constant) → heading_name heading ≡ Some q → is_function (heading_kind heading) ≡ true → constant_in q (unit_names titles u).constants ≡ Some c → ⊥

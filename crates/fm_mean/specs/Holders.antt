@@ -1,7 +1,7 @@
 -- Who holds the open writers of channels.
 -- Source: the Fortran M report (outports; what a process gives back at the end of its block), with this profile's listing of
 -- holders.
-use Rattle.std.specs.Prelude.{ℕ, ◌-◌, cond, List, [], ◌∷◌, map, length, take}
+use Rattle.std.specs.Prelude.{◌-◌, cond, List, [], ◌∷◌, map, length, take}
 use Rattle.std.specs.List.{flat_map}
 use Rattle.std.specs.FinMap.{entries, from_entries}
 use Rattle.fm_base.specs.declared.port.PortValue.{PortValue}

@@ -19,3 +19,9 @@ pub mod Outcome
 pub mod Opening
 pub mod TypedTrees
 pub mod CallsOpen
+pub mod Referring
+pub mod Leads
+pub mod Live
+pub mod NoStep
+pub mod Machines
+pub mod Owed

@@ -1,10 +1,8 @@
 -- What a program says of its units, their names and their entries.
 -- Source: ANSI X3.9-1978, sections 2.4 (program units), 5 (arrays), 15 (functions and subroutines) and 18 (scope of names); the
 -- Fortran M report for PROCESS and ports; this profile for what an element is that nothing was put into.
-use Rattle.std.specs.Prelude.{ℕ, suc, pos, Bool, ◌==◌, cond, Option, Some, None, option_map, List, [], ◌∷◌, replicate, slice_get}
+use Rattle.std.specs.Prelude.{ℕ, suc, pos, ◌==◌, cond, Option, Some, None, option_map, List, [], ◌∷◌, replicate, slice_get}
 use Rattle.std.specs.FinMap.{get}
-use Rattle.std.specs.Ordering.{nat_cmp, eq_by_cmp}
-use Rattle.std.specs.Cmp.Lexicographic.{slice_cmp}
 use Rattle.fm_base.specs.Channels.{Item, Words, Ports}
 use Rattle.fm_tree.specs.declared.form.UnitKind.{UnitKind}
 use Rattle.fm_tree.specs.declared.port_type.Kind.{Kind}
@@ -14,14 +12,13 @@ use Rattle.fm_tree.specs.declared.program_unit.Unit as tree
 use Rattle.fm_rules.specs.declared.entry_links.EntryLinks.{EntryLinks}
 use Rattle.fm_rules.specs.Links.{links_of}
 use Rattle.fm_symbols.specs.Headings.{heading_kind, heading_name}
-use Rattle.fm_symbols.specs.Context.{symbols_of, unit_numbers, context_of}
+use Rattle.fm_symbols.specs.Context.{symbols_of, unit_numbers, context_of, symbol_place}
 use Rattle.fm_symbols.specs.declared.context.Context.{Context}
 use Rattle.fm_symbols.specs.declared.names.Constant.{Constant}
 use Rattle.fm_symbols.specs.declared.names.Variable.{Variable}
 use Rattle.fm_symbols.specs.declared.names.UnitNames.{UnitNames}
-use Rattle.fm_symbols.specs.declared.symbol.Symbol.{Symbol}
-use Rattle.fm_symbols.specs.declared.symbol.Symbol.TheVariants as symbol
-use Rattle.fm_rules.specs.Race.{main_of}
+pub use Rattle.fm_rules.specs.FunctionTitles.{same_name}
+use Rattle.fm_rules.specs.Main.{main_of}
 use Rattle.fm_rules.specs.declared.program.Program.{Program}
 
 -- Units.
@@ -54,22 +51,12 @@ context p = context_of p.units.units p.names.units
 
 -- the number of the PROGRAM
 abbrev pub main_number : Program → Option ℕ
-main_number p = main_of (context p)
+main_number p = main_of p.units.units
 
 abbrev pub kind_of : ProgramUnit → UnitKind
 kind_of u = heading_kind u.tree.heading.stmt
 
 -- Variables and constants.
-
--- the place of what a name means, if that is a variable
-abbrev pub place_in : Option Symbol → Option ℕ
-place_in None = None
-place_in (Some (symbol.Constant s)) = None
-place_in (Some (symbol.Variable s place)) = Some place
-place_in (Some (symbol.Array s place x)) = Some place
-place_in (Some (symbol.Port d place)) = Some place
-place_in (Some (symbol.Ports d place x)) = Some place
-place_in (Some (symbol.Function k)) = None
 
 abbrev pub variable_at : List Variable → Option ℕ → Option (ℕ × Variable)
 variable_at vs None = None
@@ -77,10 +64,7 @@ variable_at vs (Some i) = option_map (λ v. (i, v)) (slice_get vs i)
 
 -- the variable of a name in a unit, with its place among the unit's variables
 abbrev pub variable_of : ProgramUnit → List ℕ → Option (ℕ × Variable)
-variable_of u name = variable_at u.names.variables (place_in (get (symbols_of u.names) name))
-
-abbrev pub same_name : List ℕ → List ℕ → Bool
-same_name = eq_by_cmp (slice_cmp nat_cmp)
+variable_of u name = variable_at u.names.variables (symbol_place (get (symbols_of u.names) name))
 
 abbrev pub constant_in : List ℕ → List (List ℕ × Constant) → Option Constant
 constant_in name [] = None

@@ -6,8 +6,9 @@ mod outcome;
 mod outport;
 mod place;
 
-ghost use Rattle.std.specs.Prelude.{◌≡◌, ◌≤◌, ℕ, Option, Some, List, [], Ok, slice_get};
-ghost use Rattle.fm_sched.specs.Schedule.{Can, Diamond, IsEnding, Settles, Stays, Throughout, next};
+ghost use Rattle.std.specs.FinMap.{get};
+ghost use Rattle.std.specs.Prelude.{◌+◌, ◌≡◌, ◌≤◌, ℕ, Option, Some, unwrap_or, List, [], Ok, slice_get};
+ghost use Rattle.fm_sched.specs.Schedule.{Can, Diamond, IsEnding, IsLegal, Settles, Stays, Throughout, next, play, used};
 ghost use Rattle.fm_net.specs.Lawful.{IsLawfulLanguage};
 ghost use Rattle.fm_net.specs.Machine.{Place, State};
 ghost use Rattle.fm_net.specs.Owned.{GoneIsEmpty, HasOneWriter, IsOwned};
@@ -20,9 +21,9 @@ ghost use Rattle.fm_tree.specs.declared.statement.CallPart.{CallPart};
 ghost use Rattle.fm_tree.specs.declared.statement.Simple.TheVariants as simple;
 ghost use Rattle.fm_tree.specs.declared.statement.Stmt.TheVariants as stmt;
 ghost use Rattle.fm_tree.specs.declared.form.UnitKind.TheVariants as unit_kind;
-ghost use Rattle.fm_rules.specs.Program.{main_of};
+ghost use Rattle.fm_rules.specs.Main.{main_of};
 ghost use Rattle.fm_mean.specs.Names.{ProgramUnit, kind_of, main_number, unit_at, unit_named};
-ghost use Rattle.fm_mean.specs.Actions.{arguments_in, next_reference, trees_in};
+ghost use Rattle.fm_mean.specs.Actions.{action_of, arguments_in, next_reference, trees_in};
 ghost use Rattle.fm_mean.specs.Layout.{AreLaidOut};
 ghost use Rattle.fm_mean.specs.declared.place.Actual.{Actual};
 ghost use Rattle.fm_mean.specs.Evaluate.{Scope, actuals_of};
@@ -30,9 +31,13 @@ ghost use Rattle.fm_mean.specs.Calls.{entered};
 ghost use Rattle.fm_mean.specs.ValueTypes.{AreSized, ArgumentsAreOf};
 ghost use Rattle.fm_mean.specs.Determinism.{IsDeterministic};
 ghost use Rattle.fm_mean.specs.Fits.{Fits, IsFine, Types, ValuesFit};
+ghost use Rattle.fm_mean.specs.Owed.{HaveShortMessages, IsQuiet, OweAtMost, owed};
 ghost use Rattle.fm_mean.specs.Process.{Proc};
+ghost use Rattle.fm_mean.specs.Machines.{HaveMachines};
 ghost use Rattle.fm_mean.specs.Seats.{AreOnFirstNodes};
 ghost use Rattle.fm_mean.specs.Steps.{first, language, step};
+ghost use Rattle.fm_mean.specs.Leads.{AllLead};
+ghost use Rattle.fm_mean.specs.NoStep.{OthersAct, ReasonsHold, RestingHaveReasons};
 ghost use Rattle.fm_mean.specs.CallsOpen.{OpensWhole, ReferenceOpensWhole};
 
 pub use outcome::{At, FaultAt, Holder, Outcome, OutputLine, Shown, ShownVariable, Wait};
@@ -97,6 +102,41 @@ pub fn variables_are_laid_out()
 
 /// There is a PROGRAM, and it is the unit that the checked program names as its main one.
 pub fn main_is_the_program()
-    ensures number { (p : Program) (m : ℕ) → main_number p ≡ Some m → main_of p.units.units ≡ m }
+    ensures number { (p : Program) (m : ℕ) → main_number p ≡ Some m → unwrap_or (main_of p.units.units) 0 ≡ m }
     ensures there { (p : Program) → (m : ℕ) × (u : ProgramUnit) × (main_number p ≡ Some m) × (unit_at p m ≡ Some u) × (kind_of u ≡ unit_kind.Program) }
+{}
+
+/// Each entry of a program leads on: the entry behind it, where its jump, its failing test or its loop goes, the loop that it
+/// ends, and the first entry of the unit that it calls are there.
+pub fn entries_lead_on()
+    ensures { (p : Program) → AllLead p }
+{}
+
+/// Along every schedule a process has no step exactly where it has ended or faulted, or joins a block one of whose children
+/// hasn't ended, or stands at a RECEIVE with no message and an open writer. Only who has ended or faulted has nothing to do.
+pub fn who_has_no_step()
+    ensures waits { (p : Program) → Throughout (step p) (RestingHaveReasons p) (first p) }
+    ensures rests { (p : Program) → Throughout (step p) (ReasonsHold p) (first p) }
+    ensures acts { (p : Program) → Throughout (step p) (OthersAct p) (first p) }
+{}
+
+/// Along every schedule each process is on a node of its machine, whose nodes are numbered below 65,536, and the machine has as
+/// many nodes as PROCESSORS of the process's unit asks for. SUBROUTINEs and FUNCTIONs ask for none.
+pub fn machines_have_nodes()
+    ensures { (p : Program) → Throughout (step p) (HaveMachines p) (first p) }
+{}
+
+/// Along every schedule a step that prints no line and makes no merger of more than 65,536 writers costs at most 131,074 turns
+/// more than all steps before it. For what its process owes for calls and process calls, a turn for each child that is to start
+/// and for each word that may be copied back, was paid before; no message that waits has more than 65,536 words; and the cost
+/// of such a step, with what its process owes after it, is at most 131,074 turns more than what it owed. A unit has at most
+/// 65,536 words.
+pub fn calls_are_paid()
+    ensures along { (p : Program) (cs : List Place) → IsLegal (step p) (first p) cs → (q : Place) (t : State Proc × ℕ) (x : Proc) → step p (play (step p) (first p) cs) q ≡ Some t
+        → get (play (step p) (first p) cs).procs q ≡ Some x → IsQuiet (action_of p x) → t.1 ≤ 131074 + used (step p) (first p) cs }
+    ensures owed { (p : Program) (cs : List Place) → IsLegal (step p) (first p) cs → OweAtMost (used (step p) (first p) cs) (play (step p) (first p) cs) }
+    ensures short { (p : Program) → Throughout (step p) HaveShortMessages (first p) }
+    ensures quiet { (p : Program) (s : State Proc) (q : Place) (t : State Proc × ℕ) (x y : Proc) → HaveShortMessages s → step p s q ≡ Some t
+        → get s.procs q ≡ Some x → get t.0.procs q ≡ Some y → IsQuiet (action_of p x) → t.1 + owed y ≤ 131074 + owed x }
+    ensures small { (p : Program) (n : ℕ) (u : ProgramUnit) → unit_at p n ≡ Some u → u.names.words ≤ 65536 }
 {}

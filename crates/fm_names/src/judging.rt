@@ -3,30 +3,19 @@
 
 ghost use Rattle.std.specs.Prelude.{◌≡◌, nat_lt, IfOk};
 ghost use Rattle.std.specs.List.{flat_map};
-ghost use Rattle.fm_base.specs.Verdict.{least_from, place, when};
+ghost use Rattle.fm_base.specs.Verdict.{least_from};
 ghost use Rattle.fm_rules.specs.BrokenNames.{broken_with, has_type, is_untyped, untyped_at};
 ghost use Rattle.fm_names.specs.Layouts.{words_if};
 ghost use Rattle.fm_rules.specs.Variables.{all_words, is_variable, variables_among, words_of};
 
 use crate::variables::{is_variable, words_of};
-use fm_base::{Line, Name, NoMemory, Refusal, Rule, keep_earlier};
+use fm_base::{Name, NoMemory, Refusal, Rule, keep_if};
 use fm_finmap::NameMap;
 use fm_names_constants::{begins_integer, judge_constants};
 use fm_names_declared::{is_other_function, judge_declarations};
 use fm_rules::{Occurrence, Sheet};
 use fm_tree::{Stmt, Unit};
 use std::alloc::Global;
-
-// The earlier of the best so far and of a rule at a line, where it is broken.
-fn keep_when(broken: bool, line: Line, rule: Rule, best: Option<Refusal>) -> Option<Refusal>
-    ensures { result ≡ least_from best (when broken (place line.0 rule)) }
-{
-    if broken {
-        keep_earlier(best, Refusal { line, rule })
-    } else {
-        best
-    }
-}
 
 fn has_type(sheet: &Sheet, name: &Name) -> bool
     ensures { result ≡ has_type sheet.now name.now }
@@ -52,7 +41,7 @@ fn judge_untyped(
     let mut best = best;
     'first: for occurrence in first {
         let untyped = is_untyped(titles, heading, sheet, &occurrence.name);
-        best = keep_when(untyped, occurrence.line, Rule::E31, best);
+        best = keep_if(best, untyped, occurrence.line, Rule::E31);
     }
     best
 }
@@ -96,5 +85,5 @@ pub(crate) fn judge_unit(
     let best = judge_constants(&sheet.known, &sheet.types, unit.specs.as_slice(), best);
     let best = judge_untyped(titles, heading, sheet, first, best);
     let long = are_long(titles, heading, sheet, first);
-    Ok(keep_when(long, unit.heading.line, Rule::E34, best))
+    Ok(keep_if(best, long, unit.heading.line, Rule::E34))
 }

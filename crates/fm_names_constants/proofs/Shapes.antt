@@ -13,8 +13,9 @@ use Rattle.fm_tree.specs.declared.port_type.Field.{Field}
 use Rattle.fm_symbols.specs.ByName.{ByName}
 use Rattle.fm_rules.specs.declared.constants.Shape.{Shape}
 use Rattle.fm_rules.specs.declared.constants.Known.{Known}
-use Rattle.fm_rules.specs.Bounds.{Dimension, all_known, then_known, is_inverted, count, held, node_count, shape_by, shape_start, shape_with, elements}
+use Rattle.fm_rules.specs.Bounds.{Dimension, all_known, then_known, is_inverted, count, held, node_count, shape_by, elements}
 use Rattle.fm_rules.specs.PortTypes.{message_words}
+use Rattle.fm_names_constants.specs.Shapes.{shape_start, shape_with}
 
 -- a shape with the dimensions that are still to come
 abbrev pub finished : Shape → List Dimension → Shape

@@ -2,8 +2,9 @@
 
 ghost use Rattle.std.specs.Prelude.{◌≡◌, ◌≤◌, IfOk, map};
 ghost use Rattle.fm_values.specs.Places.{extent};
-ghost use Rattle.fm_rules.specs.Bounds.{both, bounds_of, dimension_of, elements, extents_from, held, is_inverted, low_of, machine_dimension, machine_shape, node_count, shape_of, shape_start, shape_with};
+ghost use Rattle.fm_rules.specs.Bounds.{both, bounds_of, dimension_of, elements, extents_from, held, is_inverted, low_of, machine_dimension, machine_shape, node_count, shape_of};
 ghost use Rattle.fm_rules.specs.ConstantParts.{machine_in};
+ghost use Rattle.fm_names_constants.specs.Shapes.{shape_start, shape_with};
 
 use crate::parts::machine_in;
 use crate::values::integer_of;

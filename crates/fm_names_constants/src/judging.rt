@@ -3,7 +3,7 @@
 ghost use Rattle.std.specs.Prelude.{◌≡◌};
 ghost use Rattle.std.specs.Option.{option_map};
 ghost use Rattle.std.specs.List.{flat_map};
-ghost use Rattle.fm_base.specs.Verdict.{least_from, place, when};
+ghost use Rattle.fm_base.specs.Verdict.{least_from};
 ghost use Rattle.fm_tree.specs.PortReading.{kind_of};
 ghost use Rattle.fm_rules.specs.BrokenConstants.{broken_bounds, broken_decl, broken_decls, broken_definition, broken_definitions, broken_field, broken_from, broken_kind, broken_machine, broken_message, broken_shape, broken_statement, broken_type, is_bad, is_no_constant};
 
@@ -12,7 +12,7 @@ use crate::parts::{decls_of, definitions_in, machine_in, port_type_in};
 use crate::port_types::is_long;
 use crate::types::{is_of, scalar_of_name};
 use crate::values::value_of;
-use fm_base::{Line, Refusal, Rule, keep_earlier};
+use fm_base::{Line, Refusal, Rule, keep_if};
 use fm_finmap::NameMap;
 use fm_rules::{Known, Shape, Types};
 use fm_symbols::{Constant, Scalar};
@@ -22,17 +22,6 @@ use fm_tree::{Bound, Decl, Defined, Expr, Field, Kind, Placed, PortType};
 const MOST_DIMENSIONS: usize = 7;
 
 const MOST_EXTENTS: usize = 3;
-
-// The earlier of the best so far and of a rule at a line, where it is broken.
-fn keep_when(broken: bool, line: Line, rule: Rule, best: Option<Refusal>) -> Option<Refusal>
-    ensures { result ≡ least_from best (when broken (place line.0 rule)) }
-{
-    if broken {
-        keep_earlier(best, Refusal { line, rule })
-    } else {
-        best
-    }
-}
 
 fn is_bad(limit: usize, shape: Shape) -> bool
     ensures { result ≡ is_bad limit shape }
@@ -44,8 +33,8 @@ fn is_bad(limit: usize, shape: Shape) -> bool
 fn judge_shape(limit: usize, line: Line, shape: Shape, best: Option<Refusal>) -> Option<Refusal>
     ensures { result ≡ least_from best (broken_shape limit line.0 shape) }
 {
-    let best = keep_when(is_bad(limit, shape), line, Rule::E32, best);
-    keep_when(!shape.known, line, Rule::E33, best)
+    let best = keep_if(best, is_bad(limit, shape), line, Rule::E32);
+    keep_if(best, !shape.known, line, Rule::E33)
 }
 
 fn judge_bounds(
@@ -112,7 +101,7 @@ fn judge_definition(
 {
     let scalar = scalar_of_name(types, &definition.name);
     let value = value_of(known, at, item, &definition.value);
-    keep_when(is_no_constant(scalar, value), line, Rule::E33, best)
+    keep_if(best, is_no_constant(scalar, value), line, Rule::E33)
 }
 
 #[tactic(auto, using(fm_base::proofs::Least::least_from_append))]
@@ -144,7 +133,7 @@ fn judge_type(
 ) -> Option<Refusal>
     ensures { result ≡ least_from best (broken_type known.now at line.0 port_type.now) }
 {
-    let mut best = keep_when(is_long(known, at, port_type), line, Rule::E34, best);
+    let mut best = keep_if(best, is_long(known, at, port_type), line, Rule::E34);
     'fields: for field in port_type.as_slice() {
         best = judge_field(known, at, line, field, best);
     }

@@ -8,8 +8,8 @@ ghost use Rattle.fm_rules.specs.declared.sheet.Aspect.TheVariants.{Formal, Own, 
 ghost use Rattle.fm_rules.specs.Declarations.{bounds_facts, constant_fact, decl_facts, declared_twice_in, dimension_facts, fact, facts_in, is_processors, name_facts, repeated_processors, typed_facts};
 ghost use Rattle.fm_names_declared.specs.Noted.{with_facts};
 
-use crate::notes::{Notes, keep_if, note};
-use fm_base::{Line, Name, NoMemory, Refusal, Seq};
+use crate::notes::{Notes, note};
+use fm_base::{Line, Name, NoMemory, Refusal, Rule, Seq, keep_if};
 use fm_finmap::NameMap;
 use fm_rules::Aspect;
 use fm_tree::{Bound, Decl, Defined, Placed, Stmt, Unit};
@@ -240,7 +240,7 @@ fn judge_processors(specs: &[Placed], best: Option<Refusal>) -> Option<Refusal>
     let mut seen = false;
     'specs: for placed in specs {
         let is_processors = is_processors(&placed.stmt);
-        best = keep_if(best, seen && is_processors, placed.line);
+        best = keep_if(best, seen && is_processors, placed.line, Rule::E30);
         seen = seen || is_processors;
     }
     best

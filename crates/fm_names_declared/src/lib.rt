@@ -7,4 +7,4 @@ mod notes;
 mod titles;
 
 pub use declarations::judge_declarations;
-pub use titles::{function_titles, is_other_function, same_name};
+pub use titles::{function_titles, is_other_function};

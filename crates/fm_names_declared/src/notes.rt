@@ -1,14 +1,12 @@
 //! What was said of the names of a unit so far, and the least place that clashes.
 
 ghost use Rattle.std.specs.Prelude.{◌≡◌, OnOk};
-ghost use Rattle.fm_base.specs.declared.rule.Rule.TheVariants.{E30};
-ghost use Rattle.fm_base.specs.Verdict.{least_from, place, when};
 ghost use Rattle.fm_rules.specs.Declarations.{fact};
 ghost use Rattle.fm_names_declared.specs.Noted.{said_of, with_fact};
 
 use crate::aspect::{Said, is_of_variables, nothing};
 use crate::titles::is_other_function;
-use fm_base::{Line, Name, NoMemory, Refusal, Rule, keep_earlier};
+use fm_base::{Line, Name, NoMemory, Refusal, Rule, keep_if};
 use fm_finmap::NameMap;
 use fm_rules::Aspect;
 use fm_tree::Stmt;
@@ -19,23 +17,6 @@ use std::alloc::Global;
 pub struct Notes {
     pub said: NameMap<Said>,
     pub best: Option<Refusal>,
-}
-
-/// The earlier of the best so far and of a line that declares something twice.
-pub(crate) fn keep_if(best: Option<Refusal>, twice: bool, line: Line) -> Option<Refusal>
-    ensures { result ≡ least_from best (when twice (place line.0 E30)) }
-{
-    if twice {
-        keep_earlier(
-            best,
-            Refusal {
-                line,
-                rule: Rule::E30,
-            },
-        )
-    } else {
-        best
-    }
 }
 
 fn said_of(said: &NameMap<Said>, name: &Name) -> Said
@@ -63,6 +44,6 @@ pub(crate) fn note(
     let taken = is_of_variables(what) && is_other_function(titles, heading, name);
     let twice = said.clashes(what) || taken;
     notes.said.insert(name.copy(alloc)?, said.with(what))?;
-    notes.best = keep_if(notes.best, twice, line);
+    notes.best = keep_if(notes.best, twice, line, Rule::E30);
     Ok(())
 }

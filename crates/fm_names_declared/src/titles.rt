@@ -2,25 +2,19 @@
 
 ghost use Rattle.std.specs.Prelude.{◌≡◌, IfOk, OnOk};
 ghost use Rattle.fm_symbols.specs.ByName.{with_all};
-ghost use Rattle.fm_symbols.specs.Headings.{heading_name};
-ghost use Rattle.fm_rules.specs.FunctionTitles.{is_function_title, is_other_function, is_own_name, same_name, title_of, titles_of};
+ghost use Rattle.fm_symbols.specs.Headings.{heading_kind, heading_name, is_function};
+ghost use Rattle.fm_symbols.specs.Titles.{title_by};
+ghost use Rattle.fm_rules.specs.FunctionTitles.{is_function_title, is_other_function, is_own_name, titles_of};
 
 use fm_base::{Name, NoMemory};
 use fm_finmap::NameMap;
+use fm_rules::same_name;
 use fm_symbols::{heading_kind, heading_name, insert_new, is_function};
 use fm_tree::{Stmt, Unit};
 use std::alloc::Global;
-use std::cmp::Ordering;
-
-/// Whether two names are the same.
-pub fn same_name(left: &Name, right: &Name) -> bool
-    ensures { result ≡ same_name left.now right.now }
-{
-    matches!(left.cmp(right), Ordering::Equal)
-}
 
 fn add_title(alloc: Global, unit: &Unit, titles: &mut NameMap<bool>) -> Result<(), NoMemory>
-    ensures { OnOk result (titles.new ≡ with_all titles.old (title_of unit.now)) }
+    ensures { OnOk result (titles.new ≡ with_all titles.old (title_by (heading_name unit.now.heading.stmt) (is_function (heading_kind unit.now.heading.stmt)))) }
 {
     let heading = &unit.heading.stmt;
     let function = is_function(heading_kind(heading));

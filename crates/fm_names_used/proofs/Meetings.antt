@@ -1,71 +1,84 @@
 -- What a pass over the names of a unit keeps is the first occurrence of each.
-use Rattle.std.proofs.Common.{◌≡◌, ℕ, List, [], ◌∷◌, ◌++◌, ◌||◌, Bool, true, false, cond, refl, sym, ap, ◌∙◌, map, fold, drop, length, get_or, ◌<◌, ◌+◌}
-use Rattle.std.specs.Prelude.{Some, is_some, if◌then◌else◌}
+use Rattle.std.proofs.Common.{◌≡◌, ℕ, List, [], ◌∷◌, ◌++◌, ◌||◌, Bool, true, false, cond, refl, sym, ap, ◌∙◌, map, drop, length, get_or, append_assoc, append-nil, ◌<◌, ◌+◌}
+use Rattle.std.specs.Prelude.{Some, None, is_some, if◌then◌else◌}
 use Rattle.std.specs.List.{list_any}
-use Rattle.std.specs.FinMap.{get, insert, contains_key, get-empty, get-insert}
-use Rattle.std.specs.Ordering.{nat_cmp}
-use Rattle.std.specs.Cmp.Lexicographic.{slice_cmp}
-use Rattle.std.proofs.lemmas.List.{drop_more}
+use Rattle.std.proofs.lemmas.List.{drop_more, map-append}
 use Rattle.std.proofs.lemmas.List.Folds.{list_any-append}
 use Rattle.fm_base.specs.declared.name.Line.{Line}
-use Rattle.fm_finmap.proofs.Keys.{nat_list_order}
+use Rattle.fm_finmap.proofs.Keys.{nat_list_order, tie}
+use Rattle.fm_finmap.specs.Table.{added, look_up}
 use Rattle.fm_rules.specs.FunctionTitles.{same_name}
 use Rattle.fm_rules.specs.declared.sheet.Occurrence.{Occurrence}
-use Rattle.fm_names_used.specs.declared.seen.Seen.{Seen}
-use Rattle.fm_rules.specs.Occurrences.{Names, first_occurrences, is_of, occurrence, with_occurrence}
-use Rattle.fm_names_used.specs.Seen.{nothing_seen, with_name, with_names, with_occurrences}
+use Rattle.fm_rules.specs.Occurrences.{Names, first_occurrences, is_of, occurrence}
+use Rattle.fm_rules.proofs.Earlier.{first_occurrences_behind, firsts_behind}
+use Rattle.fm_names_used.specs.Seen.{Seen, occurrence_of, with_names, with_occurrences}
 
 pub with_names_append : (line : Line) (s : Seen) (xs ys : Names) → with_names line s (xs ++ ys) ≡ with_names line (with_names line s xs) ys
 with_names_append line s [] ys = refl
-with_names_append line s (x ∷ xs) ys = with_names_append line (with_name line s x) xs ys
+with_names_append line s (x ∷ xs) ys = with_names_append line (added s x line) xs ys
 
 pub with_occurrences_append : (s : Seen) (xs ys : List Occurrence) → with_occurrences s (xs ++ ys) ≡ with_occurrences (with_occurrences s xs) ys
 with_occurrences_append s [] ys = refl
-with_occurrences_append s (x ∷ xs) ys = with_occurrences_append (with_name x.line s x.name) xs ys
+with_occurrences_append s (x ∷ xs) ys = with_occurrences_append (added s x.name x.line) xs ys
 
 -- the names of one statement
 pub at_line : (line : Line) (s : Seen) (names : Names) → with_occurrences s (map (occurrence line) names) ≡ with_names line s names
 at_line line s [] = refl
-at_line line s (x ∷ xs) = at_line line (with_name line s x) xs
-
-or-true : (b : Bool) → true ≡ (b || true)
-or-true true = refl
-or-true false = refl
+at_line line s (x ∷ xs) = at_line line (added s x line) xs
 
 or-false : (b : Bool) → b ≡ (b || false)
 or-false true = refl
 or-false false = refl
 
--- the map has the names of the list
-abbrev Fits : Seen → Type 0
-Fits s = (q : List ℕ) → contains_key s.lines q ≡ list_any (is_of q) s.first
+or-one : (a b : Bool) → b ≡ true → b ≡ (b || (a || false))
+or-one a true e = refl
+or-one a false e = absurd (cc e)
 
-module _ (line : Line) (s : Seen) (name : List ℕ) where
+-- the table has the names of these occurrences
+abbrev Fits : Seen → List Occurrence → Type 0
+Fits s before = (q : List ℕ) → is_some (look_up s q) ≡ list_any (is_of q) before
+
+look_up_push : (q : List ℕ) (s : Seen) (name : List ℕ) (line : Line) → is_some (look_up (s ++ (name, line) ∷ []) q) ≡ (is_some (look_up s q) || (same_name q name || false))
+look_up_push q [] name line = go (same_name q name)
+  where
+    go : (same : Bool) → is_some (cond same (Some line) None) ≡ (same || false)
+    go true = refl
+    go false = refl
+look_up_push q (e ∷ s) name line = go (same_name q e.0) (look_up_push q s name line)
+  where
+    go : (same : Bool) → is_some (look_up (s ++ (name, line) ∷ []) q) ≡ (is_some (look_up s q) || (same_name q name || false)) → is_some (cond same (Some e.1) (look_up (s ++ (name, line) ∷ []) q)) ≡ (is_some (cond same (Some e.1) (look_up s q)) || (same_name q name || false))
+    go true rest = refl
+    go false rest = rest
+
+module _ (o : Occurrence) (s : Seen) (before : List Occurrence) (fits : Fits s before) where
   abbrev met : Bool → Seen
-  met known = if known then s else record { lines = insert s.lines name line; first = s.first ++ occurrence line name ∷ [] }
+  met known = if known then s else s ++ (o.name, o.line) ∷ []
 
-  put_last : (known : Bool) → known ≡ list_any (is_of name) s.first → (met known).first ≡ with_occurrence s.first (occurrence line name)
-  put_last true e = ap (λ b. cond b s.first (s.first ++ occurrence line name ∷ [])) e
-  put_last false e = ap (λ b. cond b s.first (s.first ++ occurrence line name ∷ [])) e
+  -- a name that is known
+  one_known : (q : List ℕ) (same : Bool) → same_name q o.name ≡ same → is_some (look_up s o.name) ≡ true → list_any (is_of q) before ≡ (list_any (is_of q) before || (same || false))
+  one_known q true e known = or-one true (list_any (is_of q) before) (ap (λ (n : List ℕ). list_any (is_of n) before) (tie nat_list_order q o.name e) ∙ sym (fits o.name) ∙ known)
+  one_known q false e known = or-false (list_any (is_of q) before)
 
-  found : Fits s → (q : List ℕ) (same : Bool) → is_some (cond same (Some line) (get s.lines q)) ≡ (list_any (is_of q) s.first || (same || false))
-  found fits q true = or-true (list_any (is_of q) s.first)
-  found fits q false = fits q ∙ or-false (list_any (is_of q) s.first)
+  still_fits : (known : Bool) → is_some (look_up s o.name) ≡ known → Fits (met known) (before ++ o ∷ [])
+  still_fits true is q = fits q ∙ one_known q (same_name q o.name) refl is ∙ sym (list_any-append (is_of q) before (o ∷ []))
+  still_fits false is q =
+      look_up_push q s o.name o.line ∙ ap (λ (b : Bool). b || (same_name q o.name || false)) (fits q)
+      ∙ sym (list_any-append (is_of q) before (o ∷ []))
 
-  still_fits : Fits s → (known : Bool) → Fits (met known)
-  still_fits fits true q = fits q
-  still_fits fits false q =
-      ap is_some (get-insert nat_list_order.total s.lines name line q) ∙ found fits q (same_name q name)
-      ∙ sym (list_any-append (is_of q) s.first (occurrence line name ∷ []))
+  put_last : (known : Bool) (rest : List Occurrence) → known ≡ list_any (is_of o.name) before → map occurrence_of (met known) ++ rest ≡ map occurrence_of s ++ cond (list_any (is_of o.name) before) rest (o ∷ rest)
+  put_last true rest e = ap (λ (b : Bool). map occurrence_of s ++ cond b rest (o ∷ rest)) e
+  put_last false rest e =
+      ap (λ (l : List Occurrence). l ++ rest) (map-append occurrence_of s ((o.name, o.line) ∷ []))
+      ∙ append_assoc (map occurrence_of s) (o ∷ []) rest ∙ ap (λ (b : Bool). map occurrence_of s ++ cond b rest (o ∷ rest)) e
 
-first_from : (s : Seen) (os : List Occurrence) → Fits s → (with_occurrences s os).first ≡ fold with_occurrence s.first os
-first_from s [] fits = refl
-first_from s (o ∷ os) fits =
-    first_from (with_name o.line s o.name) os (still_fits o.line s o.name fits (contains_key s.lines o.name))
-    ∙ ap (λ (l : List Occurrence). fold with_occurrence l os) (put_last o.line s o.name (contains_key s.lines o.name) (fits o.name))
+first_from : (s : Seen) (before os : List Occurrence) → Fits s before → map occurrence_of (with_occurrences s os) ≡ map occurrence_of s ++ firsts_behind before os
+first_from s before [] fits = sym (append-nil (map occurrence_of s))
+first_from s before (o ∷ os) fits =
+    first_from (added s o.name o.line) (before ++ o ∷ []) os (still_fits o s before fits (is_some (look_up s o.name)) refl)
+    ∙ put_last o s before fits (is_some (look_up s o.name)) (firsts_behind (before ++ o ∷ []) os) (fits o.name)
 
-pub firsts : (os : List Occurrence) → (with_occurrences nothing_seen os).first ≡ first_occurrences os
-firsts os = first_from nothing_seen os (λ q. ap is_some (get-empty (slice_cmp nat_cmp) q))
+pub firsts : (os : List Occurrence) → map occurrence_of (with_occurrences [] os) ≡ first_occurrences os
+firsts os = first_from [] [] os (λ q. refl) ∙ sym (first_occurrences_behind os)
 
 -- the next item of a list
 pub names_more : {X : Type 0} (f : X → Names) (g : List X → Names) → ((x : X) (xs : List X) → g (x ∷ xs) ≡ f x ++ g xs) → (line : Line) (xs : List X) (i : ℕ) (x : X) (n m whole : Seen)

@@ -2,6 +2,5 @@
 #![tactic(auto)]
 
 mod occurrences;
-mod seen;
 
 pub use occurrences::first_occurrences;

@@ -1,17 +1,16 @@
 //! The names that stand in a unit as variables, formal arguments, constants or the result of a FUNCTION.
 #![tactic(auto, using(crate::proofs::Meetings::with_names_append))]
 
-ghost use Rattle.std.specs.Prelude.{◌≡◌, ◌∷◌, ◌++◌, IfOk, List, ℕ, Bool, OnOk};
+ghost use Rattle.std.specs.Prelude.{◌≡◌, ◌∷◌, ◌++◌, IfOk, List, ℕ, Bool, OnOk, map};
 ghost use Rattle.std.specs.List.{flat_map};
 ghost use Rattle.fm_rules.specs.Arrays.{is_array};
 ghost use Rattle.fm_rules.specs.Occurrences.{in_bound, in_call_part, in_channel, in_decl, in_defined, in_entry, in_extra, in_field, in_fields, in_item, in_kind, in_loop, in_placed, in_simple, in_tree, in_trees, in_var, in_where, first_occurrences, occurrences, one_name, optional, stands_in, subscripted};
-ghost use Rattle.fm_names_used.specs.Seen.{with_names, with_occurrences};
+ghost use Rattle.fm_names_used.specs.Seen.{occurrence_of, with_names, with_occurrences};
 ghost use Rattle.fm_tree.specs.PortReading.{fields_of, kind_of};
 ghost use Rattle.fm_tree.specs.Tree.{trees_from};
 
-use crate::seen::Seen;
 use fm_base::{Line, Name, NoMemory, Seq};
-use fm_finmap::NameMap;
+use fm_finmap::{NameMap, NameTable};
 use fm_rules::{ArrayShape, Occurrence};
 use fm_tree::{
     Bound, CallPart, Decl, Defined, Entry, Expr, ExprNode, Extra, Field, Item, Kind, LoopHead,
@@ -20,6 +19,9 @@ use fm_tree::{
 use std::alloc::Global;
 
 type Arrays = NameMap<ArrayShape>;
+
+// The names that were met, each with the line of its first statement.
+type Seen = NameTable<Line>;
 
 /// What names stand in, where a test tells which names are those of arrays.
 trait Standing {
@@ -92,7 +94,7 @@ impl Standing for Name {
         seen: &mut Seen,
     ) -> Result<(), NoMemory> {
         let _arrays = arrays;
-        seen.meet(alloc, line, self)
+        seen.insert_new(alloc, self, line)
     }
 }
 
@@ -106,7 +108,7 @@ fn meet_subscripted(
     ensures { OnOk result (seen.new ≡ with_names line seen.old (subscripted (is_array arrays.now name.now) name.now)) }
 {
     if arrays.contains_key(name) {
-        seen.meet(alloc, line, name)
+        seen.insert_new(alloc, name, line)
     } else {
         Ok(())
     }
@@ -125,7 +127,7 @@ fn meet_expr(
     match &expr.node {
         ExprNode::Number(_) => Ok(()),
         ExprNode::Truth(_) => Ok(()),
-        ExprNode::Named(name) => seen.meet(alloc, line, name),
+        ExprNode::Named(name) => seen.insert_new(alloc, name, line),
         ExprNode::Ref(name, args) => {
             meet_subscripted(alloc, arrays, line, name, seen)?;
             meet_exprs(alloc, arrays, line, args, seen)
@@ -180,7 +182,7 @@ impl Standing for Var {
         line: Line,
         seen: &mut Seen,
     ) -> Result<(), NoMemory> {
-        seen.meet(alloc, line, &self.name)?;
+        seen.insert_new(alloc, &self.name, line)?;
         meet_all::<Expr>(alloc, arrays, line, self.subscripts.as_slice(), seen)
     }
 }
@@ -210,7 +212,7 @@ impl Standing for Decl {
         line: Line,
         seen: &mut Seen,
     ) -> Result<(), NoMemory> {
-        seen.meet(alloc, line, &self.name)?;
+        seen.insert_new(alloc, &self.name, line)?;
         meet_all::<Bound>(alloc, arrays, line, self.bounds.as_slice(), seen)
     }
 }
@@ -225,7 +227,7 @@ impl Standing for Defined {
         line: Line,
         seen: &mut Seen,
     ) -> Result<(), NoMemory> {
-        seen.meet(alloc, line, &self.name)?;
+        seen.insert_new(alloc, &self.name, line)?;
         self.value.meet(alloc, arrays, line, seen)
     }
 }
@@ -301,7 +303,7 @@ impl Standing for LoopHead {
         line: Line,
         seen: &mut Seen,
     ) -> Result<(), NoMemory> {
-        seen.meet(alloc, line, &self.variable)?;
+        seen.insert_new(alloc, &self.variable, line)?;
         self.from.meet(alloc, arrays, line, seen)?;
         self.to.meet(alloc, arrays, line, seen)?;
         meet_optional::<Expr>(alloc, arrays, line, &self.step, seen)
@@ -495,7 +497,7 @@ fn meet_heading(
 ) -> Result<(), NoMemory>
     ensures { OnOk result (seen.new ≡ with_names line seen.old (name.now ∷ flat_map one_name formals.now)) }
 {
-    seen.meet(alloc, line, name)?;
+    seen.insert_new(alloc, name, line)?;
     meet_all::<Name>(alloc, arrays, line, formals, seen)
 }
 
@@ -642,6 +644,17 @@ fn meet_body(
     Ok(())
 }
 
+// The names that were met, with their lines.
+fn in_order(alloc: Global, seen: Seen) -> Result<Seq<Occurrence>, NoMemory>
+    ensures { IfOk result (λ os. os ≡ map occurrence_of seen) }
+{
+    let mut first = Seq::new(alloc);
+    'names: for (name, line) in seen {
+        first.push(Occurrence { name, line })?;
+    }
+    Ok(first)
+}
+
 #[tactic(auto, using(crate::proofs::Meetings::with_occurrences_append, crate::proofs::Meetings::firsts))]
 /// The names that stand in a unit as variables, formal arguments, constants or the result of a FUNCTION, each once, in the
 /// order of the text, with the line of its first statement.
@@ -652,9 +665,9 @@ pub fn first_occurrences(
 ) -> Result<Seq<Occurrence>, NoMemory>
     ensures { IfOk result (λ os. os ≡ first_occurrences (occurrences (is_array arrays.now) unit.now)) }
 {
-    let mut seen = Seen::new(alloc);
+    let mut seen = NameTable::new(alloc);
     meet_placed(alloc, arrays, &unit.heading, &mut seen)?;
     meet_specs(alloc, arrays, unit.specs.as_slice(), &mut seen)?;
     meet_body(alloc, arrays, unit.body.as_slice(), &mut seen)?;
-    Ok(seen.first)
+    in_order(alloc, seen)
 }

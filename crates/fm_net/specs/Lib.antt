@@ -9,3 +9,4 @@ pub mod Woken
 pub mod Correspondence
 pub mod Marked
 pub mod Small
+pub mod Endings

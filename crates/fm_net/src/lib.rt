@@ -11,10 +11,12 @@
 //! waited for it (`MayWake`); processes have numbers in the order of their starting (`Starts`); and two
 //! languages whose processes correspond have machines that do the same (`Correspondence`). The
 //! definitions stand in `specs/`.
-//! Each function here has an empty body: its contract is a law. That what channels and processes owe to
-//! the types of channels is kept by each step is a lemma of `proofs/Typed.antt`, since a contract can't
-//! quantify over facts.
+//! Each function of this file has an empty body: its contract is a law. That what channels and processes
+//! owe to the types of channels is kept by each step is a lemma of `proofs/Typed.antt`, since a contract
+//! can't quantify over facts.
 #![tactic(auto)]
+
+mod kids;
 
 ghost use Rattle.std.specs.Prelude.{◌≡◌, ◌≢◌, ◌⊎◌, ◌≤◌, ◌+◌, ◌++◌, ◌∷◌, ℕ, Option, Some, None, List, [], Bool, true, false, length, replicate, slice_get};
 ghost use Rattle.std.specs.FinMap.{get, insert, empty};
@@ -34,6 +36,8 @@ ghost use Rattle.fm_net.specs.Woken.{MayWake};
 ghost use Rattle.fm_net.specs.Correspondence.{IsCorrespondence, AreAlike};
 ghost use Rattle.fm_net.specs.Marked.{unmarked, marked};
 ghost use Rattle.fm_net.specs.Small.{Instr, language as small, first_state, HasOneItemMessages, sample, sample_choices};
+
+pub use kids::{Endings, Family, child_path, count_ended, number_behind};
 
 /// The step of the process at a place, by what it asks. Where there is no process, where it asks for
 /// nothing more, and where what it needs isn't served, there is none. Where it starts no child and

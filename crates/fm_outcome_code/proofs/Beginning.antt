@@ -1,8 +1,8 @@
 -- The process with which a run begins.
-use Rattle.std.proofs.Common.{◌≡◌, ℕ, Option, Some, List, [], sym, ap, ◌∙◌}
+use Rattle.std.proofs.Common.{◌≡◌, ℕ, Option, Some, unwrap_or, List, [], sym, ap, ◌∙◌}
 use Rattle.std.specs.Prelude.{slice_get}
 use Rattle.fm_rules.specs.declared.program.Program.{Program}
-use Rattle.fm_rules.specs.Program as rules
+use Rattle.fm_rules.specs.Main.{main_of}
 use Rattle.fm_mean.specs.Names.{ProgramUnit, main_number, unit_at}
 use Rattle.fm_mean.specs.Steps.{nodes_of}
 use Rattle.fm_mean.proofs.Main.{main_is}
@@ -23,7 +23,7 @@ abbrev pub begun : Code → (number : ℕ) → CodeUnit → Body
 begun code n u = record { code = code; machine = record { first = 0; count = nodes_of u.extents }; node = 0; frame = new_frame n u (nulls u.words) []; below = [] }
 
 module _ (p : Program) where
-  body_made : (n : ℕ) → n ≡ rules.main_of p.units.units → (code : Code) → code ≡ code_of p
+  body_made : (n : ℕ) → n ≡ unwrap_or (main_of p.units.units) 0 → (code : Code) → code ≡ code_of p
       → ((k : ℕ) (u : ProgramUnit) → unit_at p k ≡ Some u → slice_get code.units k ≡ Some (unit_of_code p u))
       → (b : Option Body) → ((u : CodeUnit) → slice_get code.units n ≡ Some u → b ≡ Some (begun code n u)) → b ≡ body_by p (main_number p)
   body_made n n_is code code_is units b told =
@@ -33,7 +33,7 @@ module _ (p : Program) where
       told (unit_of_code p m.unit) (units n m.unit here) ∙ ap (λ c. Some (begun c n (unit_of_code p m.unit))) code_is
       ∙ ap (body_in p n) (sym here) ∙ ap (body_by p) (sym (m.is ∙ ap Some same))
 
-  pub process_made : (n : ℕ) → n ≡ rules.main_of p.units.units → (code : Code) → code ≡ code_of p
+  pub process_made : (n : ℕ) → n ≡ unwrap_or (main_of p.units.units) 0 → (code : Code) → code ≡ code_of p
       → ((k : ℕ) (u : ProgramUnit) → unit_at p k ≡ Some u → slice_get code.units k ≡ Some (unit_of_code p u))
       → (b : Option Body) → ((u : CodeUnit) → slice_get code.units n ≡ Some u → b ≡ Some (begun code n u))
       → (slots : Slots) → slots ≡ no_slots → (lines : List (List ℕ)) → lines ≡ []

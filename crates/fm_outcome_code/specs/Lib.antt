@@ -1,4 +1,5 @@
 pub mod Played
+pub mod Parts
 pub mod Sound
 pub mod Waits
 pub mod Variables

@@ -1,6 +1,6 @@
 //! Main alone, before the first piece.
 
-ghost use Rattle.std.specs.Prelude.{◌≡◌, ◌∷◌, ◌*◌, [], Some, None, replicate, slice_get, IfOk};
+ghost use Rattle.std.specs.Prelude.{◌≡◌, ◌∷◌, [], Some, slice_get, IfOk};
 ghost use Rattle.fm_net.specs.Owned.{main_alone};
 ghost use Rattle.fm_mean.specs.Steps.{nodes_of};
 ghost use Rattle.fm_code.specs.declared.code.Unit as declared_unit;
@@ -12,11 +12,13 @@ ghost use Rattle.fm_procs.specs.Readings.{order_of, proc_in, state_of};
 ghost use Rattle.fm_proc_simulation.specs.Shown.{first_process};
 
 use fm_base::{Machine, NoMemory, Path, Seq};
-use fm_code::{Body, Code, Frame, Pile, Row, Trips, Unit};
+use fm_code::{Body, Code, Frame, Pile, Unit};
 use fm_gen::generate;
 use fm_machine_calls::unit_at;
 use fm_machine_fused::share_code;
 use fm_machine_instr::Work;
+use fm_plain_frame::nodes_of;
+use fm_proc::no_loops;
 use fm_proc_events::{Phase, Process, next_look};
 use fm_proc_slots::Slots;
 use fm_procs::{CodeProcs, Entry};
@@ -24,20 +26,11 @@ use fm_rules::Program;
 use std::alloc::Global;
 use std::sync::Arc;
 
-fn no_words(alloc: Global, count: u32) -> Result<Row<i64>, NoMemory>
+fn no_words(alloc: Global, count: u32) -> Result<Seq<i64>, NoMemory>
     ensures { IfOk result (λ w. w ≡ nulls count) }
 {
     let words = vec![in alloc; 0i64; count as usize]?;
-    Ok(Row::from_vec(words))
-}
-
-// The loops of a unit, none of them begun.
-fn no_loops(alloc: Global, count: u32) -> Result<Row<Option<Trips>>, NoMemory>
-    ensures { IfOk result (λ l. l ≡ replicate count None) }
-{
-    let none: Option<Trips> = None;
-    let loops = vec![in alloc; none; count as usize]?;
-    Ok(Row::from_vec(loops))
+    Ok(Seq::from_vec(words))
 }
 
 // A unit at its first statement, with nothing in its words.
@@ -49,27 +42,10 @@ fn first_frame(alloc: Global, number: u32, unit: &Unit) -> Result<Frame, NoMemor
         address: 0,
         words: no_words(alloc, unit.words)?,
         loops: no_loops(alloc, unit.loops)?,
-        results: Row::new(alloc),
-        starts: Row::new(alloc),
+        results: Seq::new(alloc),
+        starts: Seq::new(alloc),
         backs: Seq::new(alloc),
     })
-}
-
-fn times(count: u32, extent: u32) -> Result<u32, NoMemory>
-    ensures { IfOk result (λ n. n ≡ count * extent) }
-{
-    count.checked_mul(extent).ok_or(NoMemory)
-}
-
-// The nodes of a PROCESSORS statement with these extents, or one.
-fn nodes_of(extents: &[u32]) -> Result<u32, NoMemory>
-    ensures { IfOk result (λ n. n ≡ nodes_of extents.now) }
-{
-    let mut nodes: u32 = 1;
-    'extents: for extent in extents {
-        nodes = times(nodes, *extent)?;
-    }
-    Ok(nodes)
 }
 
 // The unit of this number as a body on its nodes, if there is one.

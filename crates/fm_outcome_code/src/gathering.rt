@@ -1,6 +1,6 @@
 //! What a run shows when it has ended.
 
-ghost use Rattle.std.specs.Prelude.{◌≡◌, ◌++◌, ◌∷◌, Some, [], map, IfOk, OnOk};
+ghost use Rattle.std.specs.Prelude.{◌≡◌, ◌++◌, Some, [], IfOk, OnOk};
 ghost use Rattle.std.specs.List.{flat_map};
 ghost use Rattle.std.specs.FinMap.{entries};
 ghost use Rattle.fm_finmap.specs.Rows.{place_at};
@@ -10,50 +10,16 @@ ghost use Rattle.fm_procs.specs.Readings.{order_of, proc_in, procs_of, state_of}
 ghost use Rattle.fm_proc_simulation.specs.Shown.{lines_at, fault_at, fault_in, wait_at, outcome_by};
 
 use crate::holders::holders_of;
+use crate::rows::{Part, in_path_order};
 use crate::variables::shown_all;
 use crate::waits::push_wait;
 use fm_base::{NoMemory, Path, Seq};
-use fm_mean::{FaultAt, Outcome, OutputLine, Wait};
+use fm_mean::{FaultAt, Outcome};
 use fm_proc_events::{Phase, Process};
 use fm_procs::{CodeProcs, Entries, Entry};
 use fm_rules::Program;
+use fm_run::{Gathered, push_lines};
 use std::alloc::Global;
-
-/// Output lines, faults and waits, process after process.
-#[derive(Drop)]
-struct Gathered {
-    lines: Vec<OutputLine>,
-    faults: Vec<FaultAt>,
-    waits: Vec<Wait>,
-}
-
-fn push_line(
-    alloc: Global,
-    all: &mut Vec<OutputLine>,
-    path: &Path,
-    line: &Seq<u8>,
-) -> Result<(), NoMemory>
-    ensures { OnOk result (all.new.items ≡ all.old.items ++ record { path = path.now; bytes = line.now } ∷ []) }
-{
-    let path = path.copy(alloc)?;
-    let bytes = Seq::from_slice(alloc, line.as_slice())?;
-    all.push(OutputLine { path, bytes })?;
-    Ok(())
-}
-
-fn push_lines(
-    alloc: Global,
-    all: &mut Vec<OutputLine>,
-    path: &Path,
-    lines: &[Seq<u8>],
-) -> Result<(), NoMemory>
-    ensures { OnOk result (all.new.items ≡ all.old.items ++ map (λ line. record { path = path.now; bytes = line }) lines.now) }
-{
-    'lines: for line in lines {
-        push_line(alloc, all, path, line)?;
-    }
-    Ok(())
-}
 
 fn push_fault(
     alloc: Global,
@@ -77,37 +43,24 @@ fn push_fault(
     }
 }
 
-impl Gathered {
-    fn new(alloc: Global) -> Gathered
-        ensures lines { result.lines.items ≡ [] }
-        ensures faults { result.faults.items ≡ [] }
-        ensures waits { result.waits.items ≡ [] }
-    {
-        Gathered {
-            lines: Vec::new(alloc),
-            faults: Vec::new(alloc),
-            waits: Vec::new(alloc),
-        }
-    }
-
-    fn add(
-        &mut self,
-        alloc: Global,
-        processes: &Entries,
-        path: &Path,
-        entry: &Entry,
-    ) -> Result<(), NoMemory>
-        requires told { IsTold entry.now }
-        requires family { HasFamily (order_of processes.now) path.now (proc_in entry.now).phase entry.now.first_child }
-        ensures lines { OnOk result (self.new.lines.items ≡ self.old.lines.items ++ lines_at (path.now, proc_in entry.now)) }
-        ensures faults { OnOk result (self.new.faults.items ≡ self.old.faults.items ++ fault_at (path.now, proc_in entry.now)) }
-        ensures waits { OnOk result (self.new.waits.items ≡ self.old.waits.items ++ wait_at (procs_of processes.now) (path.now, proc_in entry.now)) }
-    {
-        let process: &Process = &entry.process;
-        push_lines(alloc, &mut self.lines, path, process.lines.as_slice())?;
-        push_fault(alloc, &mut self.faults, path, &process.phase)?;
-        push_wait(alloc, processes, &mut self.waits, path, entry)
-    }
+// Adds what the process at this path shows.
+fn add_process(
+    alloc: Global,
+    all: &mut Gathered,
+    processes: &Entries,
+    path: &Path,
+    entry: &Entry,
+) -> Result<(), NoMemory>
+    requires told { IsTold entry.now }
+    requires family { HasFamily (order_of processes.now) path.now (proc_in entry.now).phase entry.now.first_child }
+    ensures lines { OnOk result (all.new.lines.items ≡ all.old.lines.items ++ lines_at (path.now, proc_in entry.now)) }
+    ensures faults { OnOk result (all.new.faults.items ≡ all.old.faults.items ++ fault_at (path.now, proc_in entry.now)) }
+    ensures waits { OnOk result (all.new.waits.items ≡ all.old.waits.items ++ wait_at (procs_of processes.now) (path.now, proc_in entry.now)) }
+{
+    let process: &Process = &entry.process;
+    push_lines(alloc, &mut all.lines, path, process.lines.as_slice())?;
+    push_fault(alloc, &mut all.faults, path, &process.phase)?;
+    push_wait(alloc, processes, &mut all.waits, path, entry)
 }
 
 fn gather(alloc: Global, processes: &Entries) -> Result<Gathered, NoMemory>
@@ -117,9 +70,9 @@ fn gather(alloc: Global, processes: &Entries) -> Result<Gathered, NoMemory>
     ensures waits { IfOk result (λ all. all.waits.items ≡ flat_map (wait_at (procs_of processes.now)) (entries (procs_of processes.now))) }
 {
     let mut all = Gathered::new(alloc);
-    let rows = processes.rows.in_path_order(alloc)?;
+    let rows = in_path_order(alloc, processes, Part::Shown)?;
     'entries: for row in &rows {
-        all.add(alloc, processes, row.0, row.1)?;
+        add_process(alloc, &mut all, processes, row.0, row.1)?;
     }
     Ok(all)
 }

@@ -2,26 +2,28 @@
 
 ghost use Rattle.std.specs.Prelude.{◌≡◌, ◌++◌, [], ◌∷◌, map, reverse, IfOk, OnOk};
 ghost use Rattle.std.specs.List.{flat_map};
-ghost use Rattle.std.specs.FinMap.{entries, from_entries};
+ghost use Rattle.std.specs.FinMap.{from_entries};
 ghost use Rattle.fm_finmap.specs.Map.{map_of};
-ghost use Rattle.fm_mean.specs.Holders.{holder_of};
 ghost use Rattle.fm_mean.specs.Outports.{outport_cmp};
 ghost use Rattle.fm_proc_language.specs.Slots.{port_in};
 ghost use Rattle.fm_proc_language.specs.Processes.{body_words, held};
 ghost use Rattle.fm_proc_events.specs.Phases.{proc_of};
 ghost use Rattle.fm_procs.specs.Readings.{proc_in, procs_of, state_of};
 ghost use Rattle.fm_proc_simulation.specs.Shown.{holder_path, holders_by, holdings, holdings_at};
-ghost use Rattle.fm_outcome_code.specs.Holding.{outport_in, with_held, with_holder, with_holders, words_held};
+ghost use Rattle.fm_run.specs.Gathered.{with_held, with_holders};
+ghost use Rattle.fm_outcome_code.specs.Holding.{outport_in, words_held};
 
-use fm_base::{NoMemory, Path};
+use crate::rows::{Part, in_path_order};
+use fm_base::{NoMemory, Path, Seq};
 use fm_chan::Port;
-use fm_code::{Body, Frame, Row, SharedCode};
+use fm_code::{Body, Frame, SharedCode};
 use fm_finmap::Map;
 use fm_machine_calls::push_frame_ports;
 use fm_mean::{Holder, Outport};
 use fm_proc_events::{Phase, Process};
 use fm_proc_slots::Slots;
 use fm_procs::{CodeProcs, Entries, Entry};
+use fm_run::{holders_in_order, put_outport};
 use std::alloc::Global;
 
 // The outport that a port is, if it is one.
@@ -35,22 +37,6 @@ fn outport_in(alloc: Global, port: &Port) -> Result<Option<Outport>, NoMemory>
         }
         None => Ok(None),
     }
-}
-
-// Of two holders of an outport the first counts.
-fn put_outport(
-    alloc: Global,
-    all: &mut Map<Outport, Path>,
-    path: &Path,
-    outport: Outport,
-) -> Result<(), NoMemory>
-    ensures { OnOk result (map_of outport_cmp all.new ≡ with_holder (map_of outport_cmp all.old) outport path.now) }
-{
-    if all.contains_key(&outport) {
-        return Ok(());
-    }
-    all.insert(outport, path.copy(alloc)?)?;
-    Ok(())
 }
 
 fn put_port(
@@ -98,7 +84,7 @@ fn put_words(
 }
 
 // Adds the words of the ports in frames. The last of these is the innermost, and comes first.
-fn push_frames(code: &SharedCode, frames: &[Frame], words: &mut Row<i64>) -> Result<(), NoMemory>
+fn push_frames(code: &SharedCode, frames: &[Frame], words: &mut Seq<i64>) -> Result<(), NoMemory>
     ensures { OnOk result (words.new ≡ words.old ++ flat_map (words_held code.now) (reverse frames.now)) }
 {
     'frames: for k in (0..frames.len()).rev() {
@@ -108,10 +94,10 @@ fn push_frames(code: &SharedCode, frames: &[Frame], words: &mut Row<i64>) -> Res
 }
 
 // The words of the ports in a body, from the innermost frame on.
-fn words_of(alloc: Global, body: &Body) -> Result<Row<i64>, NoMemory>
+fn words_of(alloc: Global, body: &Body) -> Result<Seq<i64>, NoMemory>
     ensures { IfOk result (λ w. w ≡ body_words body.now) }
 {
-    let mut words = Row::new(alloc);
+    let mut words = Seq::new(alloc);
     push_frame_ports(&body.code, &body.frame, &mut words)?;
     push_frames(&body.code, body.below.outermost_first(), &mut words)?;
     Ok(words)
@@ -164,21 +150,11 @@ fn owners(alloc: Global, processes: &Entries) -> Result<Map<Outport, Path>, NoMe
     ensures { IfOk result (λ m. map_of outport_cmp m ≡ from_entries (holdings (procs_of processes.now))) }
 {
     let mut all = Map::new(alloc);
-    let rows = processes.rows.in_path_order(alloc)?;
+    let rows = in_path_order(alloc, processes, Part::Held)?;
     'entries: for row in &rows {
         put_process(alloc, &mut all, row.0, row.1)?;
     }
     Ok(all)
-}
-
-fn in_order(alloc: Global, owners: Map<Outport, Path>) -> Result<Vec<Holder>, NoMemory>
-    ensures { IfOk result (λ v. v.items ≡ map holder_of (entries (map_of outport_cmp owners))) }
-{
-    let mut holders = Vec::new(alloc);
-    'owners: for (outport, path) in owners {
-        holders.push(outport.held_by(path))?;
-    }
-    Ok(holders)
 }
 
 /// Who holds the open writers, in the order of these.
@@ -186,5 +162,5 @@ pub(crate) fn holders_of(alloc: Global, stacks: &CodeProcs) -> Result<Vec<Holder
     ensures { IfOk result (λ v. v.items ≡ holders_by (state_of stacks.now)) }
 {
     let owners = owners(alloc, &stacks.entries)?;
-    in_order(alloc, owners)
+    holders_in_order(alloc, owners)
 }

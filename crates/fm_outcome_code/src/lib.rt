@@ -14,6 +14,7 @@ mod compiled;
 mod first;
 mod gathering;
 mod holders;
+mod rows;
 mod variables;
 mod waits;
 

@@ -1,7 +1,6 @@
 //! What the variables of main hold.
 
 ghost use Rattle.std.specs.Prelude.{◌≡◌, map, option_map, take, drop, IfOk, OnOk};
-ghost use Rattle.std.specs.FinMap.{entries};
 ghost use Rattle.std.specs.Option.{option_copied};
 ghost use Rattle.fm_base.specs.Channels.{channel_of};
 ghost use Rattle.fm_symbols.specs.ByName.{first_of_each, with_new};
@@ -11,7 +10,7 @@ ghost use Rattle.fm_gen_relation.specs.Standing.{item_in, port_by, values_in};
 ghost use Rattle.fm_proc_language.specs.Slots.{no_port, port_in};
 ghost use Rattle.fm_proc_events.specs.Phases.{proc_of};
 ghost use Rattle.fm_proc_simulation.specs.Shown.{body_shown, frame_shown, shown_all};
-ghost use Rattle.fm_outcome_code.specs.Variables.{own_frame, shown_entry};
+ghost use Rattle.fm_outcome_code.specs.Variables.{own_frame};
 
 use fm_base::{ChanName, NoMemory, Path, Seq};
 use fm_code::{Body, Frame};
@@ -21,6 +20,7 @@ use fm_plain_frame::variables_of;
 use fm_proc_events::Process;
 use fm_proc_slots::Slots;
 use fm_rules::Program;
+use fm_run::variables_in_order;
 use fm_symbols::Variable;
 use fm_tree::Kind;
 use fm_values::is_truth;
@@ -134,17 +134,6 @@ fn by_name(
     Ok(all)
 }
 
-// In byte order of the names.
-fn in_order(alloc: Global, all: NameMap<Shown>) -> Result<Vec<ShownVariable>, NoMemory>
-    ensures { IfOk result (λ v. v.items ≡ map shown_entry (entries all)) }
-{
-    let mut variables = Vec::new(alloc);
-    'variables: for (name, shown) in all.into_entries(alloc)? {
-        variables.push(ShownVariable { name, shown })?;
-    }
-    Ok(variables)
-}
-
 // The frame of the process itself, below those of calls.
 fn own_frame(body: &Body) -> &Frame
     ensures { result.now ≡ own_frame body.now.frame body.now.below }
@@ -166,7 +155,7 @@ fn shown_of(
 {
     let variables = variables_of(program, frame.unit);
     let all = by_name(alloc, slots, variables, frame.words.as_slice())?;
-    in_order(alloc, all)
+    variables_in_order(alloc, all)
 }
 
 // The variables of a process.

@@ -7,7 +7,7 @@ ghost use Rattle.fm_finmap.specs.Rows.{place_at};
 ghost use Rattle.fm_proc_language.specs.Slots.{in_slot};
 ghost use Rattle.fm_procs.specs.Kept.{AreChildren, HasFamily, IsTold};
 ghost use Rattle.fm_procs.specs.Readings.{order_of, proc_in, procs_of};
-ghost use Rattle.fm_procs.specs.Waiting.{inport_in, is_join};
+ghost use Rattle.fm_procs.specs.Waiting.{inport_in};
 ghost use Rattle.fm_proc_simulation.specs.Shown.{awaited, line_in, wait_at};
 ghost use Rattle.fm_outcome_code.specs.Waits.{received_by, joined_by, asked_by, told_by};
 
@@ -15,9 +15,11 @@ use fm_base::{Line, NoMemory, Path};
 use fm_code::{Ask, Body};
 use fm_machine_calls::{Look, line_of};
 use fm_mean::{At, Wait};
+use fm_net::number_behind;
 use fm_proc_events::{Phase, Process};
 use fm_proc_slots::Slots;
-use fm_procs::{Entries, Entry, number_behind};
+use fm_procs::{Entries, Entry, is_join};
+use fm_run::join_of;
 use std::alloc::Global;
 
 // A message of the channel of the inport in a slot, where an inport stands there.
@@ -80,32 +82,6 @@ fn awaited(
         }
     }
     Ok(None)
-}
-
-fn is_join(ask: &Ask) -> bool
-    ensures { result ≡ is_join ask.now }
-{
-    match ask {
-        Ask::Fail { .. } => false,
-        Ask::LetGo { .. } => false,
-        Ask::Channel { .. } => false,
-        Ask::Merger { .. } => false,
-        Ask::Send { .. } => false,
-        Ask::Receive { .. } => false,
-        Ask::Probe { .. } => false,
-        Ask::Begin { .. } => false,
-        Ask::Join { .. } => true,
-        Ask::End => false,
-    }
-}
-
-fn join_of(child: Option<Path>) -> Option<At>
-    ensures { result ≡ option_map at.Join child }
-{
-    match child {
-        Some(child) => Some(At::Join(child)),
-        None => None,
-    }
 }
 
 // What a process waits for that asks for this, and has so many children to join.

@@ -1,19 +1,17 @@
 -- Frames that are opened, and frames that are gone.
-use Rattle.std.proofs.Common.{◌≡◌, ℕ, zero, suc, ◌+◌, ◌-◌, Option, Some, None, List, [], ◌∷◌, ◌++◌, length, map, reverse, refl, sym, ap, ◌∙◌, arith, append_assoc}
+use Rattle.std.proofs.Common.{◌≡◌, ℕ, zero, suc, ◌+◌, Option, Some, None, List, [], ◌∷◌, ◌++◌, length, refl, sym, ap, ◌∙◌, arith}
 use Rattle.std.specs.Prelude.{slice_set}
-use Rattle.std.proofs.lemmas.List.{append-nil}
 use Rattle.fm_base.specs.declared.port.PortValue.{PortValue}
 use Rattle.fm_base.specs.Channels.{Item}
-use Rattle.fm_symbols.specs.declared.names.Variable.{Variable}
 use Rattle.fm_rules.specs.declared.program.Program.{Program}
-use Rattle.fm_mean.specs.Names.{ProgramUnit, unit_at}
+use Rattle.fm_mean.specs.Names.{ProgramUnit}
 use Rattle.fm_mean.specs.Calls.{new_frame, variables_in}
 use Rattle.fm_mean.specs.Fits.{variables_of}
 use Rattle.fm_mean.specs.Places.{Returned}
 use Rattle.fm_mean.specs.Process as mean
 use Rattle.fm_mean.specs.Process.{Execution, framed}
 use Rattle.fm_mean.specs.declared.place.Back.{Back}
-use Rattle.fm_mean.specs.Actions.{Action, Own, at_entry, opens}
+use Rattle.fm_mean.specs.Actions.{Own, opens}
 use Rattle.fm_plain_frame.specs.Frames.{frame_of}
 use Rattle.fm_plain_frame.specs.Units.{unit_of}
 use Rattle.fm_plain_frame.specs.declared.frame.Frame.{Frame}

@@ -1,5 +1,5 @@
 -- Operands that are evaluated together: the first failure, and what a statement does with them.
-use Rattle.std.proofs.Common.{◌≡◌, ℕ, ◌+◌, List, Result, Ok, Err, false, refl, sym, ap, ◌∙◌, subst, arith}
+use Rattle.std.proofs.Common.{◌≡◌, ℕ, ◌+◌, List, Result, Ok, Err, false, ap, ◌∙◌, subst, arith}
 use Rattle.fm_base.specs.declared.fault.Fault.{Fault}
 use Rattle.fm_base.specs.declared.schedule.Machine.{Machine}
 use Rattle.fm_tree.specs.Tree.{Tree, trees_from}

@@ -13,7 +13,7 @@ use Rattle.fm_mean.specs.Process.{Execution, Frame}
 use Rattle.fm_mean.specs.declared.place.Actual.{Actual}
 use Rattle.fm_mean.specs.declared.place.Back.{Back}
 use Rattle.fm_mean.specs.Actions.{opens, refers}
-use Rattle.fm_mean.specs.Evaluate.{Scope, Reference, Element, Call, Built, Unknown, array_or, function_by, intrinsic_or, is_array, reference_of}
+use Rattle.fm_mean.specs.Evaluate.{Scope, Reference, Element, Call, Unknown, array_or, function_by, intrinsic_or, is_array, reference_of}
 use Rattle.fm_plain.specs.Steps.{called_in}
 
 -- the unit of this number is called

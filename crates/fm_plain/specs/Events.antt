@@ -1,6 +1,6 @@
 -- The events that a process meets, as the code tells them.
 -- Source: this profile.
-use Rattle.std.specs.Prelude.{◌≡◌, ℕ, List, [], length}
+use Rattle.std.specs.Prelude.{◌≡◌, List, [], length}
 use Rattle.fm_mean.specs.Process.{Phase, Kid, Running, Joining, Ended, Faulted}
 use Rattle.fm_mean.specs.Actions as mean
 use Rattle.fm_plain.specs.declared.event.Event.{Event}

@@ -3,7 +3,7 @@
 ghost use Rattle.fm_rules.specs.declared.program.Program as declared;
 ghost use Rattle.std.specs.Prelude.{◌≡◌, ◌+◌, ◌-◌, Some, None, length, slice_set, IfOk, OnOk, OnErr};
 ghost use Rattle.fm_tree.specs.Tree.{trees_from};
-ghost use Rattle.fm_mean.specs.Actions.{calls, opens, reference_step, refers, trees_in};
+ghost use Rattle.fm_mean.specs.Actions.{calls, opens, reference_step, refers};
 ghost use Rattle.fm_mean.specs.Calls.{entered};
 ghost use Rattle.fm_mean.specs.Fits.{variables_of};
 ghost use Rattle.fm_mean.specs.Places.{live};
@@ -18,11 +18,11 @@ ghost use Rattle.fm_plain.specs.Standing.{StandsIn, below_in, frame_in, line_in,
 ghost use Rattle.fm_plain.specs.Steps.{IsStep, called_in};
 
 use crate::here::{Here, go_to};
-use crate::step::{Step, failed, lets_go, put_out};
+use crate::step::{Step, failed, lets_go};
 use fm_base::{Name, NoMemory, Seq};
 use fm_mean::{Actual, Back};
-use fm_plain_eval::{Failure, Reference, actuals, references, referent};
-use fm_plain_frame::{Frame, UnitView, unit_named};
+use fm_plain_eval::{Failure, actuals, references, referent};
+use fm_plain_frame::{Frame, LetGo, Reference, UnitView, unit_named};
 use fm_plain_passing::{Entered, backs_of, enter};
 use fm_tree::{Expr, ExprNode};
 use std::alloc::Global;
@@ -107,7 +107,7 @@ fn opens(
             go_on(top, opening.next);
             let frame = Frame::new(alloc, number, entered.memory, opening.backs);
             below[place] = mem::replace(top, frame);
-            let ports = put_out(alloc, entered.replaced);
+            let ports = LetGo::of_replaced(alloc, entered.replaced);
             Ok(lets_go(here, ports, cost))
         }
     }
@@ -154,16 +154,6 @@ pub(crate) fn calls(
             };
             opens(alloc, here, top, below, opening)
         }
-    }
-}
-
-/// The arguments of a CALL.
-pub(crate) fn arguments_of(arguments: &Option<Seq<Expr>>) -> &[Expr]
-    ensures { trees_from result.now ≡ trees_in arguments.now }
-{
-    match arguments {
-        None => &[],
-        Some(arguments) => arguments.as_slice(),
     }
 }
 

@@ -7,11 +7,11 @@ ghost use Rattle.fm_plain_eval.specs.Outcomes.{IsDone};
 ghost use Rattle.fm_plain.specs.Standing.{ActsOn, StandsIn, frame_in, point_in, scope_in};
 
 use crate::here::{Here, go_to};
-use crate::step::{Step, failed, fails, lets_go, put_out};
+use crate::step::{Step, failed, fails, lets_go};
 use fm_base::{Fault, NoMemory, PortValue};
 use fm_mean::Span;
 use fm_plain_eval::{Failure, place};
-use fm_plain_frame::Frame;
+use fm_plain_frame::{Frame, LetGo};
 use fm_tree::Var;
 use std::alloc::Global;
 
@@ -68,7 +68,7 @@ fn closed(alloc: Global, here: &Here<'_>, top: &mut Frame, place: Span) -> Resul
     let mut replaced = room(alloc)?;
     fill(&mut replaced, here.exchange(top, place, None));
     go_to(top, here.entry.after);
-    let ports = put_out(alloc, replaced);
+    let ports = LetGo::of_replaced(alloc, replaced);
     Ok(lets_go(here, ports, 1))
 }
 
@@ -104,7 +104,7 @@ fn moved(
     let port = here.exchange(top, from, None);
     fill(&mut replaced, here.exchange(top, to, port));
     go_to(top, here.entry.after);
-    let ports = put_out(alloc, replaced);
+    let ports = LetGo::of_replaced(alloc, replaced);
     Ok(lets_go(here, ports, 1))
 }
 

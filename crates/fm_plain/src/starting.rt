@@ -15,11 +15,11 @@ ghost use Rattle.fm_plain.specs.Standing.{ActsAt, ActsOn, StandsIn, frame_in, po
 
 use crate::calling::frame_cost;
 use crate::here::{Here, go_to};
-use crate::step::{Step, failed, lets_go, put_out};
+use crate::step::{Step, failed, lets_go};
 use fm_base::{Machine, Name, NoMemory, Seq};
 use fm_mean::Actual;
 use fm_plain_eval::{Failure, actuals, seat};
-use fm_plain_frame::{Frame, Start, UnitView, unit_named};
+use fm_plain_frame::{Frame, LetGo, Start, UnitView, unit_named};
 use fm_plain_passing::{backs_of, enter};
 use fm_tree::{CallPart, Expr, Where};
 use std::alloc::Global;
@@ -109,7 +109,7 @@ fn pends(
                 node,
             };
             go_to(top, here.entry.after);
-            let ports = put_out(alloc, entered.replaced);
+            let ports = LetGo::of_replaced(alloc, entered.replaced);
             Ok(lets_go(here, ports, cost))
         }
     }

@@ -8,7 +8,7 @@ ghost use Rattle.fm_plain.specs.Standing.{SitsAt, StandsIn, below_in, frame_in, 
 ghost use Rattle.fm_plain.specs.Steps.{IsStep};
 
 use crate::assigning::{assigns, prints};
-use crate::calling::{arguments_of, calls};
+use crate::calling::calls;
 use crate::control::{goes_to, jumps, tests};
 use crate::event::Event;
 use crate::here::Here;
@@ -19,7 +19,7 @@ use crate::returning::returns;
 use crate::starting::{arguments_in, process_calls, where_in};
 use crate::step::Step;
 use fm_base::NoMemory;
-use fm_plain_frame::Frame;
+use fm_plain_frame::{Frame, arguments_of};
 use fm_tree::{Simple, Stmt};
 use std::alloc::Global;
 

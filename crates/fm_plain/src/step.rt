@@ -52,19 +52,7 @@ pub(crate) fn failed(line: Line, failure: Failure) -> Result<Step, NoMemory>
     }
 }
 
-/// Ports that were put out of their places are let go.
-pub(crate) fn put_out(alloc: Global, replaced: Vec<Option<PortValue>>) -> LetGo
-    ensures { (p : declared.Program) → let_go_ports p result ≡ live replaced.items }
-{
-    LetGo {
-        replaced,
-        top: None,
-        below: Vec::new(alloc),
-        taken: Vec::new(alloc),
-    }
-}
-
-/// And those of a frame that is gone.
+/// Ports that were put out of their places are let go, and those of a frame that is gone.
 pub(crate) fn put_out_with(alloc: Global, replaced: Vec<Option<PortValue>>, gone: Frame) -> LetGo
     ensures { (p : declared.Program) → let_go_ports p result ≡ live replaced.items ++ frame_ports (frame_of p gone) }
 {

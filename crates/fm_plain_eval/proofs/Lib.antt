@@ -1,4 +1,3 @@
 pub mod Steps
 pub mod Walks
-pub mod Seating
 pub mod SpanLaws

@@ -11,11 +11,12 @@ ghost use Rattle.fm_plain_eval.specs.Outcomes.{IsFrom};
 ghost use Rattle.fm_plain_eval.specs.Scopes.{scope_of};
 
 use crate::failure::Failure;
-use crate::reference::{Reference, referent};
+use crate::reference::referent;
 use crate::scopes::{Scope, single, whole};
 use crate::values::{element, value};
 use fm_base::{Name, NoMemory, Seq};
 use fm_mean::{Actual, Span};
+use fm_plain_frame::Reference;
 use fm_plain_frame::memory::words;
 use fm_tree::{Expr, ExprNode, Kind};
 use std::alloc::Global;

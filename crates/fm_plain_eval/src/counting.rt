@@ -2,26 +2,14 @@
 
 ghost use Rattle.std.specs.Prelude.{◌≡◌, ◌+◌, IfOk};
 ghost use Rattle.fm_tree.specs.Tree.{trees_from};
-ghost use Rattle.fm_mean.specs.Evaluate.{counts_one, refs_in, refs_in_all};
-ghost use Rattle.fm_plain_eval.specs.References.{reference_by};
+ghost use Rattle.fm_mean.specs.Evaluate.{refs_in, refs_in_all};
 ghost use Rattle.fm_plain_eval.specs.Scopes.{scope_of};
 
-use crate::reference::{Reference, referent};
+use crate::reference::referent;
 use crate::scopes::Scope;
 use fm_base::NoMemory;
+use fm_plain_frame::number_after;
 use fm_tree::{Expr, ExprNode};
-
-/// The number behind one more reference, if this is one.
-fn behind(reference: &Reference<'_>, next: usize) -> Result<usize, NoMemory>
-    ensures { IfOk result (λ k. k ≡ next + counts_one (reference_by reference.now)) }
-{
-    match reference {
-        Reference::Element(_, _) => Ok(next),
-        Reference::Call(_, _) => next.checked_add(1).ok_or(NoMemory),
-        Reference::Built(_) => Ok(next),
-        Reference::Unknown => Ok(next),
-    }
-}
 
 #[cycle(counting)]
 fn references_in(scope: &Scope<'_>, tree: &Expr, next: usize) -> Result<usize, NoMemory>
@@ -33,7 +21,7 @@ fn references_in(scope: &Scope<'_>, tree: &Expr, next: usize) -> Result<usize, N
         ExprNode::Named(_) => Ok(next),
         ExprNode::Ref(name, arguments) => {
             let next = references(scope, arguments, next)?;
-            behind(&referent(scope, name), next)
+            number_after(&referent(scope, name), next)
         }
         ExprNode::Paren(inner) => references_in(scope, inner, next),
         ExprNode::Signed(_, inner) => references_in(scope, inner, next),

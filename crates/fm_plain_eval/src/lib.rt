@@ -18,7 +18,7 @@ pub use bounds::loop_bounds;
 pub use counting::references;
 pub use failure::Failure;
 pub use lines::line;
-pub use reference::{Reference, referent};
+pub use reference::referent;
 pub use scopes::{Scope, single, whole};
 pub use seats::seat;
 pub use spans::{place, places};

@@ -4,28 +4,16 @@ ghost use Rattle.std.specs.Prelude.{◌≡◌};
 ghost use Rattle.fm_mean.specs.Evaluate.{function_by, intrinsic_or, reference_of};
 ghost use Rattle.fm_mean.specs.Names.{unit_named};
 ghost use Rattle.fm_values.specs.Intrinsics.{intrinsic_named};
+ghost use Rattle.fm_plain_frame.specs.References.{reference_by};
 ghost use Rattle.fm_plain_frame.specs.Units.{unit_of};
-ghost use Rattle.fm_plain_eval.specs.References.{IsPlaced, reference_by};
+ghost use Rattle.fm_plain_eval.specs.References.{IsPlaced};
 ghost use Rattle.fm_plain_eval.specs.Scopes.{scope_of};
 
 use crate::scopes::Scope;
 use fm_base::Name;
-use fm_plain_frame::{UnitView, unit_named};
-use fm_symbols::{Variable, is_function};
+use fm_plain_frame::{Reference, unit_named};
+use fm_symbols::is_function;
 use fm_values::Intrinsic;
-
-/// What a name with a list behind it means. Contracts see it as the meaning's (`reference_by`).
-#[derive(Clone, Copy)]
-pub enum Reference<'p> {
-    /// An element of the array at this place among the variables.
-    Element(u32, &'p Variable),
-    /// A FUNCTION, with its number.
-    Call(u32, UnitView<'p>),
-    /// An intrinsic function.
-    Built(Intrinsic),
-    /// Nothing.
-    Unknown,
-}
 
 fn function<'p>(scope: &Scope<'p>, name: &Name) -> Reference<'p>
     ensures reference { reference_by result ≡ function_by (unit_named scope.now.unit.program.now name.now) }

@@ -10,9 +10,10 @@ ghost use Rattle.fm_plain_eval.specs.Scopes.{scope_of};
 
 use crate::counting::references;
 use crate::failure::Failure;
-use crate::reference::{Reference, referent};
+use crate::reference::referent;
 use crate::scopes::Scope;
 use fm_base::{Name, NoMemory, Seq};
+use fm_plain_frame::Reference;
 use fm_symbols::Variable;
 use fm_tree::{Expr, ExprNode};
 use fm_values::{Value, apply, with_sign};

@@ -1,5 +1,5 @@
 -- Frames and processes as the meaning's.
-use Rattle.std.proofs.Common.{◌≡◌, ℕ, ◌+◌, ◌*◌, ◌<◌, ◌≤◌, ◌&&◌, Bool, true, false, Option, Some, None, List, [], ◌∷◌, ◌++◌, length, drop, get_or, map, reverse, option_to_list, option_map, refl, sym, ap, append_assoc, ◌∙◌}
+use Rattle.std.proofs.Common.{◌≡◌, ℕ, ◌+◌, ◌*◌, ◌<◌, ◌≤◌, ◌&&◌, Bool, true, false, Option, Some, None, unwrap_or, List, [], ◌∷◌, ◌++◌, length, drop, get_or, map, reverse, option_to_list, option_map, refl, sym, ap, append_assoc, ◌∙◌}
 use Rattle.std.specs.FinMap as finite
 use Rattle.std.specs.Ordering.{nat_cmp}
 use Rattle.std.proofs.lemmas.List.{append-nil, drop_all, drop_more}
@@ -11,7 +11,7 @@ use Rattle.std.specs.BTreeMap.{BTreeMap}
 use Rattle.fm_mean.specs.Fits.{variables_of}
 use Rattle.fm_symbols.specs.declared.names.Variable.{Variable}
 use Rattle.fm_rules.specs.declared.program.Program.{Program}
-use Rattle.fm_rules.specs.Program as rules
+use Rattle.fm_rules.specs.Main.{main_of}
 use Rattle.fm_mean.specs.Names.{ProgramUnit, unit_at, all_unset}
 use Rattle.fm_map.specs.Placement.{product}
 use Rattle.fm_mean.specs.Calls.{new_frame, variables_in}
@@ -60,14 +60,14 @@ all_nodes es i n end so = sym (mul-one n) ∙ ap (λ l. n * product l) (sym (dro
 -- Main.
 
 -- the unit that the program names is its main one
-pub main_unit : (p : Program) (n : ℕ) (o : Option ProgramUnit) → n ≡ rules.main_of p.units.units → o ≡ unit_at p n → first_proc p ≡ mean.proc_of (main_in n o)
+pub main_unit : (p : Program) (n : ℕ) (o : Option ProgramUnit) → n ≡ unwrap_or (main_of p.units.units) 0 → o ≡ unit_at p n → first_proc p ≡ mean.proc_of (main_in n o)
 main_unit p n o is at =
     let m = main_there p in
     let same : m.number ≡ n = sym (main_is p m.number m.is) ∙ sym is in
     ap (λ k. mean.proc_of (main_by p k)) (m.is ∙ ap Some same) ∙ ap (λ u. mean.proc_of (main_in n u)) (sym at)
 
 -- it is there
-pub main_not_none : (p : Program) (n : ℕ) → n ≡ rules.main_of p.units.units → None ≡ unit_at p n → ⊥
+pub main_not_none : (p : Program) (n : ℕ) → n ≡ unwrap_or (main_of p.units.units) 0 → None ≡ unit_at p n → ⊥
 main_not_none p n is none =
     let m = main_there p in
     let same : m.number ≡ n = sym (main_is p m.number m.is) ∙ sym is in
@@ -96,7 +96,7 @@ pub set_loops : (old new : BTreeMap ℕ Trips) (k : ℕ) (t : Trips) → map_of 
 set_loops old new k t e = ap (map_values trips_of) e ∙ map_values-insert trips_of nat_order (map_of nat_cmp old.entries) k t
 
 -- main as it is made
-pub main_made : (p : Program) (n : ℕ) (u : ProgramUnit) (f : process.Frame) (m : List Word) (vs : List Variable) (backs : List Back) (count : ℕ) → n ≡ rules.main_of p.units.units → Some u ≡ unit_at p n
+pub main_made : (p : Program) (n : ℕ) (u : ProgramUnit) (f : process.Frame) (m : List Word) (vs : List Variable) (backs : List Back) (count : ℕ) → n ≡ unwrap_or (main_of p.units.units) 0 → Some u ≡ unit_at p n
     → f ≡ new_frame n (values_of (variables_of p n) m) backs → backs ≡ [] → vs ≡ u.names.variables → values_of vs m ≡ all_unset vs → count ≡ nodes_of u.names.extents
     → mean.proc_of (record { frames = f ∷ []; machine = record { first = 0; count = count }; node = 0 }) ≡ first_proc p
 main_made p n u f m vs backs count is here frame none mine unset nodes =

@@ -4,3 +4,4 @@ pub mod LetGo
 pub mod Leaving
 pub mod Units
 pub mod Lookup
+pub mod References

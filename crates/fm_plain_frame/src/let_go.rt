@@ -2,6 +2,7 @@
 
 ghost use Rattle.std.specs.Prelude.{◌≡◌, ◌==◌, [], length, option_map, option_to_list};
 ghost use Rattle.fm_rules.specs.declared.program.Program as declared;
+ghost use Rattle.fm_mean.specs.Places.{live};
 ghost use Rattle.fm_mean.specs.Process.{frames_ports};
 ghost use Rattle.fm_plain_frame.specs.Frames.{frame_of};
 ghost use Rattle.fm_plain_frame.specs.LetGo.{let_go_ports};
@@ -43,6 +44,18 @@ impl LetGo {
     {
         LetGo {
             replaced: Vec::new(alloc),
+            top: None,
+            below: Vec::new(alloc),
+            taken: Vec::new(alloc),
+        }
+    }
+
+    /// Ports that were put out of their places are let go. Takes no memory.
+    pub fn of_replaced(alloc: Global, replaced: Vec<Option<PortValue>>) -> LetGo
+        ensures { (p : declared.Program) → let_go_ports p result ≡ live replaced.items }
+    {
+        LetGo {
+            replaced,
             top: None,
             below: Vec::new(alloc),
             taken: Vec::new(alloc),

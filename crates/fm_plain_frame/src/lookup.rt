@@ -2,33 +2,18 @@
 
 ghost use Rattle.std.specs.Prelude.{◌≡◌, slice_get};
 ghost use Rattle.std.specs.Option.{option_copied};
-ghost use Rattle.fm_mean.specs.Names.{constant_in, formal_from, place_in, same_name};
+ghost use Rattle.fm_mean.specs.Names.{constant_in, formal_from};
 ghost use Rattle.fm_plain_frame.specs.Lookup.{is_constant};
 
 use fm_base::Name;
+use fm_rules::same_name;
 use fm_symbols::{Constant, Symbol, Variable};
-use std::cmp::Ordering;
 
 /// The item at a place.
 pub(crate) fn item_at<T>(items: &[T], place: usize) -> Option<&T>
     ensures { option_copied result ≡ slice_get items.now place }
 {
     items.get(place)
-}
-
-/// The place of a variable by what its name means.
-pub(crate) fn place_in(symbol: Option<Symbol>) -> Option<u32>
-    ensures { result ≡ place_in symbol }
-{
-    match symbol {
-        None => None,
-        Some(Symbol::Constant(_)) => None,
-        Some(Symbol::Variable(_, place)) => Some(place),
-        Some(Symbol::Array(_, place, _)) => Some(place),
-        Some(Symbol::Port(_, place)) => Some(place),
-        Some(Symbol::Ports(_, place, _)) => Some(place),
-        Some(Symbol::Function(_)) => None,
-    }
 }
 
 /// Whether a name means a constant.
@@ -44,12 +29,6 @@ pub(crate) fn is_constant(symbol: Option<Symbol>) -> bool
         Some(Symbol::Ports(_, _, _)) => false,
         Some(Symbol::Function(_)) => false,
     }
-}
-
-fn same_name(left: &Name, right: &Name) -> bool
-    ensures { result ≡ same_name left.now right.now }
-{
-    matches!(left.cmp(right), Ordering::Equal)
 }
 
 /// The constant with a name among these.

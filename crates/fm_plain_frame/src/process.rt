@@ -87,7 +87,7 @@ fn times(count: u32, extent: u32) -> Result<u32, NoMemory>
 }
 
 /// The nodes of a PROCESSORS statement with these extents, or one.
-fn nodes_of(extents: &[u32]) -> Result<u32, NoMemory>
+pub fn nodes_of(extents: &[u32]) -> Result<u32, NoMemory>
     ensures { IfOk result (λ n. n ≡ nodes_of extents.now) }
 {
     let mut nodes: u32 = 1;

@@ -13,7 +13,7 @@ use fm_symbols::Variable;
 use std::alloc::Global;
 
 /// So many words from this one on, as far as they go.
-fn part(words: &[Word], first: usize, count: usize) -> &[Word]
+pub fn part(words: &[Word], first: usize, count: usize) -> &[Word]
     ensures { result.now ≡ take count (drop first words.now) }
 {
     let (_, rest) = words.split_at(first.min(words.len()));

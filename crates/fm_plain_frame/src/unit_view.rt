@@ -6,10 +6,12 @@ ghost use Rattle.fm_rules.specs.Links.{links_of};
 ghost use Rattle.fm_rules.specs.Program.{all_links};
 ghost use Rattle.fm_symbols.specs.Context.{scope_of, scopes_of};
 
-use crate::lookup::{constant_in, is_constant, item_at, place_in};
+use crate::lookup::{constant_in, is_constant, item_at};
 use fm_base::Name;
 use fm_rules::{EntryLinks, Program};
-use fm_symbols::{Constant, Scope, Symbol, UnitNames, Variable, heading_kind, heading_name};
+use fm_symbols::{
+    Constant, Scope, Symbol, UnitNames, Variable, heading_kind, heading_name, symbol_place,
+};
 use fm_tree::{Entry, Unit, UnitKind};
 
 fn tree_at(program: &Program, number: u32) -> Option<&Unit>
@@ -56,9 +58,9 @@ impl<'p> UnitView<'p> {
     ghost use Rattle.std.specs.Prelude.{IfSome};
     ghost use Rattle.std.specs.Option.{option_map};
     ghost use Rattle.std.specs.FinMap.{get};
-    ghost use Rattle.fm_symbols.specs.Context.{symbols_of};
+    ghost use Rattle.fm_symbols.specs.Context.{symbol_place, symbols_of};
     ghost use Rattle.fm_mean.specs.Layout.{AreLaidOut};
-    ghost use Rattle.fm_mean.specs.Names.{constant_of, kind_of, place_in, point_at, result_variable, unit_at, variable_of};
+    ghost use Rattle.fm_mean.specs.Names.{constant_of, kind_of, point_at, result_variable, unit_at, variable_of};
     ghost use Rattle.fm_mean.specs.ValueTypes.{AreSized};
     ghost use Rattle.fm_plain_frame.specs.Units.{point_read, unit_of, variable_read};
 
@@ -129,9 +131,9 @@ impl<'p> UnitView<'p> {
 
     /// The place among the variables of the variable with a name.
     pub fn place(&self, name: &Name) -> Option<u32>
-        ensures { result ≡ place_in (get (symbols_of (unit_of self.now).names) name.now) }
+        ensures { result ≡ symbol_place (get (symbols_of (unit_of self.now).names) name.now) }
     {
-        place_in(self.symbol(name))
+        symbol_place(self.symbol(name))
     }
 
     /// The variable with a name, and its place.

@@ -124,6 +124,16 @@ module _ (m : Procs Proc) (p : Place) (b : ℕ) where
       let next : n + 1 ≡ suc n = omega arith in
       ap (λ (k : ℕ). is_some (gathered has_ended m p b 1 k)) next ∙ ap is_some (one_last 1 n x.0 xs.0 xs.1 x.1 x.2)
 
+  -- those behind the first ones have ended too
+  pub ended_from : (n d : ℕ) → ((k : ℕ) → n ≤ k → k < d + n → ended_at (get m (child p b (k + 1))) ≡ true) → is_some (gathered has_ended m p b 1 n) ≡ true → is_some (gathered has_ended m p b 1 (d + n)) ≡ true
+  ended_from n zero each before =
+      let same : 0 + n ≡ n = omega arith in
+      ap (λ (k : ℕ). is_some (gathered has_ended m p b 1 k)) same ∙ before
+  ended_from n (suc d) each before =
+      let next : suc d + n ≡ d + n + 1 = omega arith in
+      ap (λ (k : ℕ). is_some (gathered has_ended m p b 1 k)) next
+      ∙ ended_more (d + n) (ended_from n d (λ k low high. each k low (omega (arith, high))) before) (each (d + n) (omega arith) (omega arith))
+
   -- one child has not
   pub not_all_ended : (n count : ℕ) → n < count → ended_at (get m (child p b (n + 1))) ≡ false → is_some (gathered has_ended m p b 1 count) ≡ false
   not_all_ended n count low this = go (gathered has_ended m p b 1 count) refl

@@ -6,20 +6,15 @@ use Rattle.fm_base.specs.declared.port.PortValue.{PortValue}
 use Rattle.fm_base.specs.declared.port.PortValue.TheVariants.{Writer, Reader}
 use Rattle.fm_base.specs.PathOrder.{channel_cmp}
 use Rattle.fm_finmap.specs.Map.{map_of}
-use Rattle.fm_finmap.specs.Keys.{IsKeyOrder}
 use Rattle.fm_finmap.proofs.Keys.{channel_order}
 use Rattle.fm_finmap.proofs.Inserts.{insert_here, insert_there, remove_there}
-use Rattle.fm_finmap.proofs.Maps.{key_order}
 use Rattle.fm_net.specs.Owned.{count, one}
 use Rattle.fm_net.proofs.Counts.{count-cons, one_self}
 use Rattle.fm_mean.specs.declared.outport.Outport.{Outport}
-use Rattle.fm_mean.specs.OutportKeys.{outport_exact, outport_total}
 use Rattle.fm_mean.specs.Outports.{outport_cmp}
+use Rattle.fm_run.proofs.Holding.{outport_order}
 use Rattle.fm_plain_net.specs.declared.ports.Ports.{Ports}
 use Rattle.fm_plain_net.specs.Readings.{kept}
-
-pub outport_order : IsKeyOrder outport_cmp
-outport_order = key_order outport_total outport_exact
 
 pub kept_reader : (ports : Ports) (c : ChanName) → kept ports (Reader c) ≡ get (map_of channel_cmp ports.inports) c
 unfolding kept

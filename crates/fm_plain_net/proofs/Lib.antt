@@ -1,5 +1,6 @@
 pub mod Steps
 pub mod Family
+pub mod Counting
 pub mod Able
 pub mod Awaiting
 pub mod Balance

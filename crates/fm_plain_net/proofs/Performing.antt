@@ -1,5 +1,5 @@
 -- What a process does with its event is what it asked for.
-use Rattle.std.proofs.Common.{◌≡◌, inl, inr, ◌+◌, ℕ, Bool, true, false, cond, Option, Some, None, List, [], ◌∷◌, ◌++◌, length, map, refl, sym, ap, subst, ◌∙◌, append-nil, arith}
+use Rattle.std.proofs.Common.{◌≡◌, inl, inr, ◌+◌, ℕ, Bool, true, cond, Option, Some, None, List, [], ◌∷◌, ◌++◌, length, map, refl, sym, ap, subst, ◌∙◌, append-nil, arith}
 use Rattle.std.proofs.lemmas.List.{length-map}
 use Rattle.std.specs.Prelude.{is_some}
 use Rattle.std.specs.FinMap.{get, insert}
@@ -7,13 +7,13 @@ use Rattle.fm_base.specs.declared.fault.Fault.{Fault}
 use Rattle.fm_base.specs.declared.path.ChanName.{ChanName}
 use Rattle.fm_base.specs.declared.port.PortValue.{PortValue}
 use Rattle.fm_base.specs.declared.port.PortValue.TheVariants.{Writer, Reader}
-use Rattle.fm_base.specs.Channels.{Message, Chan, Chans, Push, Pop, Look, fresh, changed, gives, tells, is_ready, first_exceeds, spills_at, message_ports, all_shed}
+use Rattle.fm_base.specs.Channels.{Message, Chan, Chans, Push, Pop, Look, fresh, changed, gives, tells, is_ready, spills_at, message_ports, all_shed}
 use Rattle.fm_finmap.specs.Changes.{adjust}
 use Rattle.fm_finmap.proofs.Adjusts.{adjust-insert}
 use Rattle.fm_finmap.proofs.Inserts.{insert_same}
 use Rattle.fm_chan.specs.Events.{after_send as sent_by}
-use Rattle.fm_chan.specs.declared.message.Got.TheVariants as got
-use Rattle.fm_chan.specs.Received.{got_of, got_at, waits_at}
+use Rattle.fm_chan.specs.Received.{got_at, message_in, waits_at}
+use Rattle.fm_chan.proofs.Receiving.{message_brought}
 use Rattle.fm_net.specs.Machine.{Place, Need, Nothing, New, Children, Reply, Onward, Go, reply_with, reply_at, served_at}
 use Rattle.fm_net.specs.Machine as net
 use Rattle.fm_net.specs.Lawful as law
@@ -35,7 +35,7 @@ use Rattle.fm_plain_frame.specs.Frames.{proc_of}
 use Rattle.fm_plain_frame.specs.declared.process.PlainProc.{PlainProc}
 use Rattle.fm_plain_replies.specs.Goes.{in_frames, after_make, after_send, after_message, after_end_of_channel, after_probe, after_begin, message_sent, message_in as in_message}
 use Rattle.fm_plain_net.specs.declared.ports.Ports.{Ports}
-use Rattle.fm_plain_net.specs.Goes.{CanPerform, Performs, is_served, message_in}
+use Rattle.fm_plain_net.specs.Goes.{CanPerform, Performs, is_served}
 use Rattle.fm_plain_net.specs.Held.{AreKept, AreOnce, Carries, IsKept, MayDrop, MayGoOn, StayBut, Stay}
 use Rattle.fm_run.proofs.Able.{pops_served}
 
@@ -50,20 +50,6 @@ look_chan (Some ch) e = (ch, refl)
 pop_chan : (o : Option Chan) → is_some (served_at {Proc = Proc} (Pop []) o) ≡ true → (ch : Chan) × (o ≡ Some ch) × (is_ready (Pop []) ch ≡ true)
 pop_chan None e = absurd (cc e)
 pop_chan (Some ch) e = (ch, refl, sym (pops_served [] (Some ch)) ∙ e)
-
-got_message : (o : Option Message) → message_in (got_of o) ≡ o
-got_message None = refl
-got_message (Some message) = refl
-
--- without limits no message exceeds
-none_exceeds : (queue : List Message) → first_exceeds [] queue ≡ false
-none_exceeds [] = refl
-none_exceeds (message ∷ queue) = refl
-
-message_brought : (ch : Chan) → is_ready (Pop []) ch ≡ true → message_in (got_at [] (Some ch)) ≡ gives (Pop []) ch
-message_brought ch ready =
-    ap (λ b. message_in (cond b (cond (first_exceeds [] ch.queue) got.Exceeds (got_of (gives (Pop []) ch))) got.Wait)) ready
-    ∙ ap (λ b. message_in (cond b got.Exceeds (got_of (gives (Pop []) ch)))) (none_exceeds ch.queue) ∙ got_message (gives (Pop []) ch)
 
 no_spills : (o : Option Chan) → spills_at (Pop []) o ≡ []
 no_spills None = refl

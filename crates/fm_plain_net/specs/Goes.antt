@@ -3,10 +3,8 @@
 use Rattle.std.specs.Prelude.{◌≡◌, ℕ, Bool, true, false, is_some, Option, Some, None, List, [], ◌++◌, map}
 use Rattle.std.specs.FinMap.{get, insert}
 use Rattle.fm_base.specs.declared.path.ChanName.{ChanName}
-use Rattle.fm_base.specs.Channels.{Message, Chans, all_shed}
+use Rattle.fm_base.specs.Channels.{Chans, all_shed}
 use Rattle.fm_finmap.specs.Changes.{Change}
-use Rattle.fm_chan.specs.declared.message.Got.{Got}
-use Rattle.fm_chan.specs.declared.message.Got.TheVariants as got
 use Rattle.fm_net.specs.Machine.{Place, Need, Nothing, Event, New, Children, Reply, Onward, Go, Procs, reply_with, made, chans_after, spilt, served_at, gathered, child_changes}
 use Rattle.fm_rules.specs.declared.program.Program.{Program}
 use Rattle.fm_net.specs.Owned.{name_of}
@@ -27,13 +25,6 @@ is_served m (Some Nothing) = true
 is_served m (Some (Event c a)) = is_some (served_at {Proc = Proc} a (get m c))
 is_served m (Some (New n writers)) = true
 is_served m (Some (Children b n)) = true
-
--- the message that came, if one did
-abbrev pub message_in : Got → Option Message
-message_in (got.Message m) = Some m
-message_in got.Exceeds = None
-message_in got.Wait = None
-message_in got.End = None
 
 -- the block that a process joins by its need, and the number of its children
 abbrev pub joined_in : Option Need → Option (ℕ × ℕ)

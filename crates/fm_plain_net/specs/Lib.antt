@@ -3,5 +3,4 @@ pub mod Held
 pub mod Goes
 pub mod Advances
 pub mod Shown
-pub mod Holding
 pub mod Waited

@@ -2,16 +2,12 @@
 -- Source: this profile.
 use Rattle.std.specs.Prelude.{ℕ, zero, Option, Some, None, List, []}
 use Rattle.fm_rules.specs.declared.program.Program.{Program}
-use Rattle.fm_mean.specs.declared.outcome.Shown.{Shown}
 use Rattle.fm_mean.specs.declared.outcome.ShownVariable.{ShownVariable}
 use Rattle.fm_mean.specs.Fits.{variables_of}
 use Rattle.fm_mean.specs.Names.{unit_at}
 use Rattle.fm_mean.specs.Outcome.{shown_of, line_within}
 use Rattle.fm_plain_frame.specs.Memory.{values_of}
 use Rattle.fm_plain_frame.specs.declared.frame.Frame.{Frame}
-
-abbrev pub shown_entry : List ℕ × Shown → ShownVariable
-shown_entry e = record { name = e.0; shown = e.1 }
 
 abbrev pub of_frame : Program → Option Frame → List ShownVariable
 of_frame p None = []

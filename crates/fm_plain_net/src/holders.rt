@@ -1,45 +1,29 @@
 //! Who holds the open writers.
 
 ghost use Rattle.std.specs.Prelude.{◌≡◌, [], ◌∷◌, map, option_map, option_to_list, reverse, IfOk, OnOk};
-ghost use Rattle.std.specs.FinMap.{entries, from_entries};
+ghost use Rattle.std.specs.FinMap.{from_entries};
 ghost use Rattle.fm_base.specs.Channels.{item_ports, message_ports};
 ghost use Rattle.fm_rules.specs.declared.program.Program as declared;
 ghost use Rattle.fm_finmap.specs.Map.{map_of};
-ghost use Rattle.fm_mean.specs.Holders.{holder_of, holder_path, holders_of, holdings, holdings_at};
+ghost use Rattle.fm_mean.specs.Holders.{holder_path, holders_of, holdings, holdings_at};
 ghost use Rattle.fm_mean.specs.Outports.{outport_cmp};
 ghost use Rattle.fm_mean.specs.Places.{live};
 ghost use Rattle.fm_mean.specs.Process.{frame_ports, frames_ports, held, started_ports};
 ghost use Rattle.fm_plain_frame.specs.Frames.{frame_of, proc_of, start_of};
 ghost use Rattle.fm_plain_frame.specs.Memory.{item_in, port_in, values_of};
-ghost use Rattle.fm_plain_net.specs.Holding.{with_held, with_holder, with_holders};
+ghost use Rattle.fm_run.specs.Gathered.{with_held, with_holders};
 ghost use Rattle.fm_plain_net.specs.Readings.{procs_of, state_of};
 
 use crate::processes::{Processes, Trees};
-use crate::shown::part;
 use fm_base::{NoMemory, Path, PortValue};
 use fm_finmap::Map;
 use fm_mean::{Holder, Outport};
-use fm_plain_frame::{Frame, PlainProc, Start, Word, variables_of};
+use fm_plain_frame::{Frame, PlainProc, Start, Word, part, variables_of};
 use fm_rules::Program;
+use fm_run::{holders_in_order, put_outport};
 use fm_symbols::Variable;
 use fm_tree::Kind;
 use std::alloc::Global;
-
-// Of two holders of an outport the first counts.
-fn put_outport(
-    alloc: Global,
-    all: &mut Map<Outport, Path>,
-    path: &Path,
-    outport: Outport,
-) -> Result<(), NoMemory>
-    ensures { OnOk result (map_of outport_cmp all.new ≡ with_holder (map_of outport_cmp all.old) outport path.now) }
-{
-    if all.contains_key(&outport) {
-        return Ok(());
-    }
-    all.insert(outport, path.copy(alloc)?)?;
-    Ok(())
-}
 
 fn put_port(
     alloc: Global,
@@ -245,16 +229,6 @@ impl Processes {
     }
 }
 
-fn in_order(alloc: Global, owners: Map<Outport, Path>) -> Result<Vec<Holder>, NoMemory>
-    ensures { IfOk result (λ v. v.items ≡ map holder_of (entries (map_of outport_cmp owners))) }
-{
-    let mut holders = Vec::new(alloc);
-    'owners: for (outport, path) in owners {
-        holders.push(outport.held_by(path))?;
-    }
-    Ok(holders)
-}
-
 /// Who holds the open writers, in the order of these.
 pub(crate) fn holders(
     alloc: Global,
@@ -264,5 +238,5 @@ pub(crate) fn holders(
     ensures { IfOk result (λ v. v.items ≡ holders_of (state_of program.now net.now)) }
 {
     let owners = net.processes.owners(alloc, program)?;
-    in_order(alloc, owners)
+    holders_in_order(alloc, owners)
 }

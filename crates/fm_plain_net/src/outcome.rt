@@ -1,11 +1,10 @@
 //! What a run shows when it has ended.
 
-ghost use Rattle.std.specs.Prelude.{◌≡◌, ◌++◌, ◌∷◌, ℕ, Some, [], map, option_map, IfOk, OnOk};
+ghost use Rattle.std.specs.Prelude.{◌≡◌, ◌++◌, ℕ, Some, [], IfOk, OnOk};
 ghost use Rattle.std.specs.List.{flat_map};
 ghost use Rattle.std.specs.FinMap.{entries};
 ghost use Rattle.std.specs.Option.{option_copied};
 ghost use Rattle.fm_rules.specs.declared.program.Program as declared;
-ghost use Rattle.fm_mean.specs.declared.outcome.At.TheVariants as at;
 ghost use Rattle.fm_mean.specs.Actions as action;
 ghost use Rattle.fm_mean.specs.Actions.{action_of};
 ghost use Rattle.fm_mean.specs.Names.{unit_at};
@@ -21,50 +20,15 @@ ghost use Rattle.fm_plain_net.specs.Shown.{line_of_frame};
 
 use crate::holders::holders;
 use crate::processes::{Processes, Slot, Trees};
-use crate::ready::{Family, number_behind};
 use crate::shown::shown_all;
 use fm_base::{Line, NoMemory, Path, Seq};
-use fm_mean::{At, FaultAt, Outcome, OutputLine, Wait};
+use fm_mean::{At, FaultAt, Outcome, Wait};
+use fm_net::{Family, number_behind};
 use fm_plain::{Event, Next};
 use fm_plain_frame::{Frame, Phase, PlainProc, UnitView};
 use fm_rules::Program;
+use fm_run::{Gathered, join_of, push_lines};
 use std::alloc::Global;
-
-/// Output lines, faults and waits, process after process.
-#[derive(Drop)]
-struct Gathered {
-    lines: Vec<OutputLine>,
-    faults: Vec<FaultAt>,
-    waits: Vec<Wait>,
-}
-
-fn push_line(
-    alloc: Global,
-    all: &mut Vec<OutputLine>,
-    path: &Path,
-    line: &Seq<u8>,
-) -> Result<(), NoMemory>
-    ensures { OnOk result (all.new.items ≡ all.old.items ++ record { path = path.now; bytes = line.now } ∷ []) }
-{
-    let path = path.copy(alloc)?;
-    let bytes = Seq::from_slice(alloc, line.as_slice())?;
-    all.push(OutputLine { path, bytes })?;
-    Ok(())
-}
-
-fn push_lines(
-    alloc: Global,
-    all: &mut Vec<OutputLine>,
-    path: &Path,
-    lines: &[Seq<u8>],
-) -> Result<(), NoMemory>
-    ensures { OnOk result (all.new.items ≡ all.old.items ++ map (λ line. record { path = path.now; bytes = line }) lines.now) }
-{
-    'lines: for line in lines {
-        push_line(alloc, all, path, line)?;
-    }
-    Ok(())
-}
 
 fn push_fault(
     alloc: Global,
@@ -83,15 +47,6 @@ fn push_fault(
         Phase::Running => Ok(()),
         Phase::Joining(_, _) => Ok(()),
         Phase::Ended => Ok(()),
-    }
-}
-
-fn join_of(child: Option<Path>) -> Option<At>
-    ensures { result ≡ option_map at.Join child }
-{
-    match child {
-        Some(child) => Some(At::Join(child)),
-        None => None,
     }
 }
 
@@ -209,37 +164,24 @@ fn line_of(program: &Program, frame: &Frame) -> Line
     }
 }
 
-impl Gathered {
-    fn new(alloc: Global) -> Gathered
-        ensures lines { result.lines.items ≡ [] }
-        ensures faults { result.faults.items ≡ [] }
-        ensures waits { result.waits.items ≡ [] }
-    {
-        Gathered {
-            lines: Vec::new(alloc),
-            faults: Vec::new(alloc),
-            waits: Vec::new(alloc),
-        }
-    }
-
-    fn add(
-        &mut self,
-        alloc: Global,
-        program: &Program,
-        processes: &Processes,
-        path: &Path,
-        slot: &Slot,
-    ) -> Result<(), NoMemory>
-        requires next { IsNext program.now (proc_in program.now slot.now) slot.now.next }
-        requires family { HasFamily (order_of processes.now) path.now (proc_in program.now slot.now).phase slot.now.first_child }
-        ensures lines { OnOk result (self.new.lines.items ≡ self.old.lines.items ++ lines_at (path.now, proc_in program.now slot.now)) }
-        ensures faults { OnOk result (self.new.faults.items ≡ self.old.faults.items ++ fault_at (path.now, proc_in program.now slot.now)) }
-        ensures waits { OnOk result (self.new.waits.items ≡ self.old.waits.items ++ wait_at program.now (procs_of program.now processes.now) (path.now, proc_in program.now slot.now)) }
-    {
-        push_lines(alloc, &mut self.lines, path, slot.process.lines())?;
-        push_fault(alloc, &mut self.faults, path, &slot.process)?;
-        processes.push_wait(alloc, program, &mut self.waits, path, slot)
-    }
+// Adds what the process at this path shows.
+fn add_process(
+    alloc: Global,
+    program: &Program,
+    all: &mut Gathered,
+    processes: &Processes,
+    path: &Path,
+    slot: &Slot,
+) -> Result<(), NoMemory>
+    requires next { IsNext program.now (proc_in program.now slot.now) slot.now.next }
+    requires family { HasFamily (order_of processes.now) path.now (proc_in program.now slot.now).phase slot.now.first_child }
+    ensures lines { OnOk result (all.new.lines.items ≡ all.old.lines.items ++ lines_at (path.now, proc_in program.now slot.now)) }
+    ensures faults { OnOk result (all.new.faults.items ≡ all.old.faults.items ++ fault_at (path.now, proc_in program.now slot.now)) }
+    ensures waits { OnOk result (all.new.waits.items ≡ all.old.waits.items ++ wait_at program.now (procs_of program.now processes.now) (path.now, proc_in program.now slot.now)) }
+{
+    push_lines(alloc, &mut all.lines, path, slot.process.lines())?;
+    push_fault(alloc, &mut all.faults, path, &slot.process)?;
+    processes.push_wait(alloc, program, &mut all.waits, path, slot)
 }
 
 impl Processes {
@@ -253,7 +195,7 @@ impl Processes {
         let mut all = Gathered::new(alloc);
         let rows = self.slots.in_path_order(alloc)?;
         'processes: for row in &rows {
-            all.add(alloc, program, self, row.0, row.1)?;
+            add_process(alloc, program, &mut all, self, row.0, row.1)?;
         }
         Ok(all)
     }

@@ -4,10 +4,10 @@ ghost use Rattle.std.specs.Prelude.{◌≡◌, ◌+◌, ◌∷◌, ◌++◌, Lis
 ghost use Rattle.std.specs.List.{flat_map};
 ghost use Rattle.std.specs.FinMap.{get, insert};
 ghost use Rattle.fm_base.specs.Channels.{Pop, all_shed, fresh, message_ports};
-ghost use Rattle.fm_base.specs.declared.port.PortValue.TheVariants.{Reader, Writer};
+ghost use Rattle.fm_base.specs.declared.port.PortValue.TheVariants.{Reader};
 ghost use Rattle.fm_chan.specs.Bodies.{chans_of};
-ghost use Rattle.fm_chan.specs.Events.{after_op, after_send as sent_by};
-ghost use Rattle.fm_chan.specs.Received.{got_at, waits_at};
+ghost use Rattle.fm_chan.specs.Events.{after_op};
+ghost use Rattle.fm_chan.specs.Received.{got_at, message_in, waits_at};
 ghost use Rattle.fm_chan.specs.Woken.{Wakes, WakesAll};
 ghost use Rattle.fm_net.specs.Lawful.{ports_from};
 ghost use Rattle.fm_net.specs.Owned.{name_of};
@@ -22,13 +22,13 @@ ghost use Rattle.fm_plain_replies.specs.Goes.{after_begin, after_message};
 ghost use Rattle.fm_plain_replies.specs.Joins.{after_join, frames_in, left_frames};
 ghost use Rattle.fm_plain_passing.specs.Items.{message_of};
 ghost use Rattle.fm_plain.specs.Events.{event_by};
-ghost use Rattle.fm_plain_net.specs.Goes.{CanJoin, CanPerform, Joins, Performs, joined_by, message_in};
+ghost use Rattle.fm_plain_net.specs.Goes.{CanJoin, CanPerform, Joins, Performs, joined_by};
 ghost use Rattle.fm_plain_net.specs.Held.{AreKept, AreOnce, Carries, IsKept, MayDrop, Stay, StayBut};
 
 use crate::messages::{message_from, unpacked};
 use crate::ports::Ports;
 use fm_base::{ChanName, Fault, Line, NoMemory, Path, PortValue, Seq};
-use fm_chan::{Channels, Got, Message, Port};
+use fm_chan::{Channels, Message, Port};
 use fm_mean::{Actual, Span};
 use fm_plain::Event;
 use fm_plain_frame::{Leaving, LetGo, PlainProc};
@@ -233,21 +233,6 @@ fn message_cost(items: &[Item]) -> Result<u64, NoMemory>
     message_words(items)?.checked_add(1).ok_or(NoMemory)
 }
 
-// A message may hold the very outport by which it is sent, so it goes by the channel's name.
-fn put_message(
-    channels: &mut Channels,
-    channel: &ChanName,
-    message: Message,
-) -> Result<(), NoMemory>
-    ensures channels { OnOk result (chans_of channels.new ≡ sent_by (Writer channel.now 0) message (chans_of channels.old)) }
-    ensures waking { Wakes channels.old channels.new }
-{
-    match channels.send_to(channel, message) {
-        Ok(()) => Ok(()),
-        Err(_) => Err(NoMemory),
-    }
-}
-
 fn send(
     alloc: Global,
     program: &Program,
@@ -268,19 +253,8 @@ fn send(
     let items = take_message(alloc, program, process, items, next)?;
     let cost = message_cost(items.as_slice())?;
     let message = message_from(alloc, ports, items)?;
-    put_message(channels, &channel, message)?;
+    channels.send_or_lose(&channel, message)?;
     Ok(alone(alloc, cost))
-}
-
-fn message_in(got: Got) -> Option<Message>
-    ensures { result ≡ message_in got }
-{
-    match got {
-        Got::Message(message) => Some(message),
-        Got::Exceeds => None,
-        Got::Wait => None,
-        Got::End => None,
-    }
 }
 
 // The oldest message of a channel, or none at its end.
@@ -291,7 +265,7 @@ fn next_message(channels: &mut Channels, ports: &Ports, channel: &ChanName) -> O
     ensures waking { Wakes channels.old channels.new }
 {
     match ports.inport(channel) {
-        Some(port) => message_in(channels.receive(port, &[])),
+        Some(port) => channels.receive(port, &[]).into_message(),
         None => unreachable!(),
     }
 }

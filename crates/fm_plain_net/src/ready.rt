@@ -1,6 +1,6 @@
 //! Which processes can step.
 
-ghost use Rattle.std.specs.Prelude.{◌≡◌, ◌+◌, ◌<◌, ◌≤◌, ℕ, length, true, false, is_some, Some, Option, IfOk, OnOk};
+ghost use Rattle.std.specs.Prelude.{◌≡◌, ◌<◌, ◌≤◌, ℕ, length, true, false, is_some, Some, Option, IfOk, OnOk};
 ghost use Rattle.std.specs.FinMap.{contains_key, get};
 ghost use Rattle.std.specs.Option.{option_copied};
 ghost use Rattle.fm_base.specs.declared.path.ChanName as declared_channel;
@@ -8,7 +8,7 @@ ghost use Rattle.fm_base.specs.declared.port.PortValue.TheVariants.{Reader};
 ghost use Rattle.fm_chan.specs.Bodies.{chans_of};
 ghost use Rattle.fm_chan.specs.Received.{pops_at};
 ghost use Rattle.fm_chan.specs.Woken.{WakesAll, waiting_reader};
-ghost use Rattle.fm_net.specs.Machine.{Place, child, gathered};
+ghost use Rattle.fm_net.specs.Machine.{Place, gathered};
 ghost use Rattle.fm_net.specs.Owned.{IsOwned};
 ghost use Rattle.fm_rules.specs.declared.program.Program as declared;
 ghost use Rattle.fm_mean.specs.Actions as action;
@@ -27,30 +27,12 @@ ghost use Rattle.fm_run.specs.Noted.{IsNoted};
 ghost use Rattle.fm_plain_net.specs.Readings.{order_of, procs_of, state_of};
 
 use crate::processes::{Processes, Slot, Trees};
-use fm_base::{ChanName, NoMemory, Path};
+use fm_base::{ChanName, NoMemory};
 use fm_chan::Channels;
+use fm_net::{Endings, Family, count_ended};
 use fm_plain::{Event, Next};
 use fm_plain_frame::{Phase, PlainProc};
 use fm_rules::Program;
-use std::alloc::Global;
-
-/// The path of the child at this place, from 0, among those of a block.
-pub(crate) fn child_path(
-    alloc: Global,
-    path: &Path,
-    block: u32,
-    place: usize,
-) -> Result<Path, NoMemory>
-    ensures { IfOk result (λ p. p ≡ child path.now block (place + 1)) }
-{
-    match u32::try_from(place) {
-        Ok(before) => match before.checked_add(1) {
-            Some(index) => path.child(alloc, block, index),
-            None => Err(NoMemory),
-        },
-        Err(_) => Err(NoMemory),
-    }
-}
 
 // How many children a process waits for.
 fn kid_count(process: &PlainProc) -> usize
@@ -64,34 +46,25 @@ fn kid_count(process: &PlainProc) -> usize
     }
 }
 
-/// The children that a process waits for: the number of the first one, and how many they are.
-#[derive(Clone, Copy)]
-pub(crate) struct Family {
-    /// The number of the first one.
-    pub first: u32,
-    /// How many they are.
-    pub count: usize,
-}
-
-/// The number of the process so many behind another one.
-pub(crate) fn number_behind(first: u32, place: usize) -> Result<u32, NoMemory>
-    ensures { IfOk result (λ n. n ≡ first + place) }
-{
-    match u32::try_from(place) {
-        Ok(place) => first.checked_add(place).ok_or(NoMemory),
-        Err(_) => Err(NoMemory),
-    }
-}
-
 impl Slot {
     /// The children that the process waits for.
     pub(crate) fn family(&self) -> Family
         ensures first { result.first ≡ self.now.first_child }
         ensures count { result.count ≡ length (kids_in (phase_of self.now.process.phase)) }
     {
-        Family {
-            first: self.first_child,
-            count: kid_count(&self.process),
+        Family::new(self.first_child, kid_count(&self.process))
+    }
+}
+
+impl Endings for Processes {
+    ghost use Rattle.fm_plain_net.specs.Readings.{over_in};
+
+    ghost over = { over_in };
+
+    fn is_over(&self, number: u32) -> bool {
+        match self.slots.get(number) {
+            Some(slot) => slot.process.has_ended(),
+            None => false,
         }
     }
 }
@@ -101,10 +74,7 @@ impl Processes {
     pub(crate) fn has_ended(&self, number: u32) -> bool
         ensures { (p : declared.Program) (q : Place) → place_at self.now.slots number ≡ Some q → result ≡ ended_at (get (procs_of p self.now) q) }
     {
-        match self.slots.get(number) {
-            Some(slot) => slot.process.has_ended(),
-            None => false,
-        }
+        self.is_over(number)
     }
 
     /// How many of some children have ended, from the first on, where so many are known to have.
@@ -115,15 +85,7 @@ impl Processes {
         ensures not_all { IfOk result (λ r. (p : declared.Program) (q : Place) (b : ℕ) → AreChildren (order_of self.now) family.first q b family.count →
             r < family.count → is_some (gathered is_done (procs_of p self.now) q b 1 family.count) ≡ false) }
     {
-        let mut place = from;
-        'children: while place < family.count {
-            let number = number_behind(family.first, place)?;
-            if !self.has_ended(number) {
-                return Ok(place);
-            }
-            place += 1;
-        }
-        Ok(place)
+        count_ended(self, family, from)
     }
 
     /// Whether children have all ended.
@@ -142,7 +104,7 @@ impl Processes {
     {
         match self.slots.get(number) {
             Some(slot) => slot.family(),
-            None => Family { first: 0, count: 0 },
+            None => Family::new(0, 0),
         }
     }
 }

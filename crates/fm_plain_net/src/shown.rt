@@ -1,7 +1,6 @@
 //! What the variables of main hold.
 
-ghost use Rattle.std.specs.Prelude.{◌≡◌, map, option_map, take, drop, IfOk, OnOk};
-ghost use Rattle.std.specs.FinMap.{entries};
+ghost use Rattle.std.specs.Prelude.{◌≡◌, map, option_map, IfOk, OnOk};
 ghost use Rattle.std.specs.Option.{option_copied};
 ghost use Rattle.fm_base.specs.Channels.{channel_of};
 ghost use Rattle.fm_symbols.specs.ByName.{first_of_each, with_new};
@@ -10,26 +9,18 @@ ghost use Rattle.fm_rules.specs.declared.program.Program as declared;
 ghost use Rattle.fm_mean.specs.Outcome.{own_variables, shown_all, shown_by, shown_variables};
 ghost use Rattle.fm_plain_frame.specs.Frames.{proc_of};
 ghost use Rattle.fm_plain_frame.specs.Memory.{item_in, number_in, port_in, values_of};
-ghost use Rattle.fm_plain_net.specs.Shown.{of_frame, shown_entry};
+ghost use Rattle.fm_plain_net.specs.Shown.{of_frame};
 
 use fm_base::{ChanName, NoMemory, Seq};
 use fm_finmap::NameMap;
 use fm_mean::{Shown, ShownVariable};
-use fm_plain_frame::{Frame, PlainProc, Word, variables_of};
+use fm_plain_frame::{Frame, PlainProc, Word, part, variables_of};
 use fm_rules::Program;
+use fm_run::variables_in_order;
 use fm_symbols::Variable;
 use fm_tree::Kind;
 use fm_values::is_truth;
 use std::alloc::Global;
-
-// So many words from this one on, as far as they go.
-pub(crate) fn part(words: &[Word], first: usize, count: usize) -> &[Word]
-    ensures { result.now ≡ take count (drop first words.now) }
-{
-    let (_, rest) = words.split_at(first.min(words.len()));
-    let (part, _) = rest.split_at(count.min(rest.len()));
-    part
-}
 
 fn number_in(word: &Word) -> i64
     ensures { result ≡ number_in word.now }
@@ -125,17 +116,6 @@ fn by_name(
     Ok(all)
 }
 
-// In byte order of the names.
-fn in_order(alloc: Global, all: NameMap<Shown>) -> Result<Vec<ShownVariable>, NoMemory>
-    ensures { IfOk result (λ v. v.items ≡ map shown_entry (entries all)) }
-{
-    let mut variables = Vec::new(alloc);
-    'variables: for (name, shown) in all.into_entries(alloc)? {
-        variables.push(ShownVariable { name, shown })?;
-    }
-    Ok(variables)
-}
-
 // The frame of the process itself, below those of calls.
 fn own_frame(process: &PlainProc) -> Option<&Frame>
     ensures { (p : declared.Program) → own_variables p (proc_of p process.now).execution.frames ≡ of_frame p (option_copied result) }
@@ -158,7 +138,7 @@ fn shown_of(
         Some(frame) => {
             let variables = variables_of(program, frame.unit);
             let all = by_name(alloc, variables, frame.memory.as_slice())?;
-            in_order(alloc, all)
+            variables_in_order(alloc, all)
         }
         None => Ok(Vec::new(alloc)),
     }

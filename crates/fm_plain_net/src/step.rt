@@ -26,8 +26,8 @@ ghost use Rattle.fm_plain_net.specs.Readings.{IsActor, actor_place, order_of, pr
 
 use crate::perform::{Done, join_all, perform};
 use crate::processes::{Actor, Processes, Slot, Trees};
-use crate::ready::{Family, child_path, number_behind};
 use fm_base::NoMemory;
+use fm_net::{Family, child_path, number_behind};
 use fm_plain::{Event, Next, next_of};
 use fm_plain_frame::PlainProc;
 use fm_plain_replies::{Ended, leave};

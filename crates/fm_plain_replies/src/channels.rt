@@ -5,7 +5,6 @@ ghost use Rattle.fm_base.specs.declared.path.ChanName.{ChanName};
 ghost use Rattle.fm_net.specs.Lawful.{ports_from};
 ghost use Rattle.fm_rules.specs.declared.program.Program.{Program};
 ghost use Rattle.fm_mean.specs.Layout.{AreLaidOut};
-ghost use Rattle.fm_mean.specs.Places.{live};
 ghost use Rattle.fm_mean.specs.Steps.{faulted, with_status};
 ghost use Rattle.fm_plain_frame.specs.Frames.{proc_of};
 ghost use Rattle.fm_plain_frame.specs.LetGo.{let_go_ports};
@@ -23,17 +22,6 @@ use fm_rules::Program;
 use fm_symbols::Variable;
 use fm_values::truth_word;
 use std::alloc::Global;
-
-fn put_out(alloc: Global, replaced: Vec<Option<PortValue>>) -> LetGo
-    ensures { (p : Program) → let_go_ports p result ≡ live replaced.items }
-{
-    LetGo {
-        replaced,
-        top: None,
-        below: Vec::new(alloc),
-        taken: Vec::new(alloc),
-    }
-}
 
 /// It faults at a line.
 pub fn fail(process: &mut PlainProc, line: Line, fault: Fault)
@@ -67,9 +55,9 @@ pub fn put_ports(
             let replaced = place_ports(alloc, variables, &mut frame.memory, places, ports)?;
             go_to(frame, next);
             process.next_channel = following;
-            Ok(put_out(alloc, replaced))
+            Ok(LetGo::of_replaced(alloc, replaced))
         }
-        None => Ok(put_out(alloc, Vec::new(alloc))),
+        None => Ok(LetGo::of_replaced(alloc, Vec::new(alloc))),
     }
 }
 
@@ -119,9 +107,9 @@ pub fn store_message(
             let replaced = store_items(alloc, variables, &mut frame.memory, places, message)?;
             put_status(variables, &mut frame.memory, iostat, 0);
             go_to(frame, next);
-            Ok(put_out(alloc, replaced))
+            Ok(LetGo::of_replaced(alloc, replaced))
         }
-        None => Ok(put_out(alloc, Vec::new(alloc))),
+        None => Ok(LetGo::of_replaced(alloc, Vec::new(alloc))),
     }
 }
 

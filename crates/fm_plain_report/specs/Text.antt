@@ -1,18 +1,13 @@
 -- The text of a run of a source.
 -- Source: this profile.
-use Rattle.std.specs.Prelude.{◌≡◌, ℕ, Bool, List, [], ◌∷◌, ◌++◌, codes}
-use Rattle.std.specs.Fmt.{decimal}
+use Rattle.std.specs.Prelude.{◌≡◌, ℕ, Bool, List}
 use Rattle.fm_rules.specs.declared.program.Program.{Program}
 use Rattle.fm_front.specs.Program.{IsCheckedOf}
 use Rattle.fm_run.specs.Runs.{IsRun}
 use Rattle.fm_run.specs.declared.run.Ending.{Ending}
 use Rattle.fm_run.specs.declared.run.Ending.TheVariants.{Ended, Spent}
 use Rattle.fm_run.specs.declared.run.Run.{Run}
-use Rattle.fm_report.specs.Report.{report_text}
-
--- `spent T`
-abbrev pub spent_text : ℕ → List ℕ
-spent_text turns = codes "spent " ++ decimal turns ++ 10 ∷ []
+use Rattle.fm_report.specs.Report.{report_text, spent_text}
 
 -- the report of a run that ended, or that it was spent
 abbrev pub ending_text : (turns : ℕ) → (vars : Bool) → Ending → List ℕ

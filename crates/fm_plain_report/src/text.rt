@@ -3,23 +3,14 @@
 ghost use Rattle.std.specs.Prelude.{◌≡◌, ◌≤◌, length, IfOk, IfErr};
 ghost use Rattle.fm_base.specs.Verdict.{IsRefusal};
 ghost use Rattle.fm_front.specs.Verdict.{IsBroken};
-ghost use Rattle.fm_plain_report.specs.Text.{IsTextOf, ending_text, spent_text};
+ghost use Rattle.fm_plain_report.specs.Text.{IsTextOf, ending_text};
 
 use fm_base::{CheckFail, NoMemory};
 use fm_front::front;
 use fm_plain_net::TreeNet;
-use fm_report::report;
+use fm_report::{report, spent_text};
 use fm_run::{Ending, run_program};
 use std::alloc::Global;
-
-fn spent_text(alloc: Global, turns: u64) -> Result<Vec<u8>, NoMemory>
-    ensures { IfOk result (λ v. v.items ≡ spent_text turns) }
-{
-    let mut text = Vec::from_slice(alloc, b"spent ")?;
-    text.extend_from_slice(turns.to_string(alloc)?.as_bytes())?;
-    text.push(b'\n')?;
-    Ok(text)
-}
 
 fn ending_text(alloc: Global, ending: &Ending, turns: u64, vars: bool) -> Result<Vec<u8>, NoMemory>
     ensures { IfOk result (λ v. v.items ≡ ending_text turns vars ending.now) }

@@ -2,26 +2,16 @@
 
 ghost use Rattle.std.specs.Prelude.{◌≡◌, Contains, option_map};
 ghost use Rattle.std.specs.List.{slice_get};
-ghost use Rattle.fm_base.specs.Verdict.{IsVerdict, least, least_from, place, when};
+ghost use Rattle.fm_base.specs.Verdict.{IsVerdict, least, least_from};
 ghost use Rattle.fm_rules.specs.BrokenPorts.{broken_at, broken_body, broken_from, broken_ports, broken_unit};
 
 use crate::judged::{Site, has_stray_port};
 use crate::rules::{
     breaks_call, breaks_rank, has_wrong_direction, has_wrong_message, has_wrong_type,
 };
-use fm_base::{Line, Refusal, Rule, keep_earlier, least_law};
+use fm_base::{Refusal, Rule, keep_if, least_law};
 use fm_symbols::{Context, Names};
 use fm_tree::{Entry, Unit, Units};
-
-fn keep_if(best: Option<Refusal>, broken: bool, line: Line, rule: Rule) -> Option<Refusal>
-    ensures { result ≡ least_from best (when broken (place line.0 rule)) }
-{
-    if broken {
-        keep_earlier(best, Refusal { line, rule })
-    } else {
-        best
-    }
-}
 
 #[tactic(auto, using(fm_base::proofs::Least::least_from_append))]
 fn statement(site: &Site, entry: &Entry, best: Option<Refusal>) -> Option<Refusal>

@@ -28,7 +28,7 @@ pub struct Advanced {
 fn add_lines(alloc: Global, lines: &mut Seq<Seq<u8>>, more: Seq<Seq<u8>>) -> Result<(), NoMemory>
     ensures { OnOk result (lines.new ≡ lines.old ++ more) }
 {
-    let mut all = replace(lines, Seq::new(alloc)).into_vec();
+    let mut all = lines.take(alloc).into_vec();
     let mut more = more.into_vec();
     all.append(&mut more)?;
     *lines = Seq::from_vec(all);

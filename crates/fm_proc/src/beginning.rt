@@ -16,19 +16,19 @@ ghost use Rattle.fm_proc_events.specs.Performs.{Performs};
 
 use crate::performing::StepEnd;
 use fm_base::{NoMemory, Path, Seq};
-use fm_code::{Body, Frame, Pile, Row, SharedCode, Start, Trips};
+use fm_code::{Body, Frame, Pile, SharedCode, Start, Trips};
 use fm_proc_events::{Kid, Phase, Process, loops_at, ports_at};
 use fm_proc_slots::{OpenSlots, Slots, move_over, span_words};
 use std::alloc::Global;
 use std::collections::VecDeque;
 
 /// The loops of a unit, none of them begun.
-fn no_loops(alloc: Global, count: u32) -> Result<Row<Option<Trips>>, NoMemory>
+pub fn no_loops(alloc: Global, count: u32) -> Result<Seq<Option<Trips>>, NoMemory>
     ensures { IfOk result (λ l. l ≡ replicate count None) }
 {
     let none: Option<Trips> = None;
     let loops = vec![in alloc; none; count as usize]?;
-    Ok(Row::from_vec(loops))
+    Ok(Seq::from_vec(loops))
 }
 
 /// The frame with which a child begins, before its words come and what it gives back.
@@ -38,10 +38,10 @@ fn blank_frame(alloc: Global, code: &SharedCode, unit: u32) -> Result<Frame, NoM
     Ok(Frame {
         unit,
         address: 0,
-        words: Row::new(alloc),
+        words: Seq::new(alloc),
         loops: no_loops(alloc, loops_at(code, unit))?,
-        results: Row::new(alloc),
-        starts: Row::new(alloc),
+        results: Seq::new(alloc),
+        starts: Seq::new(alloc),
         backs: Seq::new(alloc),
     })
 }
@@ -199,7 +199,7 @@ fn put_children(
 fn children(
     alloc: Global,
     drafts: Vec<Draft>,
-    starts: &mut Row<Start>,
+    starts: &mut Seq<Start>,
     slots: &mut Slots,
 ) -> Result<Vec<Box<Process>>, NoMemory>
     requires ready { AllByRecursion IsReady drafts.items }

@@ -9,9 +9,9 @@ ghost use Rattle.fm_proc_language.specs.Processes.{body_words};
 ghost use Rattle.fm_proc.specs.Rooms.{Sheds, body_room, frame_room, unit_room, words_by};
 
 use fm_chan::Port;
-use fm_code::{Body, Frame, SharedCode, Span};
+use fm_code::{Body, Frame, SharedCode, Span, words_of};
 use fm_proc_events::ports_at;
-use fm_proc_slots::{Slots, vacate_words, words_of};
+use fm_proc_slots::{Slots, vacate_words};
 
 /// Lets go the ports at the words of a span.
 fn drop_span(words: &[i64], span: Span, slots: &mut Slots, drops: &mut Vec<Port>)

@@ -10,9 +10,9 @@ ghost use Rattle.fm_proc_events.specs.Phases.{proc_of};
 ghost use Rattle.fm_proc_events.specs.Told.{is_running, look_of};
 ghost use Rattle.fm_proc_events.specs.Performs.{Performs};
 
-use fm_base::{NoMemory, Path};
+use fm_base::{NoMemory, Path, Seq};
 use fm_chan::Channels;
-use fm_code::{Body, Frame, Row};
+use fm_code::{Body, Frame};
 use fm_machine_calls::{push_frame_ports, push_start_ports};
 use fm_proc_events::{Phase, Process, formals_at, ports_at, shed, vacate};
 use fm_proc_slots::{Slots, keep};
@@ -22,13 +22,13 @@ use std::alloc::Global;
 #[derive(Drop)]
 struct Rest {
     /// The words of its own frame, with what is kept.
-    words: Row<i64>,
+    words: Seq<i64>,
     /// The slots of the ports that are let go, innermost frame first.
-    ports: Row<i64>,
+    ports: Seq<i64>,
 }
 
 /// Adds the ports of all frames but the process's own, innermost first: that one.
-fn push_frames<'a>(body: &'a Body, ports: &mut Row<i64>) -> Result<&'a Frame, NoMemory>
+fn push_frames<'a>(body: &'a Body, ports: &mut Seq<i64>) -> Result<&'a Frame, NoMemory>
     ensures frame { IfOk result (λ f. (ended_frame body.now f.now []).0 ≡ (ended_frame body.now body.now.frame body.now.below).0) }
     ensures ports { IfOk result (λ f. ports.new ++ (ended_frame body.now f.now []).1 ≡ ports.old ++ (ended_frame body.now body.now.frame body.now.below).1) }
 {
@@ -41,7 +41,7 @@ fn push_frames<'a>(body: &'a Body, ports: &mut Row<i64>) -> Result<&'a Frame, No
     Ok(frame)
 }
 
-fn push_words(ports: &mut Row<i64>, words: &[i64]) -> Result<(), NoMemory>
+fn push_words(ports: &mut Seq<i64>, words: &[i64]) -> Result<(), NoMemory>
     ensures { OnOk result (ports.new ≡ ports.old ++ words.now) }
 {
     'words: for word in words {
@@ -55,12 +55,12 @@ fn keep_formals(
     alloc: Global,
     body: &Body,
     frame: &Frame,
-    ports: &mut Row<i64>,
-) -> Result<Row<i64>, NoMemory>
+    ports: &mut Seq<i64>,
+) -> Result<Seq<i64>, NoMemory>
     ensures words { IfOk result (λ words. words ≡ (ended_frame body.now frame.now []).0.words) }
     ensures ports { OnOk result (ports.new ≡ ports.old ++ (ended_frame body.now frame.now []).1) }
 {
-    let mut words = Row::from_slice(alloc, frame.words.as_slice())?;
+    let mut words = Seq::from_slice(alloc, frame.words.as_slice())?;
     let left = keep(
         alloc,
         formals_at(&body.code, frame.unit),
@@ -77,7 +77,7 @@ fn rest_of(alloc: Global, body: &Body) -> Result<Rest, NoMemory>
     ensures words { IfOk result (λ r. r.words ≡ (ended_frame body.now body.now.frame body.now.below).0.words) }
     ensures ports { IfOk result (λ r. r.ports ≡ (ended_frame body.now body.now.frame body.now.below).1) }
 {
-    let mut ports = Row::new(alloc);
+    let mut ports = Seq::new(alloc);
     let frame = push_frames(body, &mut ports)?;
     let words = keep_formals(alloc, body, frame, &mut ports)?;
     Ok(Rest { words, ports })
@@ -94,7 +94,7 @@ fn leave_frames(body: &mut Body)
 }
 
 /// Leaves the process's own frame with these words, and nothing else. Takes no memory.
-fn end_body(body: &mut Body, words: Row<i64>)
+fn end_body(body: &mut Body, words: Seq<i64>)
     ensures { body.new ≡ record body.old { frame = record (ended_frame body.old body.old.frame body.old.below).0 { words = words }; below = [] } }
 {
     leave_frames(body);

@@ -25,7 +25,7 @@ use crate::dropping::drop_body;
 use crate::measuring::{joining_words, room_with};
 use fm_base::{NoMemory, Seq};
 use fm_chan::{Channels, Port};
-use fm_code::{Back, Body, Row};
+use fm_code::{Back, Body};
 use fm_proc_events::{Kid, Phase, Process, set_address, shed};
 use fm_proc_slots::{Child, Gains, Slots, give_back};
 use std::alloc::Global;
@@ -70,7 +70,7 @@ fn take_body(alloc: Global, gains: &mut Gains, body: Body, slots: Slots, unit: u
     ensures room { LeavesRoomFor (back_words backs.now + body_room body) gains.old gains.new }
 {
     let mut body = body;
-    let words = replace(&mut body.frame.words, Row::new(alloc));
+    let words = replace(&mut body.frame.words, Seq::new(alloc));
     let mut child = Child { words, slots };
     give_back_if(gains, &mut child, body.frame.unit == unit, backs);
     let Child { words, slots } = child;
@@ -92,7 +92,7 @@ fn take_left(alloc: Global, gains: &mut Gains, left: Left, unit: u32, backs: &[B
 }
 
 /// Words that come from a row, with room for so many more. After want of memory they are where they were.
-fn open_words(alloc: Global, words: &mut Row<i64>, room: usize) -> Result<Vec<i64>, NoMemory>
+fn open_words(alloc: Global, words: &mut Seq<i64>, room: usize) -> Result<Vec<i64>, NoMemory>
     ensures words { IfOk result (λ own. own.items ≡ words.old) }
     ensures room { IfOk result (λ own. vec_len own + room ≤ vec_capacity own) }
     ensures stays { OnErr result (words.new ≡ words.old) }
@@ -101,7 +101,7 @@ fn open_words(alloc: Global, words: &mut Row<i64>, room: usize) -> Result<Vec<i6
     match own.reserve(room) {
         Ok(()) => Ok(own),
         Err(_) => {
-            *words = Row::from_vec(own);
+            *words = Seq::from_vec(own);
             Err(NoMemory)
         }
     }
@@ -110,7 +110,7 @@ fn open_words(alloc: Global, words: &mut Row<i64>, room: usize) -> Result<Vec<i6
 /// What a parent has, with room for so much. After want of memory it is where it was.
 fn open_gains(
     alloc: Global,
-    words: &mut Row<i64>,
+    words: &mut Seq<i64>,
     slots: &mut Slots,
     room: usize,
 ) -> Result<Gains, NoMemory>
@@ -128,7 +128,7 @@ fn open_gains(
             drops,
         }),
         Err(NoMemory) => {
-            *words = Row::from_vec(mine);
+            *words = Seq::from_vec(mine);
             Err(NoMemory)
         }
     }
@@ -226,7 +226,7 @@ fn put_words(body: &mut Option<Body>, words: Vec<i64>, next: u32)
 {
     match body {
         Some(body) => {
-            body.frame.words = Row::from_vec(words);
+            body.frame.words = Seq::from_vec(words);
             set_address(body, next);
         }
         None => {}

@@ -12,6 +12,7 @@ mod measuring;
 mod performing;
 
 pub use advancing::{Advanced, advance};
+pub use beginning::no_loops;
 pub use joining::{Left, OpenJoin, open_join, release};
 pub use measuring::left_room;
 pub use performing::{StepEnd, perform};

@@ -1,25 +1,14 @@
 //! What room a join needs.
 
 ghost use Rattle.std.specs.Prelude.{◌≡◌, ◌+◌, IfOk, map};
-ghost use Rattle.fm_code.specs.Passing.{back_words};
 ghost use Rattle.fm_proc_language.specs.Processes.{joining_words};
 ghost use Rattle.fm_proc_events.specs.Phases.{kid_of, proc_of};
 ghost use Rattle.fm_proc.specs.Rooms.{body_room, frame_room, frames_room, left_room, unit_room};
 
 use fm_base::NoMemory;
-use fm_code::{Back, Body, Frame, SharedCode};
+use fm_code::{Body, Frame, SharedCode, back_words};
 use fm_proc_events::{Kid, Process, ports_at};
 use fm_proc_slots::span_words;
-
-fn back_words(backs: &[Back]) -> Result<u64, NoMemory>
-    ensures { IfOk result (λ n. n ≡ back_words backs.now) }
-{
-    let mut words: u64 = 0;
-    'backs: for back in backs {
-        words = words.checked_add(u64::from(back.words)).ok_or(NoMemory)?;
-    }
-    Ok(words)
-}
 
 /// How many words these give back.
 pub(crate) fn joining_words(kids: &[Kid]) -> Result<u64, NoMemory>

@@ -1,12 +1,12 @@
 -- What a process does with a message, or with the end of a channel, is what it asked for.
-use Rattle.std.proofs.Common.{◌≡◌, ℕ, ℤ, ◌+◌, Bool, true, false, cond, Option, Some, None, List, [], ◌∷◌, ◌++◌, refl, sym, ap, ◌∙◌, append-nil}
+use Rattle.std.proofs.Common.{◌≡◌, ℕ, ℤ, ◌+◌, Bool, true, false, cond, Option, Some, None, List, [], ◌++◌, refl, sym, ap, ◌∙◌, append-nil}
 use Rattle.std.specs.Prelude.{is_some, slice_set, Result, Ok, Err, IfOk, OnOk}
 use Rattle.fm_base.specs.declared.memory.NoMemory.{NoMemory}
 use Rattle.std.specs.FinMap.{get}
 use Rattle.fm_base.specs.declared.path.ChanName.{ChanName}
 use Rattle.fm_base.specs.declared.port.PortValue.{PortValue}
 use Rattle.fm_base.specs.declared.port.PortValue.TheVariants.{Writer, Reader}
-use Rattle.fm_base.specs.Channels.{Message, Chan, Chans, Push, Pop, Look, changed, gives, tells, is_ready, first_exceeds, spills_at, all_shed}
+use Rattle.fm_base.specs.Channels.{Message, Chan, Chans, Push, Pop, Look, changed, tells, is_ready, spills_at, all_shed}
 use Rattle.fm_values.specs.Values.{truth_word}
 use Rattle.fm_finmap.specs.Changes.{adjust}
 use Rattle.fm_finmap.proofs.Adjusts.{adjust-insert}
@@ -14,8 +14,8 @@ use Rattle.fm_finmap.proofs.Inserts.{insert_same}
 use Rattle.fm_net.proofs.Keys.{channel_order}
 use Rattle.fm_discards.proofs.Shedding.{all_shed-nil}
 use Rattle.fm_chan.specs.Events.{after_send_to, after_op, chan_at}
-use Rattle.fm_chan.specs.Received.{got_of, got_at, waits_at}
-use Rattle.fm_chan.specs.declared.message.Got.TheVariants as got
+use Rattle.fm_chan.specs.Received.{got_at, message_in, waits_at}
+use Rattle.fm_chan.proofs.Receiving.{message_brought}
 use Rattle.fm_net.specs.Machine.{Place, Event, Reply, reply_at, served_at}
 use Rattle.fm_code.specs.declared.ask.Ask.TheVariants as ask
 use Rattle.fm_code.specs.declared.ask.Operand.{Operand}
@@ -27,7 +27,7 @@ use Rattle.fm_proc_language.specs.Frames.{message_from}
 use Rattle.fm_proc_language.specs.Processes.{CodeProc, asks, sends_by, receives_by, probes_by, sent, received, came, at_the_end, probed, holding, message_words}
 use Rattle.fm_proc_language.specs.Needs.{need_in}
 use Rattle.fm_proc_slots.specs.Helds.{held}
-use Rattle.fm_proc_events.specs.Events.{channel_in, message_in, with_body}
+use Rattle.fm_proc_events.specs.Events.{channel_in, with_body}
 use Rattle.fm_proc_events.specs.Performs.{CanPerform, Performs, reply_to}
 use Rattle.fm_proc_events.specs.Told.{look_of}
 use Rattle.fm_proc_events.proofs.Doing.{bodied, asks_so, can_so}
@@ -129,20 +129,6 @@ module _ (y : CodeProc) (cs : Chans) (slot : ℤ) (items : List Operand) (next :
         }
 
 -- ---- receiving
-
--- without limits no message exceeds
-none_exceeds : (queue : List Message) → first_exceeds [] queue ≡ false
-none_exceeds [] = refl
-none_exceeds (message ∷ queue) = refl
-
-got_message : (o : Option Message) → message_in (got_of o) ≡ o
-got_message None = refl
-got_message (Some message) = refl
-
-message_brought : (ch : Chan) → is_ready (Pop []) ch ≡ true → message_in (got_at [] (Some ch)) ≡ gives (Pop []) ch
-message_brought ch ready =
-    ap (λ b. message_in (cond b (cond (first_exceeds [] ch.queue) got.Exceeds (got_of (gives (Pop []) ch))) got.Wait)) ready
-    ∙ ap (λ b. message_in (cond b got.Exceeds (got_of (gives (Pop []) ch)))) (none_exceeds ch.queue) ∙ got_message (gives (Pop []) ch)
 
 record Popped (o : Option Chan) : Type 0 where
   pub reply : Reply CodeProc

@@ -4,7 +4,7 @@ ghost use Rattle.std.specs.Prelude.{◌≡◌, ◌+◌, [], false, pos, IfOk, On
 ghost use Rattle.fm_base.specs.Channels.{Pop, all_shed};
 ghost use Rattle.fm_chan.specs.Bodies.{chans_of};
 ghost use Rattle.fm_chan.specs.Events.{after_op, chan_at, is_outport};
-ghost use Rattle.fm_chan.specs.Received.{got_at};
+ghost use Rattle.fm_chan.specs.Received.{got_at, message_in};
 ghost use Rattle.fm_chan.specs.Woken.{WakesAll};
 ghost use Rattle.fm_code.specs.declared.ask.Ask.TheVariants as ask;
 ghost use Rattle.fm_code.specs.Statements.{with_words};
@@ -12,7 +12,7 @@ ghost use Rattle.fm_machine_calls.specs.declared.looking.Look.TheVariants.{Asks}
 ghost use Rattle.fm_proc_language.specs.Frames.{all_stored};
 ghost use Rattle.fm_proc_language.specs.Processes.{at_the_end, came, message_words, with_status};
 ghost use Rattle.fm_proc_slots.specs.Helds.{held};
-ghost use Rattle.fm_proc_events.specs.Events.{message_in, with_body};
+ghost use Rattle.fm_proc_events.specs.Events.{with_body};
 ghost use Rattle.fm_proc_events.specs.Performs.{CanPerform, Performs};
 ghost use Rattle.fm_proc_events.specs.Phases.{proc_of};
 ghost use Rattle.fm_proc_events.specs.Told.{look_of};
@@ -22,23 +22,12 @@ use crate::process::{Phase, Process};
 use crate::sending::message_cost;
 use crate::shedding::shed;
 use fm_base::{Fault, NoMemory, Path, Seq};
-use fm_chan::{Channels, Got, Message, Port};
-use fm_code::{Body, Operand, Row};
+use fm_chan::{Channels, Message, Port};
+use fm_code::{Body, Operand};
 use fm_machine_calls::line_of;
 use fm_proc_slots::{Slots, set_word, store_all};
 use std::alloc::Global;
 use std::mem::replace;
-
-fn message_in(got: Got) -> Option<Message>
-    ensures { result ≡ message_in got }
-{
-    match got {
-        Got::Message(message) => Some(message),
-        Got::Exceeds => None,
-        Got::Wait => None,
-        Got::End => None,
-    }
-}
 
 /// The oldest message of a port's channel, or none at its end.
 fn next_message(channels: &mut Channels, port: &Port) -> Option<Message>
@@ -47,11 +36,11 @@ fn next_message(channels: &mut Channels, port: &Port) -> Option<Message>
     ensures channels { chans_of channels.new ≡ after_op port.now (Pop []) (chans_of channels.old) }
     ensures waking { WakesAll channels.old channels.new }
 {
-    message_in(channels.receive(port, &[]))
+    channels.receive(port, &[]).into_message()
 }
 
 /// The word of IOSTAT, where it is asked for.
-fn put_status(words: &mut Row<i64>, slots: &Slots, status: Option<u32>, word: i64)
+fn put_status(words: &mut Seq<i64>, slots: &Slots, status: Option<u32>, word: i64)
     ensures { held words.new slots.now ≡ with_status (held words.old slots.now) status word }
 {
     match status {

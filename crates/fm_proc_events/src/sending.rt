@@ -2,7 +2,6 @@
 
 ghost use Rattle.std.specs.Prelude.{◌≡◌, ◌+◌, [], IfOk, OnOk};
 ghost use Rattle.fm_chan.specs.Bodies.{chans_of};
-ghost use Rattle.fm_chan.specs.Events.{after_send_to};
 ghost use Rattle.fm_chan.specs.Woken.{WakesAll};
 ghost use Rattle.fm_code.specs.declared.ask.Ask.TheVariants as ask;
 ghost use Rattle.fm_code.specs.Statements.{with_words};
@@ -59,21 +58,6 @@ pub(crate) fn message_cost(message: &Message) -> Result<u64, NoMemory>
     message_words(message)?.checked_add(1).ok_or(NoMemory)
 }
 
-// A message may hold the very outport by which it is sent, so it goes by the channel's name.
-fn put_message(
-    channels: &mut Channels,
-    channel: &ChanName,
-    message: Message,
-) -> Result<(), NoMemory>
-    ensures channels { OnOk result (chans_of channels.new ≡ after_send_to channel.now message (chans_of channels.old)) }
-    ensures waking { WakesAll channels.old channels.new }
-{
-    match channels.send_to(channel, message) {
-        Ok(()) => Ok(()),
-        Err(_) => Err(NoMemory),
-    }
-}
-
 /// Sends a message by the port in a slot. The cost.
 pub fn send(
     alloc: Global,
@@ -98,6 +82,6 @@ pub fn send(
     let message = take_message(alloc, &mut body, &mut process.slots, items.as_slice(), next)?;
     process.body = Some(body);
     let cost = message_cost(&message)?;
-    put_message(channels, &channel, message)?;
+    channels.send_or_lose(&channel, message)?;
     Ok(cost)
 }

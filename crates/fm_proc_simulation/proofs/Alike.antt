@@ -24,7 +24,8 @@ use Rattle.fm_proc_language.specs.Processes.{CodeProc, Kid, runs_by, running_by,
 use Rattle.fm_gen.specs.Entries.{address_of}
 use Rattle.fm_gen.specs.Programs.{code_of}
 use Rattle.fm_gen.specs.Bodies.{EndsBlock, IsAlive, DoesAlike, MeetsAlike}
-use Rattle.fm_gen.proofs.BodyLaws.{keeps_program}
+use Rattle.fm_gen.proofs.Beyond.{rests_alike}
+use Rattle.fm_gen.proofs.BodyLaws.{keeps_at}
 use Rattle.fm_proc_simulation.specs.Corresponds.{KidsStand, PhaseStands, BodyAlike, Corresponds, IsLive, first_variables}
 use Rattle.fm_proc_simulation.specs.Here.{Here}
 use Rattle.fm_proc_simulation.proofs.Owned.{here_running, here_joining, owned_once}
@@ -38,7 +39,6 @@ use Rattle.fm_proc_simulation.proofs.Joins.{FineAndSingle, joins_asked_alike}
 use Rattle.fm_proc_simulation.proofs.Ending.{ends_alike, fails_alike, emptied_alike, ended_same}
 use Rattle.fm_proc_simulation.proofs.Live.{stays_live, message_fits, children_known}
 use Rattle.fm_proc_simulation.proofs.Meeting.{MayDo, point_meets}
-use Rattle.fm_proc_simulation.proofs.Beyond.{rests, stuck}
 
 -- What the process and its statement do.
 
@@ -119,10 +119,10 @@ module _ (p : Program) (s : State Proc) (live : IsLive p s) (q : Place) (x : Pro
         -- at an entry, or behind the last one
         at_entry_alike : (o : Option Point) → point_at h.stands.first.unit h.stands.frame.entry ≡ o → Both (running_by y b (code_actions.action_of b)) (ask p x)
         at_entry_alike None none =
-            subst (λ k. Both (running_by y b k) (ask p x)) (sym (stuck p types y x b h phase none))
-            (subst (λ a. Both Stop (ask_for p x a)) (sym (rests p types y x b h phase none)) tt)
+            subst (λ k. Both (running_by y b k) (ask p x)) (sym (rests_alike p (port_in y.slots) x b h.stands none).0)
+            (subst (λ a. Both Stop (ask_for p x a)) (sym (rests_alike p (port_in y.slots) x b h.stands none).1) tt)
         at_entry_alike (Some e) at =
-            runs_alike e at (code_actions.action_of b) refl (keeps_program p types (port_in y.slots) x h.fine b h.stands e at)
+            runs_alike e at (code_actions.action_of b) refl (keeps_at p types (port_in y.slots) x h.fine b h.stands e at)
 
       both_run : Both (running_by y b (code_actions.action_of b)) (ask p x)
       both_run = at_entry_alike here (point_at here.stands.first.unit here.stands.frame.entry) refl
@@ -170,7 +170,7 @@ module _ (p : Program) (s : State Proc) (live : IsLive p s) (q : Place) (x : Pro
         at_block_alike : EndsBlock h.stands.first.unit h.stands.frame → Both (joining_by y b block cs (code_actions.action_of b)) (ask p x)
         at_block_alike end =
             joins_alike end.point (after_at (Some h.stands.first.unit) h.stands.frame.entry) (mean_actions.action_of p x) (joins_now p types y x b h block kids phase) (code_actions.action_of b)
-            (keeps_program p types (port_in y.slots) x h.fine b h.stands end.point end.at)
+            (keeps_at p types (port_in y.slots) x h.fine b h.stands end.point end.at)
 
       both_join : Both (joining_by y b block cs (code_actions.action_of b)) (ask p x)
       both_join = let h = here_joining p s live q x is y c b body block kids phase in at_block_alike h (at_block p types y x b h block kids phase)

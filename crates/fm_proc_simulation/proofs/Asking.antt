@@ -23,11 +23,11 @@ use Rattle.fm_proc_language.specs.Needs.{need_in, need_of, is_empty, is_local_ac
 use Rattle.fm_gen_relation.specs.Standing.{Slots}
 use Rattle.fm_gen.specs.Programs.{code_of}
 use Rattle.fm_gen.specs.Bodies.{StandsFor, DoesAlike, MeetsAlike}
-use Rattle.fm_gen.proofs.BodyLaws.{keeps_program}
+use Rattle.fm_gen.proofs.Beyond.{rests_alike}
+use Rattle.fm_gen.proofs.BodyLaws.{keeps_at}
 use Rattle.fm_proc_simulation.specs.Corresponds.{PhaseStands, BodyAlike, Corresponds, IsLive, first_variables}
 use Rattle.fm_proc_simulation.specs.Here.{Here}
 use Rattle.fm_proc_simulation.proofs.Owned.{here_running}
-use Rattle.fm_proc_simulation.proofs.Beyond.{rests, stuck}
 use Rattle.fm_proc_simulation.proofs.Alike.{correspondence}
 
 -- Needs.
@@ -74,11 +74,11 @@ module _ (p : Program) (s : State Proc) (live : IsLive p s) (q : Place) (x : Pro
       where
         go : (o : Option Point) → point_at h.stands.first.unit h.stands.frame.entry ≡ o → is_local_action (code_actions.action_of b) ≡ is_some (local_step p x)
         go None none =
-            ap is_local_action (stuck p live.typed.0 y x b h phase none)
-            ∙ ap (λ a. is_some (local_in x a)) (sym (rests p live.typed.0 y x b h phase none))
+            ap is_local_action (rests_alike p (port_in y.slots) x b h.stands none).0
+            ∙ ap (λ a. is_some (local_in x a)) (sym (rests_alike p (port_in y.slots) x b h.stands none).1)
         go (Some e) at =
             action_local p (port_in y.slots) x b h.stands e (code_actions.action_of b) (mean_actions.action_of p x)
-            (keeps_program p live.typed.0 (port_in y.slots) x h.fine b h.stands e at)
+            (keeps_at p live.typed.0 (port_in y.slots) x h.fine b h.stands e at)
 
   -- one that joins does nothing alone, nor does one without frames
   joins_others : (block : ℕ) (kids : List mean.Kid) (fs : List Frame) → false ≡ is_some (local_in x (joining p block kids fs))

@@ -29,7 +29,7 @@ use Rattle.fm_gen.specs.Entries.{statement_address}
 use Rattle.fm_gen.specs.Kept.{site_at}
 use Rattle.fm_gen.specs.Programs.{code_of}
 use Rattle.fm_gen.specs.Bodies.{next_address, IsAlive, StandsFor, DoesAlike, MeetsAlike}
-use Rattle.fm_gen.proofs.BodyLaws.{keeps_program}
+use Rattle.fm_gen.proofs.BodyLaws.{keeps_at}
 use Rattle.fm_proc_simulation.specs.Holding.{IsHeld}
 use Rattle.fm_proc_simulation.proofs.Slots.{held_port}
 use Rattle.fm_proc_simulation.proofs.PortLists.{all_first, all_second, all_of}
@@ -146,7 +146,7 @@ module _ (p : Program) (types : Types) (y : CodeProc) (x : Proc) (b : Body) (h :
 
   module _ (e : Point) (at : point_at h.stands.first.unit h.stands.frame.entry ≡ Some e) where
     pub does_elsewhere : DoesAlike p (code_of p) (elsewhere y.slots) x b stands_elsewhere e (code_actions.action_of b) (mean_actions.action_of p x)
-    does_elsewhere = keeps_program p types (elsewhere y.slots) x h.fine b stands_elsewhere e (stands_there p (port_in y.slots) (elsewhere y.slots) x b h.stands stands_elsewhere ∙ at)
+    does_elsewhere = keeps_at p types (elsewhere y.slots) x h.fine b stands_elsewhere e (stands_there p (port_in y.slots) (elsewhere y.slots) x b h.stands stands_elsewhere ∙ at)
 
     module _ (k : Ask) (does : code_actions.action_of b ≡ code_actions.Meets k) (a : Action) (is : mean_actions.action_of p x ≡ a) where
       meets_elsewhere : MeetsAlike p (code_of p) (elsewhere y.slots) x b stands_elsewhere e k a

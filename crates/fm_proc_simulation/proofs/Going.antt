@@ -30,7 +30,7 @@ use Rattle.fm_gen_relation.specs.Frames.{FrameStands}
 use Rattle.fm_gen.specs.Entries.{statement_address}
 use Rattle.fm_gen.specs.Programs.{code_of}
 use Rattle.fm_gen.specs.Bodies.{next_address, StandsFor, StepsAlike, DoesAlike}
-use Rattle.fm_gen.proofs.BodyLaws.{keeps_program}
+use Rattle.fm_gen.proofs.BodyLaws.{keeps_at}
 use Rattle.fm_proc_simulation.specs.Holding.{IsHeld, IsSlots, IsOther, AreOnce, NameTheSame}
 use Rattle.fm_proc_simulation.proofs.Slots.{all_left_others, vacated_held}
 use Rattle.fm_proc_simulation.proofs.PortLists.{all_first, once_first}
@@ -170,7 +170,7 @@ module _ (p : Program) (types : Types) (y : CodeProc) (x : Proc) (b : Body) (h :
     (e : Point) (at : point_at h.stands.first.unit h.stands.frame.entry ≡ Some e)
     (after : Body) (lines : List (List ℕ)) (drops : List ℤ) (cost : ℕ) (does : code_actions.action_of b ≡ code_actions.Own after lines drops cost) where
   steps : StepsAlike p (code_of p) (port_in y.slots) x after lines drops cost (mean_actions.action_of p x)
-  steps = subst (λ a. DoesAlike p (code_of p) (port_in y.slots) x b h.stands e a (mean_actions.action_of p x)) does (keeps_program p types (port_in y.slots) x h.fine b h.stands e at)
+  steps = subst (λ a. DoesAlike p (code_of p) (port_in y.slots) x b h.stands e a (mean_actions.action_of p x)) does (keeps_at p types (port_in y.slots) x h.fine b h.stands e at)
 
   steps_elsewhere : StepsAlike p (code_of p) (elsewhere y.slots) x after lines drops cost (mean_actions.action_of p x)
   steps_elsewhere = subst (λ a. DoesAlike p (code_of p) (elsewhere y.slots) x b (stands_elsewhere p types y x b h running) e a (mean_actions.action_of p x)) does (does_elsewhere p types y x b h running e at)

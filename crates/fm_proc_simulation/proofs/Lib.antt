@@ -10,7 +10,6 @@ pub mod Making
 pub mod Receiving
 pub mod Live
 pub mod Meeting
-pub mod Beyond
 pub mod Alike
 pub mod Asking
 pub mod Entries

@@ -33,13 +33,13 @@ use Rattle.fm_proc_language.specs.Needs.{need_in, need_of}
 use Rattle.fm_gen.specs.Entries.{statement_address}
 use Rattle.fm_gen.specs.Units.{unit_of_code}
 use Rattle.fm_gen.specs.Bodies.{next_address, EndsBlock, IsAlive}
+use Rattle.fm_gen.proofs.Beyond.{rests_alike}
 use Rattle.fm_gen.proofs.LineLaws.{tells_lines}
 use Rattle.fm_proc_simulation.specs.Corresponds.{PhaseStands, BodyAlike, Corresponds, IsLive, first_variables}
 use Rattle.fm_proc_simulation.specs.Here.{Here}
 use Rattle.fm_proc_simulation.specs.Shown as shown
 use Rattle.fm_proc_simulation.specs.Shown.{outcome_by}
 use Rattle.fm_proc_simulation.proofs.Asking.{needs_alike}
-use Rattle.fm_proc_simulation.proofs.Beyond.{stuck}
 use Rattle.fm_proc_simulation.proofs.Context.{code_here, line_here}
 use Rattle.fm_proc_simulation.proofs.Ending.{ended_same}
 use Rattle.fm_proc_simulation.proofs.Entries.{lists_alike}
@@ -131,7 +131,7 @@ module _ (p : Program) (s : State Proc) (live : IsLive p s) (q : Place) (x : Pro
   running_line b body phase h n needs = go (point_at h.stands.first.unit h.stands.frame.entry) refl
     where
       go : (o : Option Point) → point_at h.stands.first.unit h.stands.frame.entry ≡ o → line_of b ≡ outcome.line_at p x
-      go None none = absurd (cc (sym needs ∙ ap (λ k. need_in (running_by y b k)) (stuck p live.typed.0 y x b h phase none)))
+      go None none = absurd (cc (sym needs ∙ ap (λ k. need_in (running_by y b k)) (rests_alike p (port_in y.slots) x b h.stands none).0))
       go (Some e) at = line_here p live.typed.0 y x b h phase e at ∙ sym (meant_line b h e at)
 
   -- one that joins

@@ -7,16 +7,16 @@ ghost use Rattle.fm_proc_slots.specs.Rooms.{HasRoom, LeavesRoom, slots_in};
 
 use crate::open::OpenSlots;
 use crate::slots::{Slots, push_some};
-use crate::words::{set_word, word_at};
-use fm_base::NoMemory;
+use crate::words::set_word;
+use fm_base::{NoMemory, Seq};
 use fm_chan::Port;
-use fm_code::Row;
+use fm_code::word_at;
 use std::alloc::Global;
 use std::collections::VecDeque;
 
 /// What stands at a port word is exchanged for another: what came out.
-pub fn exchange(
-    words: &mut Row<i64>,
+pub(crate) fn exchange(
+    words: &mut Seq<i64>,
     slots: &mut Slots,
     number: usize,
     port: Option<Port>,
@@ -52,9 +52,9 @@ pub(crate) fn exchange_open(
 
 /// Ports at words one behind the other are exchanged for these: what came out. A word whose number is none of a machine is want
 /// of memory.
-pub fn exchange_all(
+pub(crate) fn exchange_all(
     alloc: Global,
-    words: &mut Row<i64>,
+    words: &mut Seq<i64>,
     slots: &mut Slots,
     first: usize,
     ports: Vec<Option<Port>>,

@@ -1,7 +1,7 @@
 //! What a child gives back to its parent. Room is taken before, so that nothing is given where memory is wanting.
 
 ghost use Rattle.std.specs.Prelude.{◌≡◌, ◌≤◌, ◌<◌, ◌+◌, ◌++◌, Some, [], ◌∷◌, length, option_to_list, vec_len, vec_capacity};
-ghost use Rattle.fm_code.specs.Passing.{back_words, given_span, live};
+ghost use Rattle.fm_code.specs.Passing.{back_words, live};
 ghost use Rattle.fm_proc_language.specs.Frames.{all_given, exchanged, one_given, port_given, ports_given};
 ghost use Rattle.fm_proc_language.specs.Slots.{all_left, vacated};
 ghost use Rattle.fm_proc_slots.specs.Helds.{held};
@@ -10,10 +10,11 @@ ghost use Rattle.fm_proc_slots.specs.Rooms.{slots_in};
 
 use crate::exchanging::exchange_open;
 use crate::open::OpenSlots;
-use crate::slots::{Slots, is_port, keep_some};
-use crate::words::{set_word, splice_within, word_at, words_of};
+use crate::slots::{Slots, keep_some};
+use crate::words::{set_word, splice_within};
+use fm_base::Seq;
 use fm_chan::Port;
-use fm_code::{Back, Row, Span};
+use fm_code::{Back, given_span, is_port, word_at, words_of};
 
 /// What a parent has while it joins, with room for what its children give back.
 #[derive(Drop)]
@@ -30,7 +31,7 @@ pub struct Gains {
 #[derive(Drop)]
 pub struct Child {
     /// The words of its frame.
-    pub words: Row<i64>,
+    pub words: Seq<i64>,
     /// Its ports.
     pub slots: Slots,
 }
@@ -76,15 +77,6 @@ fn give_ports(gains: &mut Gains, child: &mut Child, back: Back)
             back.from as usize + index,
             back.to as usize + index,
         );
-    }
-}
-
-fn given_span(back: Back) -> Span
-    ensures { result ≡ given_span back }
-{
-    Span {
-        first: back.from,
-        count: back.words,
     }
 }
 

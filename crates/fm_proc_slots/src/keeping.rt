@@ -8,10 +8,9 @@ ghost use Rattle.fm_code.specs.Passing.{live, nulls, spliced};
 ghost use Rattle.fm_proc_language.specs.Frames.{kept};
 ghost use Rattle.fm_proc_slots.specs.Keeps.{kept_from, kept_one};
 
-use crate::slots::is_port;
-use crate::words::{clear_span, words_of};
-use fm_base::NoMemory;
-use fm_code::{Formal, Row, Span};
+use crate::words::clear_span;
+use fm_base::{NoMemory, Seq};
+use fm_code::{Formal, Span, is_port, words_of};
 use std::alloc::Global;
 use std::collections::BTreeSet;
 
@@ -60,7 +59,7 @@ fn keep_span(
     alloc: Global,
     kept: &BTreeSet<u32>,
     span: Span,
-    words: &mut Row<i64>,
+    words: &mut Seq<i64>,
     left: &mut Vec<i64>,
 ) -> Result<(), NoMemory>
     ensures words { OnOk result (words.new ≡ cond (contains nat_cmp kept.now span.first) words.old (spliced words.old span.first (nulls span.count))) }
@@ -78,7 +77,7 @@ pub fn keep(
     alloc: Global,
     formals: &[Formal],
     spans: &[Span],
-    words: &mut Row<i64>,
+    words: &mut Seq<i64>,
 ) -> Result<Vec<i64>, NoMemory>
     ensures { IfOk result (λ v. (words.new, v.items) ≡ kept formals.now spans.now words.old) }
 {

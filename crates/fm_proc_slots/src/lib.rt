@@ -12,7 +12,6 @@ mod placing;
 mod slots;
 mod words;
 
-pub use exchanging::{exchange, exchange_all};
 pub use joining::{Child, Gains, give_back, vacate_words};
 pub use keeping::keep;
 pub use messages::{message_from, message_words, store_all};
@@ -20,4 +19,4 @@ pub use moving::move_over;
 pub use open::OpenSlots;
 pub use placing::{place_all, port_words};
 pub use slots::Slots;
-pub use words::{clear_span, set_word, span_words, splice, words_of};
+pub use words::{set_word, span_words};

@@ -1,6 +1,6 @@
 //! Messages: ports leave their slots with a message, and come to slots with one.
 
-ghost use Rattle.std.specs.Prelude.{◌≡◌, ◌++◌, ◌∷◌, [], MatchOption, IfOk, OnOk, take};
+ghost use Rattle.std.specs.Prelude.{◌≡◌, ◌++◌, IfOk, OnOk, take};
 ghost use Rattle.fm_base.specs.Channels as base;
 ghost use Rattle.fm_base.specs.Channels.{item_length, item_ports};
 ghost use Rattle.fm_chan.specs.Items.{plain_item};
@@ -12,17 +12,17 @@ ghost use Rattle.fm_proc_slots.specs.Stores.{PlacesMessage, words_stored};
 
 use crate::exchanging::exchange_all;
 use crate::slots::{Slots, push_some};
-use crate::words::{clear_span, splice, words_of};
+use crate::words::{clear_span, splice};
 use fm_base::{NoMemory, Seq};
 use fm_chan::{Item, Message, Port};
-use fm_code::{Operand, Row, Span};
+use fm_code::{Operand, Span, front, words_of};
 use std::alloc::Global;
 use std::collections::VecDeque;
 
 /// The ports of a span, which becomes NULL.
 fn take_span(
     alloc: Global,
-    words: &mut Row<i64>,
+    words: &mut Seq<i64>,
     slots: &mut Slots,
     span: Span,
 ) -> Result<Vec<Option<Port>>, NoMemory>
@@ -36,7 +36,7 @@ fn take_span(
 /// An item, whose ports leave NULL.
 fn item_from(
     alloc: Global,
-    words: &mut Row<i64>,
+    words: &mut Seq<i64>,
     slots: &mut Slots,
     operand: Operand,
 ) -> Result<Item, NoMemory>
@@ -58,7 +58,7 @@ fn item_from(
 /// A message of these items, from left to right; ports leave NULL.
 pub fn message_from(
     alloc: Global,
-    words: &mut Row<i64>,
+    words: &mut Seq<i64>,
     slots: &mut Slots,
     items: &[Operand],
 ) -> Result<Message, NoMemory>
@@ -104,7 +104,7 @@ fn first_words(words: &[i64], count: u32) -> &[i64]
 
 fn store_words(
     alloc: Global,
-    words: &mut Row<i64>,
+    words: &mut Seq<i64>,
     place: Operand,
     items: &[i64],
 ) -> Result<(), NoMemory>
@@ -125,7 +125,7 @@ fn store_words(
 /// Ports come to the port words of a span; what was there is let go.
 fn store_span(
     alloc: Global,
-    words: &mut Row<i64>,
+    words: &mut Seq<i64>,
     slots: &mut Slots,
     span: Span,
     ports: Vec<Option<Port>>,
@@ -143,7 +143,7 @@ fn store_span(
 
 fn store_ports(
     alloc: Global,
-    words: &mut Row<i64>,
+    words: &mut Seq<i64>,
     slots: &mut Slots,
     place: Operand,
     ports: Vec<Option<Port>>,
@@ -162,7 +162,7 @@ fn store_ports(
 /// An item is stored; what is let go is added.
 fn store(
     alloc: Global,
-    words: &mut Row<i64>,
+    words: &mut Seq<i64>,
     slots: &mut Slots,
     place: Operand,
     item: Item,
@@ -177,18 +177,10 @@ fn store(
     }
 }
 
-/// The first place, and the rest.
-fn front(places: &[Operand]) -> Option<(Operand, &[Operand])>
-    ensures { MatchOption result (places.now ≡ []) (λ f. places.now ≡ f.0 ∷ f.1.now) }
-{
-    let (first, rest) = places.split_first()?;
-    Some((*first, rest))
-}
-
 /// An item is stored at the first place, or let go: the places that are left.
 fn store_next<'a>(
     alloc: Global,
-    words: &mut Row<i64>,
+    words: &mut Seq<i64>,
     slots: &mut Slots,
     places: &'a [Operand],
     item: Item,
@@ -211,7 +203,7 @@ fn store_next<'a>(
 /// The items of a message go to places one after the other: what is let go, which is what was there and what finds no place.
 pub fn store_all(
     alloc: Global,
-    words: &mut Row<i64>,
+    words: &mut Seq<i64>,
     slots: &mut Slots,
     places: &[Operand],
     message: Message,

@@ -2,9 +2,10 @@
 
 ghost use Rattle.fm_proc_slots.specs.Places.{HaveNumbers};
 
-use crate::slots::{Slots, before, is_port, replaced};
+use crate::slots::{Slots, before, replaced};
 use fm_base::NoMemory;
 use fm_chan::Port;
+use fm_code::is_port;
 use std::alloc::Global;
 use std::mem::replace;
 

@@ -1,15 +1,15 @@
 //! Ports of new channels come to words.
 
-ghost use Rattle.std.specs.Prelude.{◌≡◌, ◌++◌, ◌∷◌, [], MatchOption, IfOk, OnOk};
+ghost use Rattle.std.specs.Prelude.{◌≡◌, ◌++◌, ◌∷◌, [], IfOk, OnOk};
 ghost use Rattle.fm_proc_language.specs.Frames.{all_placed, port_words, words_from};
 ghost use Rattle.fm_proc_slots.specs.Helds.{held};
 ghost use Rattle.fm_proc_slots.specs.Stores.{PlacesPort};
 
 use crate::exchanging::exchange;
 use crate::slots::{Slots, push_some};
-use fm_base::NoMemory;
+use fm_base::{NoMemory, Seq};
 use fm_chan::Port;
-use fm_code::{Operand, Row, Span};
+use fm_code::{Operand, Span, front};
 use std::alloc::Global;
 use std::collections::VecDeque;
 
@@ -44,17 +44,9 @@ pub fn port_words(alloc: Global, operands: &[Operand]) -> Result<Vec<u32>, NoMem
     Ok(numbers)
 }
 
-/// The first number, and the rest.
-fn front(numbers: &[u32]) -> Option<(u32, &[u32])>
-    ensures { MatchOption result (numbers.now ≡ []) (λ f. numbers.now ≡ f.0 ∷ f.1.now) }
-{
-    let (first, rest) = numbers.split_first()?;
-    Some((*first, rest))
-}
-
 /// A port goes to the first word, or is let go: the words that are left.
 fn place_next<'a>(
-    words: &mut Row<i64>,
+    words: &mut Seq<i64>,
     slots: &mut Slots,
     numbers: &'a [u32],
     port: Port,
@@ -77,7 +69,7 @@ fn place_next<'a>(
 /// Ports go to words one after the other: what is let go, which is what was there and what finds no word.
 pub fn place_all(
     alloc: Global,
-    words: &mut Row<i64>,
+    words: &mut Seq<i64>,
     slots: &mut Slots,
     numbers: &[u32],
     ports: Vec<Port>,

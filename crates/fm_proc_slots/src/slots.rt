@@ -2,12 +2,12 @@
 
 ghost use Rattle.std.specs.Prelude.{◌≡◌, ◌≤◌, ◌<◌, ◌+◌, pos, suc, ◌++◌, None, IfOk, OnOk, option_to_list, slice_get, slice_set, unwrap_or, vec_len, vec_capacity};
 ghost use Rattle.std.specs.Option.{option_copied};
-ghost use Rattle.fm_code.specs.Passing.{is_port};
 ghost use Rattle.fm_proc_language.specs.Slots.{all_taken, before, in_slot, left, no_slots, put, put_any, taken};
 ghost use Rattle.fm_proc_slots.specs.Places.{HasNumber};
 
 use fm_base::NoMemory;
 use fm_chan::Port;
+use fm_code::is_port;
 use std::alloc::Global;
 use std::marker::Model;
 use std::mem::replace;
@@ -75,13 +75,6 @@ pub(crate) fn replaced(
     } else {
         None
     }
-}
-
-/// Whether a word names a slot.
-pub(crate) fn is_port(word: i64) -> bool
-    ensures { result ≡ is_port word }
-{
-    word != 0
 }
 
 /// Adds a port, if there is one.

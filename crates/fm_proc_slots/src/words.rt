@@ -1,36 +1,15 @@
 //! Words of a frame.
 
 ghost use Rattle.std.specs.Prelude.{◌≡◌, ◌≤◌, ◌+◌, ◌++◌, IfOk, OnOk, length, nat_le, slice_set, vec_len, vec_capacity};
-ghost use Rattle.fm_code.specs.Acts.{span_of};
 ghost use Rattle.fm_code.specs.Passing.{nulls, spliced};
-ghost use Rattle.fm_code.specs.Statements.{word_at};
 ghost use Rattle.fm_proc_slots.specs.Rooms.{span_words};
 
-use fm_base::NoMemory;
-use fm_code::{Row, Span};
+use fm_base::{NoMemory, Seq};
+use fm_code::Span;
 use std::alloc::Global;
 
-/// The word of a frame, or 0 where there is none.
-pub(crate) fn word_at(words: &[i64], number: usize) -> i64
-    ensures { result ≡ word_at words.now number }
-{
-    match words.get(number) {
-        Some(word) => *word,
-        None => 0,
-    }
-}
-
-/// The words of a span, as far as they are there.
-pub fn words_of(words: &[i64], span: Span) -> &[i64]
-    ensures { result.now ≡ span_of words.now span }
-{
-    let (_, from) = words.split_at(words.len().min(span.first as usize));
-    let (there, _) = from.split_at(from.len().min(span.count as usize));
-    there
-}
-
 /// Puts a word at a place, if there is such a place.
-pub fn set_word(words: &mut Row<i64>, number: usize, word: i64)
+pub fn set_word(words: &mut Seq<i64>, number: usize, word: i64)
     ensures { words.new ≡ slice_set words.old number word }
 {
     if number < words.len() {
@@ -61,13 +40,18 @@ fn rebuilt(alloc: Global, words: &[i64], at: usize, items: &[i64]) -> Result<Vec
 }
 
 /// Puts items over the words from a place on.
-pub fn splice(alloc: Global, words: &mut Row<i64>, at: usize, items: &[i64]) -> Result<(), NoMemory>
+pub(crate) fn splice(
+    alloc: Global,
+    words: &mut Seq<i64>,
+    at: usize,
+    items: &[i64],
+) -> Result<(), NoMemory>
     ensures { OnOk result (words.new ≡ spliced words.old at items.now) }
 {
     if has_room(words.len(), at, items.len()) {
         words.put(at, items);
     } else {
-        *words = Row::from_vec(rebuilt(alloc, words.as_slice(), at, items)?);
+        *words = Seq::from_vec(rebuilt(alloc, words.as_slice(), at, items)?);
     }
     Ok(())
 }
@@ -101,7 +85,7 @@ pub(crate) fn splice_within(words: &mut Vec<i64>, at: usize, items: &[i64])
 }
 
 /// The words of a span become NULL.
-pub fn clear_span(alloc: Global, words: &mut Row<i64>, span: Span) -> Result<(), NoMemory>
+pub(crate) fn clear_span(alloc: Global, words: &mut Seq<i64>, span: Span) -> Result<(), NoMemory>
     ensures { OnOk result (words.new ≡ spliced words.old span.first (nulls span.count)) }
 {
     let nulls = vec![in alloc; 0i64; span.count as usize]?;

@@ -18,7 +18,7 @@ use Rattle.fm_proc.specs.Lefts.{left_by, left_of}
 use Rattle.fm_proc.specs.Rooms.{left_room, lefts_room}
 use Rattle.fm_proc.proofs.Joinings.{less_room}
 use Rattle.fm_procs.specs.declared.entries.Entries.{Entries}
-use Rattle.fm_procs.specs.declared.entries.Family.{Family}
+use Rattle.fm_net.specs.declared.kids.Family.{Family}
 use Rattle.fm_procs.specs.Blocks.{HasRoomFrom}
 use Rattle.fm_procs.specs.Kept.{AreChildren}
 use Rattle.fm_procs.specs.Readings.{order_of, procs_of}

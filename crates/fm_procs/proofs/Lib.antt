@@ -1,6 +1,7 @@
 pub mod Maps
 pub mod Families
 pub mod Family
+pub mod Counting
 pub mod Letting
 pub mod Served
 pub mod Doing

@@ -9,7 +9,7 @@ use Rattle.fm_proc.specs.Joinings.{HasJoined, HasRoomToJoin}
 use Rattle.fm_proc.specs.Lefts.{left_by}
 use Rattle.fm_proc.specs.Rooms.{lefts_room}
 use Rattle.fm_procs.specs.declared.entries.Entries.{Entries}
-use Rattle.fm_procs.specs.declared.entries.Family.{Family}
+use Rattle.fm_net.specs.declared.kids.Family.{Family}
 use Rattle.fm_procs.specs.Kept.{AreChildren}
 use Rattle.fm_procs.specs.Readings.{order_of, procs_of}
 

@@ -1,6 +1,6 @@
 -- Whether a process can step, and where it waits.
 -- Source: the Fortran M report (RECEIVE waits for a message or the end of its channel, a process block for its processes).
-use Rattle.std.specs.Prelude.{◌≡◌, ◌⊎◌, ℕ, Bool, true, false, is_some, Option, Some, None, List, [], Contains, slice_get}
+use Rattle.std.specs.Prelude.{◌≡◌, ◌⊎◌, ℕ, Bool, true, false, is_some, Option, Some, None, option_map, List, [], Contains, slice_get}
 use Rattle.std.specs.FinMap.{get}
 use Rattle.fm_base.specs.declared.path.ChanName.{ChanName}
 use Rattle.fm_base.specs.declared.port.PortValue.{PortValue}
@@ -15,7 +15,9 @@ use Rattle.fm_code.specs.declared.ask.Ask.{Ask}
 use Rattle.fm_code.specs.declared.ask.Ask.TheVariants as ask
 use Rattle.fm_proc_language.specs.Processes.{CodeProc, Kid, Phase, Running, Joining, Ended, Faulted, has_ended, asks}
 use Rattle.fm_proc_language.specs.Needs.{need_of}
-use Rattle.fm_procs.specs.Readings.{code_step}
+use Rattle.fm_finmap.specs.Rows.{value_at}
+use Rattle.fm_procs.specs.declared.entries.Entries.{Entries}
+use Rattle.fm_procs.specs.Readings.{code_step, proc_in}
 
 -- the children for which a process in this phase waits
 abbrev pub kids_in : Phase → List Kid
@@ -27,6 +29,10 @@ kids_in (Faulted line fault) = []
 abbrev pub ended_at : Option CodeProc → Bool
 ended_at None = false
 ended_at (Some y) = has_ended y
+
+-- whether the process of this number has ended
+abbrev pub over_in : Entries → ℕ → Bool
+over_in x n = ended_at (option_map proc_in (value_at x.rows n))
 
 abbrev pub can_in : State CodeProc → Option Place → Bool
 can_in s None = false

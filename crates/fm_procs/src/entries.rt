@@ -1,10 +1,10 @@
 //! The processes of a run, by number.
 
-ghost use Rattle.std.specs.Prelude.{◌≡◌, ◌<◌, ◌≤◌, ◌+◌, ◌∷◌, ◌++◌, ℕ, true, false, is_some, [], length, Some, None, IfOk, OnOk, option_map};
+ghost use Rattle.std.specs.Prelude.{◌≡◌, ◌<◌, ◌≤◌, ◌∷◌, ◌++◌, ℕ, true, false, is_some, [], length, Some, None, IfOk, OnOk, option_map};
 ghost use Rattle.std.specs.Arc.{arc_value};
 ghost use Rattle.std.specs.FinMap.{get, insert, empty};
 ghost use Rattle.std.specs.Option.{option_copied};
-ghost use Rattle.fm_net.specs.Machine.{Place, child, gathered};
+ghost use Rattle.fm_net.specs.Machine.{Place, gathered};
 ghost use Rattle.fm_finmap.specs.Rows.{numbered_map, place_at, places_in};
 ghost use Rattle.fm_proc_language.specs.Processes.{CodeProc, has_ended as is_done};
 ghost use Rattle.fm_proc_events.specs.Told.{look_of};
@@ -17,6 +17,7 @@ use fm_base::{NoMemory, Path};
 use fm_finmap::PathTable;
 use fm_machine_calls::Look;
 use fm_machine_instr::Work;
+use fm_net::{Endings, Family, count_ended};
 use fm_proc_events::{Phase, Process, next_look};
 use std::alloc::Global;
 use std::mem::replace;
@@ -74,43 +75,6 @@ pub struct Actor {
     pub path: Arc<Path>,
 }
 
-/// The children that a process waits for.
-#[derive(Clone, Copy)]
-pub struct Family {
-    /// The number of the first one.
-    pub first: u32,
-    /// How many they are.
-    pub count: usize,
-}
-
-/// The path of the child at this place, from 0, among those of a block.
-pub(crate) fn child_path(
-    alloc: Global,
-    path: &Path,
-    block: u32,
-    place: usize,
-) -> Result<Path, NoMemory>
-    ensures { IfOk result (λ p. p ≡ child path.now block (place + 1)) }
-{
-    match u32::try_from(place) {
-        Ok(before) => match before.checked_add(1) {
-            Some(index) => path.child(alloc, block, index),
-            None => Err(NoMemory),
-        },
-        Err(_) => Err(NoMemory),
-    }
-}
-
-/// The number of the process so many behind another one.
-pub fn number_behind(first: u32, place: usize) -> Result<u32, NoMemory>
-    ensures { IfOk result (λ n. n ≡ first + place) }
-{
-    match u32::try_from(place) {
-        Ok(place) => first.checked_add(place).ok_or(NoMemory),
-        Err(_) => Err(NoMemory),
-    }
-}
-
 fn has_ended(process: &Process) -> bool
     ensures { result ≡ is_done (proc_of process.now) }
 {
@@ -140,10 +104,7 @@ impl Entry {
         ensures first { result.first ≡ self.now.first_child }
         ensures count { result.count ≡ length (kids_in (proc_in self.now).phase) }
     {
-        Family {
-            first: self.first_child,
-            count: kid_count(&self.process),
-        }
+        Family::new(self.first_child, kid_count(&self.process))
     }
 
     // What the process does next, told without doing it.
@@ -151,6 +112,19 @@ impl Entry {
         ensures { IfOk result (λ l. l ≡ look_of (proc_in self.now)) }
     {
         next_look(alloc, work, &self.process)
+    }
+}
+
+impl Endings for Entries {
+    ghost use Rattle.fm_procs.specs.Waiting.{over_in};
+
+    ghost over = { over_in };
+
+    fn is_over(&self, number: u32) -> bool {
+        match self.rows.get(number) {
+            Some(entry) => has_ended(&entry.process),
+            None => false,
+        }
     }
 }
 
@@ -261,10 +235,7 @@ impl Entries {
     pub fn has_ended(&self, number: u32) -> bool
         ensures { (q : Place) → place_at self.now.rows number ≡ Some q → result ≡ ended_at (get (procs_of self.now) q) }
     {
-        match self.rows.get(number) {
-            Some(entry) => has_ended(&entry.process),
-            None => false,
-        }
+        self.is_over(number)
     }
 
     /// How many of some children have ended, from the first on, where so many are known to have.
@@ -275,15 +246,7 @@ impl Entries {
         ensures not_all { IfOk result (λ r. (q : Place) (b : ℕ) → AreChildren (order_of self.now) family.first q b family.count →
             r < family.count → is_some (gathered is_done (procs_of self.now) q b 1 family.count) ≡ false) }
     {
-        let mut place = from;
-        'children: while place < family.count {
-            let number = number_behind(family.first, place)?;
-            if !self.has_ended(number) {
-                return Ok(place);
-            }
-            place += 1;
-        }
-        Ok(place)
+        count_ended(self, family, from)
     }
 
     /// Whether children have all ended.
@@ -302,7 +265,7 @@ impl Entries {
     {
         match self.rows.get(number) {
             Some(entry) => entry.family(),
-            None => Family { first: 0, count: 0 },
+            None => Family::new(0, 0),
         }
     }
 }

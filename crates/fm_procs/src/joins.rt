@@ -20,10 +20,11 @@ ghost use Rattle.fm_procs.specs.Readings.{IsActor, actor_place, order_of, procs_
 ghost use Rattle.fm_procs.specs.Stepping.{JoinsAt};
 ghost use Rattle.fm_procs.specs.Waiting.{ended_at};
 
-use crate::entries::{Actor, Entries, Family, number_behind};
+use crate::entries::{Actor, Entries};
 use fm_base::NoMemory;
 use fm_chan::Channels;
 use fm_machine_calls::Look;
+use fm_net::{Family, number_behind};
 use fm_proc::{Left, OpenJoin, left_room, open_join, release};
 use std::alloc::Global;
 

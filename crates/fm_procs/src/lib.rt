@@ -13,5 +13,6 @@ mod ready;
 mod stepping;
 
 pub use code_procs::CodeProcs;
-pub use entries::{Actor, Entries, Entry, number_behind};
+pub use entries::{Actor, Entries, Entry};
 pub use pieces::CodePiece;
+pub use ready::is_join;

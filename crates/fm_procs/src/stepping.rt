@@ -23,12 +23,13 @@ ghost use Rattle.fm_procs.specs.Readings.{IsActor, actor_place, code_step, order
 ghost use Rattle.fm_procs.specs.Stepping.{AdvancesAt, PerformsAt, joined_next};
 
 use crate::code_procs::CodeProcs;
-use crate::entries::{Actor, Entries, Entry, child_path, number_behind};
+use crate::entries::{Actor, Entries, Entry};
 use fm_base::NoMemory;
 use fm_chan::Channels;
 use fm_code::Ask;
 use fm_machine_calls::Look;
 use fm_machine_instr::Work;
+use fm_net::{child_path, number_behind};
 use fm_proc::{Advanced, StepEnd, advance, perform};
 use fm_proc_events::{Process, next_look};
 use std::alloc::Global;

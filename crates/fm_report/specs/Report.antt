@@ -76,3 +76,7 @@ report_text vars o =
     ++ (flat_map (λ w. wait_line w (waits_for o w)) o.waits
     ++ (flat_map cycle_line (cycles_of o)
     ++ cond vars (turns_line o.used) []))))
+
+-- `spent T`, where a run has no report
+abbrev pub spent_text : (turns : ℕ) → List ℕ
+spent_text turns = codes "spent " ++ decimal turns ++ 10 ∷ []

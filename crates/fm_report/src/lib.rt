@@ -5,4 +5,4 @@ mod line;
 mod several;
 mod text;
 
-pub use text::report;
+pub use text::{report, spent_text};

@@ -1,8 +1,8 @@
-//! The whole report.
+//! The whole text of a run.
 
 ghost use Rattle.std.specs.Prelude.{◌≡◌, ◌++◌, IfOk, OnOk, map};
 ghost use Rattle.std.specs.List.{flat_map};
-ghost use Rattle.fm_report.specs.Report.{report_text, wait_line};
+ghost use Rattle.fm_report.specs.Report.{report_text, spent_text, wait_line};
 ghost use Rattle.fm_wait.specs.Waits.{waits_for};
 
 use crate::line::{push_turns, push_wait};
@@ -48,4 +48,14 @@ pub fn report(alloc: Global, outcome: &Outcome, vars: bool) -> Result<Vec<u8>, N
         push_turns(alloc, &mut out, outcome.used)?;
     }
     Ok(out)
+}
+
+/// The text of a run that was spent.
+pub fn spent_text(alloc: Global, turns: u64) -> Result<Vec<u8>, NoMemory>
+    ensures { IfOk result (λ v. v.items ≡ spent_text turns) }
+{
+    let mut text = Vec::from_slice(alloc, b"spent ")?;
+    text.extend_from_slice(turns.to_string(alloc)?.as_bytes())?;
+    text.push(b'\n')?;
+    Ok(text)
 }

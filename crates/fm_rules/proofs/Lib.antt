@@ -1,2 +1,4 @@
+pub mod Earlier
+pub mod FlagLaws
 pub mod Lists
 mod Races

@@ -1,7 +1,7 @@
 -- Bounds of arrays, and the extents of PROCESSORS.
 -- Source: ANSI X3.9-1978, sections 5.1.1 (dimension declarators) and 5.2.3 (size of an array); the Fortran M report for
 -- PROCESSORS. The greatest number of elements is this profile's.
-use Rattle.std.specs.Prelude.{ℕ, ◌+◌, ◌*◌, ℤ, pos, min, length, int_lt, ◌&&◌, ◌||◌, Bool, true, false, is_some, Option, Some, None, List, [], ◌∷◌, map}
+use Rattle.std.specs.Prelude.{ℕ, ◌+◌, ℤ, pos, min, length, int_lt, Bool, false, is_some, Option, Some, None, List, [], ◌∷◌, map}
 use Rattle.std.specs.List.{list_any}
 use Rattle.fm_values.specs.Places.{Bounds, extent, size}
 use Rattle.fm_tree.specs.Tree.{Tree}
@@ -66,19 +66,6 @@ held n = min n 65537
 abbrev pub node_count : Dimension → ℕ
 node_count None = 0
 node_count (Some b) = held (extent b)
-
--- of so many dimensions, none of which was looked at
-abbrev pub shape_start : ℕ → Shape
-shape_start n = record { dimensions = n; known = true; inverted = false; elements = 1 }
-
--- with one more dimension
-abbrev pub shape_with : Shape → Dimension → Shape
-shape_with s d = record {
-  dimensions = s.dimensions;
-  known = s.known && is_some d;
-  inverted = s.inverted || is_inverted d;
-  elements = held (s.elements * node_count d);
-}
 
 -- what a list of dimensions is as an array
 abbrev pub shape_by : List Dimension → Shape

@@ -22,13 +22,13 @@ use Rattle.fm_rules.specs.UnitTitles.{titles_of}
 
 -- Not exactly one PROGRAM.
 
-abbrev pub is_program : Stmt → Bool
-is_program (stmt.Program name) = true
-is_program s = false
+abbrev pub is_program_statement : Stmt → Bool
+is_program_statement (stmt.Program name) = true
+is_program_statement s = false
 
 -- the line of a PROGRAM statement
 abbrev pub program_line : Placed → Option ℕ
-program_line p = if is_program p.stmt then Some p.line.0 else None
+program_line p = if is_program_statement p.stmt then Some p.line.0 else None
 
 -- the lines of all of them, also of those that stand out of place
 abbrev pub program_lines : List Placed → List ℕ

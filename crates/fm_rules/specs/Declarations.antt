@@ -17,6 +17,7 @@ use Rattle.fm_tree.specs.declared.statement.Stmt.TheVariants as stmt
 use Rattle.fm_symbols.specs.ByName.{ByName}
 use Rattle.fm_rules.specs.declared.sheet.Aspect.{Aspect}
 use Rattle.fm_rules.specs.declared.sheet.Aspect.TheVariants as aspect
+use Rattle.fm_rules.specs.Earlier.{with_earlier}
 use Rattle.fm_rules.specs.FunctionTitles.{same_name, is_other_function}
 
 -- Facts.
@@ -119,12 +120,12 @@ is_of_variables aspect.Own = false
 abbrev pub takes_function : ByName Bool → Stmt → Fact → Bool
 takes_function titles heading f = is_of_variables f.what && is_other_function titles heading f.name
 
--- the facts that clash, behind these, of which the last one comes first
-abbrev pub clashes_behind : ByName Bool → Stmt → List Fact → List Fact → List Refusal
-clashes_behind titles heading before [] = []
-clashes_behind titles heading before (f ∷ fs) =
-    when (clashes (said before f.name) f.what || takes_function titles heading f) (place f.line.0 E30)
-    ++ clashes_behind titles heading (f ∷ before) fs
+-- a fact, with those that stand before it: they forbid it, or it takes another FUNCTION's name
+abbrev pub clash_of : ByName Bool → Stmt → List Fact × Fact → List Refusal
+clash_of titles heading at = when (clashes (said at.0 at.1.name) at.1.what || takes_function titles heading at.1) (place at.1.line.0 E30)
+
+abbrev pub clashes_among : ByName Bool → Stmt → List Fact → List Refusal
+clashes_among titles heading facts = flat_map (clash_of titles heading) (with_earlier facts)
 
 -- PROCESSORS.
 
@@ -150,4 +151,4 @@ repeated_processors specs = map declared_twice (drop 1 (flat_map processors_line
 
 -- where a unit declares something twice
 abbrev pub declared_twice_in : ByName Bool → Unit → List Refusal
-declared_twice_in titles u = clashes_behind titles u.heading.stmt [] (facts_of u) ++ repeated_processors u.specs
+declared_twice_in titles u = clashes_among titles u.heading.stmt (facts_of u) ++ repeated_processors u.specs

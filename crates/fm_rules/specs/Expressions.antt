@@ -1,6 +1,6 @@
 -- The judgement of expressions: their types, and the rules that they break.
 -- Source: ANSI X3.9-1978, sections 5.4 (subscripts), 6 (expressions) and 15 (functions); this profile for the intrinsics.
-use Rattle.std.specs.Prelude.{ℕ, ◌+◌, nat_eq, not, ◌&&◌, Bool, true, false, Option, Some, None, List, length, slice_get}
+use Rattle.std.specs.Prelude.{ℕ, suc, ◌+◌, nat_eq, not, ◌&&◌, Bool, true, false, Option, Some, None, List, length, slice_get}
 use Rattle.std.specs.FinMap.{get}
 use Rattle.fm_values.specs.declared.intrinsic.Intrinsic.{Intrinsic}
 use Rattle.fm_values.specs.Intrinsics.{intrinsic_named, takes}
@@ -78,11 +78,9 @@ is_stray_port (Some (formal.Port place)) t = false
 abbrev pub no_arguments : Arguments
 no_arguments = record { flags = no_flags; fit = true; count = 0 }
 
-abbrev pub with_argument : Arguments → Option Formal → Judgement → Arguments
-with_argument a w j = record { flags = both a.flags (both j.flags (e50 (is_stray_port w j.expr_type))); fit = a.fit && fits_wanted w j.expr_type; count = a.count }
-
-abbrev pub counted : Arguments → ℕ → Arguments
-counted a n = record { flags = a.flags; fit = a.fit; count = n }
+-- with one more in front
+abbrev pub with_argument : Option Formal → Judgement → Arguments → Arguments
+with_argument w j a = record { flags = both (both j.flags (e50 (is_stray_port w j.expr_type))) a.flags; fit = fits_wanted w j.expr_type && a.fit; count = suc a.count }
 
 abbrev pub formals_in : Option Scope → ℕ
 formals_in None = 0
@@ -116,13 +114,13 @@ abbrev mutual
   judged c s (Number n) = plain (Value Integer)
   judged c s (Truth b) = plain (Value Logical)
   judged c s (Named name) = plain (symbol_type (symbol_in c s name))
-  judged c s (Ref name args) = reference_judged c (referent_of c s name) (arguments_judged c s (referent_of c s name) no_arguments 0 args)
+  judged c s (Ref name args) = reference_judged c (referent_of c s name) (arguments_judged c s (referent_of c s name) 0 args)
   judged c s (Paren e) = in_parentheses (judged c s e).expr_type (judged c s e).flags
   judged c s (Signed o e) = record { expr_type = Value Integer; flags = operand Integer (judged c s e) }
   judged c s (Not e) = record { expr_type = Value Logical; flags = operand Logical (judged c s e) }
   judged c s (Binary o a b) = operated (operator_kind o) (judged c s a) (judged c s b)
 
-  -- the list behind a name, with what stands before the item at place i
-  pub arguments_judged : Context → Scope → Referent → Arguments → ℕ → Trees → Arguments
-  arguments_judged c s r before i NoTrees = counted before i
-  arguments_judged c s r before i (More t ts) = arguments_judged c s r (with_argument before (wanted c r i) (judged c s t)) (i + 1) ts
+  -- the list behind a name, from the item at place i on
+  pub arguments_judged : Context → Scope → Referent → ℕ → Trees → Arguments
+  arguments_judged c s r i NoTrees = no_arguments
+  arguments_judged c s r i (More t ts) = with_argument (wanted c r i) (judged c s t) (arguments_judged c s r (i + 1) ts)

@@ -1,30 +1,25 @@
 -- Which names are those of FUNCTIONs.
 -- Source: ANSI X3.9-1978, sections 15.5 (external functions) and 18.1.1 (global entities).
-use Rattle.std.specs.Prelude.{ℕ, Bool, false, not, ◌&&◌, Option, Some, None, List, [], ◌∷◌}
-use Rattle.std.specs.List.{flat_map}
+use Rattle.std.specs.Prelude.{ℕ, Bool, false, not, ◌&&◌, Option, Some, None, List, map}
 use Rattle.std.specs.FinMap.{get}
 use Rattle.std.specs.Ordering.{nat_cmp, eq_by_cmp}
 use Rattle.std.specs.Cmp.Lexicographic.{slice_cmp}
 use Rattle.fm_tree.specs.declared.program_unit.Unit.{Unit}
 use Rattle.fm_tree.specs.declared.statement.Stmt.{Stmt}
-use Rattle.fm_symbols.specs.ByName.{ByName, first_of_each}
+use Rattle.fm_symbols.specs.ByName.{ByName}
 use Rattle.fm_symbols.specs.Headings.{heading_name, heading_kind, is_function}
+use Rattle.fm_symbols.specs.Titles.{heading_of, titles_by}
 
 -- the two are the same
 abbrev pub same_name : List ℕ → List ℕ → Bool
 same_name a b = eq_by_cmp (slice_cmp nat_cmp) a b
 
--- a name, and whether it is a FUNCTION's
-abbrev pub title_by : Option (List ℕ) → Bool → List (List ℕ × Bool)
-title_by None function = []
-title_by (Some name) function = (name, function) ∷ []
-
-abbrev pub title_of : Unit → List (List ℕ × Bool)
-title_of u = title_by (heading_name u.heading.stmt) (is_function (heading_kind u.heading.stmt))
+abbrev pub function_told : (number : ℕ) → Stmt → Bool
+function_told number h = is_function (heading_kind h)
 
 -- of each unit's name whether it is a FUNCTION's
 abbrev pub titles_of : List Unit → ByName Bool
-titles_of us = first_of_each (flat_map title_of us)
+titles_of us = titles_by function_told (map heading_of us)
 
 abbrev pub is_function_title : Option Bool → Bool
 is_function_title None = false

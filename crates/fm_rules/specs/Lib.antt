@@ -12,8 +12,10 @@ pub mod Calls
 pub mod Race
 pub mod Recursion
 pub mod Declarations
+pub mod Earlier
 pub mod FunctionTitles
 pub mod Links
+pub mod Main
 pub mod BrokenNames
 pub mod Names
 pub mod Sheets

@@ -1,13 +1,12 @@
 -- Where an entry of a unit that breaks no rule leads to, besides the entry that comes after it.
 -- Source: ANSI X3.9-1978, sections 11.1 (GO TO), 11.4 (logical IF), 11.6 to 11.9 (block IF) and 11.10 (DO); MIL-STD-1753 for DO
 -- WHILE; the Fortran M report for END= and PROCESSDO.
-use Rattle.std.specs.Prelude.{ℕ, ◌+◌, Bool, true, false, if◌then◌else◌, Option, Some, None, List, [], ◌∷◌, map, slice_get, slice_index_or}
+use Rattle.std.specs.Prelude.{ℕ, ◌+◌, true, if◌then◌else◌, Option, Some, None, List, [], ◌∷◌, map, slice_get}
 use Rattle.fm_base.specs.declared.name.Label.{Label}
 use Rattle.fm_tree.specs.declared.form.Form.{Form}
 use Rattle.fm_tree.specs.declared.form.Form.TheVariants as form
 use Rattle.fm_tree.specs.declared.entry_mark.EntryMark.{EntryMark}
 use Rattle.fm_tree.specs.declared.program_unit.Entry.{Entry}
-use Rattle.fm_tree.specs.declared.program_unit.Unit.{Unit}
 use Rattle.fm_tree.specs.Structure.{form_of, is_else}
 use Rattle.fm_tree.specs.Blocks.{branch_end}
 use Rattle.fm_tree.specs.Labels.{jump_label, target}

@@ -3,7 +3,7 @@
 -- expression no name with a list in parentheses but that of an array.
 -- Source: ANSI X3.9-1978, sections 6.1.2 and 6.6 (primaries), 15.9 (arguments) and 18.2 (classes of names); the Fortran M
 -- report for ports; this profile for what makes a variable.
-use Rattle.std.specs.Prelude.{ℕ, Bool, true, false, cond, fold, Option, Some, None, List, [], ◌∷◌, ◌++◌, map}
+use Rattle.std.specs.Prelude.{ℕ, Bool, true, false, not, Option, Some, None, List, [], ◌∷◌, ◌++◌, map, filter}
 use Rattle.std.specs.List.{flat_map, list_any}
 use Rattle.fm_base.specs.declared.name.Line.{Line}
 use Rattle.fm_tree.specs.Tree.{Tree, Trees, Number, Truth, Named, Ref, Paren, Signed, Not, Binary, NoTrees, More}
@@ -29,6 +29,7 @@ use Rattle.fm_tree.specs.declared.statement.Simple.{Simple}
 use Rattle.fm_tree.specs.declared.statement.Simple.TheVariants as simple
 use Rattle.fm_tree.specs.declared.statement.Stmt.{Stmt}
 use Rattle.fm_tree.specs.declared.statement.Stmt.TheVariants as stmt
+use Rattle.fm_rules.specs.Earlier.{with_earlier}
 use Rattle.fm_rules.specs.FunctionTitles.{same_name}
 use Rattle.fm_rules.specs.declared.sheet.Occurrence.{Occurrence}
 
@@ -183,10 +184,10 @@ occurrences array u = in_placed array u.heading ++ (flat_map (in_placed array) u
 abbrev pub is_of : List ℕ → Occurrence → Bool
 is_of name o = same_name name o.name
 
--- behind the others, where its name isn't among them
-abbrev pub with_occurrence : List Occurrence → Occurrence → List Occurrence
-with_occurrence os o = cond (list_any (is_of o.name) os) os (os ++ o ∷ [])
+-- an occurrence, with those that stand before it, none of which has its name
+abbrev pub is_first : List Occurrence × Occurrence → Bool
+is_first at = not (list_any (is_of at.1.name) at.0)
 
 -- the first of each name
 abbrev pub first_occurrences : List Occurrence → List Occurrence
-first_occurrences os = fold with_occurrence [] os
+first_occurrences os = map (λ (at : List Occurrence × Occurrence). at.1) (filter is_first (with_earlier os))

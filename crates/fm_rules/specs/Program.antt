@@ -1,14 +1,11 @@
 -- Programs that break no rule.
 -- Source: this profile.
-use Rattle.std.specs.Prelude.{◌≡◌, ℕ, ◌+◌, Bool, true, false, if◌then◌else◌, List, [], ◌∷◌, map, Contains}
+use Rattle.std.specs.Prelude.{◌≡◌, List, [], ◌∷◌, map, Contains}
 use Rattle.fm_base.specs.Verdict.{IsClean}
-use Rattle.fm_tree.specs.declared.form.UnitKind.{UnitKind}
-use Rattle.fm_tree.specs.declared.form.UnitKind.TheVariants as unit_kind
 use Rattle.fm_tree.specs.declared.program_unit.Placed.{Placed}
 use Rattle.fm_tree.specs.declared.program_unit.Unit.{Unit}
 use Rattle.fm_tree.specs.declared.program_unit.Units.{Units}
 use Rattle.fm_tree.specs.Statements.{IsWellShapedStatement}
-use Rattle.fm_symbols.specs.Headings.{heading_kind}
 use Rattle.fm_rules.specs.declared.entry_links.EntryLinks.{EntryLinks}
 use Rattle.fm_rules.specs.Links.{links_of}
 use Rattle.fm_symbols.specs.declared.names.Names.{Names}
@@ -46,24 +43,6 @@ pub record IsNamed (units : Units) (names : Names) : Type 0 where
   pub structure : IsStructured units
   pub names_are : names.units ≡ names_of units.units
   pub named : IsClean (Contains (broken_names units.units))
-
--- PROGRAM heads the unit
-abbrev pub is_program_kind : UnitKind → Bool
-is_program_kind unit_kind.Program = true
-is_program_kind unit_kind.Process = false
-is_program_kind unit_kind.Subroutine = false
-is_program_kind unit_kind.Function = false
-
-abbrev pub is_main : Unit → Bool
-is_main u = is_program_kind (heading_kind u.heading.stmt)
-
--- the number of the first PROGRAM unit, counted from one on
-abbrev pub main_from : (number : ℕ) → List Unit → ℕ
-main_from number [] = 0
-main_from number (u ∷ us) = if is_main u then number else main_from (number + 1) us
-
-abbrev pub main_of : List Unit → ℕ
-main_of us = main_from 0 us
 
 -- where the entries of each unit lead to
 abbrev pub all_links : List Unit → List (List EntryLinks)

@@ -1,18 +1,16 @@
 -- Where a run of a program may depend on the order of its processes' steps.
 -- Source: the Fortran M report: a program without mergers and probes is deterministic.
-use Rattle.std.specs.Prelude.{◌≡◌, ℕ, ◌≤◌, Bool, true, false, Option, Some, MatchOption, List, position, slice_get, Contains}
+use Rattle.std.specs.Prelude.{◌≡◌, ℕ, ◌≤◌, Bool, true, false, Option, Some, MatchOption, List, slice_get, Contains}
 use Rattle.fm_base.specs.declared.name.Line.{Line}
 use Rattle.fm_graph.specs.Graph.{Reaches}
-use Rattle.fm_tree.specs.declared.form.UnitKind.{UnitKind}
-use Rattle.fm_tree.specs.declared.form.UnitKind.TheVariants as unit_kind
 use Rattle.fm_tree.specs.declared.program_unit.Entry.{Entry}
 use Rattle.fm_tree.specs.declared.program_unit.Unit.{Unit}
 use Rattle.fm_tree.specs.declared.statement.Simple.TheVariants as simple
 use Rattle.fm_tree.specs.declared.statement.Stmt.{Stmt}
 use Rattle.fm_tree.specs.declared.statement.Stmt.TheVariants as stmt
 use Rattle.fm_symbols.specs.declared.context.Context.{Context}
-use Rattle.fm_symbols.specs.declared.context.Scope.{Scope}
 use Rattle.fm_rules.specs.Calls.{call_graph}
+use Rattle.fm_rules.specs.Main.{main_of}
 
 -- MERGER or PROBE. What stands behind a logical IF is an entry of its own
 unfoldable pub is_racy : Stmt → Bool
@@ -20,23 +18,10 @@ is_racy (stmt.Simple (simple.Merger inport outports)) = true
 is_racy (stmt.Simple (simple.Probe named port empty)) = true
 is_racy s = false
 
-abbrev pub is_program : UnitKind → Bool
-is_program unit_kind.Program = true
-is_program unit_kind.Process = false
-is_program unit_kind.Subroutine = false
-is_program unit_kind.Function = false
-
-abbrev pub is_main : Scope → Bool
-is_main s = is_program s.kind
-
--- the PROGRAM
-abbrev pub main_of : Context → Option ℕ
-main_of c = position is_main c.scopes
-
 -- an entry MERGER or PROBE at a line, in a unit that the PROGRAM reaches by CALL, references and PROCESSCALL, or that is it
 pub record IsRace (us : List Unit) (c : Context) (line : ℕ) : Type 0 where
   pub main : ℕ
-  pub starts : main_of c ≡ Some main
+  pub starts : main_of us ≡ Some main
   pub number : ℕ
   pub reached : Reaches (call_graph true us c) main number
   pub unit : Unit

@@ -8,12 +8,14 @@ use Rattle.fm_tree.specs.declared.form.UnitKind.TheVariants as kind
 use Rattle.fm_tree.specs.declared.form.Terminal.TheVariants as terminal
 use Rattle.fm_tree.specs.declared.entry_mark.Open.{Open}
 use Rattle.fm_tree.specs.Structure.{is_block_if, makes_processes}
+use Rattle.fm_rules.specs.Main.{is_program}
 
 -- Units.
 
-unfoldable pub is_program : Form → Bool
-is_program (form.Heading kind.Program) = true
-is_program f = false
+-- PROGRAM heads the unit
+unfoldable pub heads_program : Form → Bool
+heads_program (form.Heading unit) = is_program unit
+heads_program f = false
 
 -- of a PROGRAM or a PROCESS: a unit that may say PROCESSORS
 unfoldable pub has_processors : Form → Bool
@@ -49,7 +51,7 @@ unfoldable pub misplaced : Form → Bool → Bool → Form → Form → Bool
 misplaced (form.Heading unit) first late heading opener = not first
 misplaced form.Declaration first late heading opener = first || late
 misplaced form.Processors first late heading opener = first || (late || not (has_processors heading))
-misplaced form.Return first late heading opener = first || is_program heading
+misplaced form.Return first late heading opener = first || heads_program heading
 misplaced form.ProcessCall first late heading opener = first || not (makes_processes opener)
 misplaced f first late heading opener = first
 

@@ -1,9 +1,8 @@
 -- The judgement of statements.
 -- Source: ANSI X3.9-1978, sections 10 (assignment), 11 (control), 12 (printing) and 15 (calls); the Fortran M report for ports and
 -- processes; this profile for what a FUNCTION may not do.
-use Rattle.std.specs.Prelude.{ℕ, nat_eq, not, ◌&&◌, Bool, true, false, if◌then◌else◌, Option, Some, None, unwrap_or, List, [], slice_get}
+use Rattle.std.specs.Prelude.{ℕ, nat_eq, not, ◌&&◌, Bool, true, false, if◌then◌else◌, Option, Some, None, unwrap_or, List, [], ◌∷◌, slice_get}
 use Rattle.std.specs.FinMap.{get}
-use Rattle.std.specs.List.{fold}
 use Rattle.fm_tree.specs.Tree.{Tree, trees_from}
 use Rattle.fm_tree.specs.declared.form.UnitKind.{UnitKind}
 use Rattle.fm_tree.specs.declared.form.UnitKind.TheVariants as unit_kind
@@ -28,7 +27,7 @@ use Rattle.fm_symbols.specs.declared.symbol.Symbol.{Symbol}
 use Rattle.fm_symbols.specs.declared.symbol.Symbol.TheVariants as symbol
 use Rattle.fm_symbols.specs.declared.context.Scope.{Scope}
 use Rattle.fm_symbols.specs.declared.context.Context.{Context}
-use Rattle.fm_symbols.specs.Context.{symbol_in}
+use Rattle.fm_symbols.specs.Context.{symbol_in, symbol_place}
 use Rattle.fm_symbols.specs.Headings.{is_function}
 use Rattle.fm_rules.specs.declared.flags.Flags.{Flags}
 use Rattle.fm_rules.specs.declared.typing.ExprType.{ExprType}
@@ -38,18 +37,15 @@ use Rattle.fm_rules.specs.declared.typing.Referent.{Referent}
 use Rattle.fm_rules.specs.declared.typing.Referent.TheVariants as referent
 use Rattle.fm_rules.specs.Flags.{both, e40, e42, e46, e50, no_flags}
 use Rattle.fm_rules.specs.Typing.{needed_value, operand, result_of, same_scalar}
-use Rattle.fm_rules.specs.Expressions.{arguments_judged, judged, no_arguments, reference_judged}
+use Rattle.fm_rules.specs.Expressions.{arguments_judged, judged, reference_judged}
 use Rattle.fm_rules.specs.VariableTypes.{target_judged, target_named, variable_judged}
 use Rattle.fm_rules.specs.declared.calls.CallKind.{CallKind}
 use Rattle.fm_rules.specs.declared.calls.CallKind.TheVariants as call_kind
 
--- what is broken before or in one of a list
-abbrev pub any_from : {X : Type 0} → (X → Flags) → Flags → List X → Flags
-any_from g before xs = fold (λ f x. both f (g x)) before xs
-
 -- what is broken in one of a list
 abbrev pub in_any : {X : Type 0} → (X → Flags) → List X → Flags
-in_any g xs = any_from g no_flags xs
+in_any g [] = no_flags
+in_any g (x ∷ xs) = both (g x) (in_any g xs)
 
 -- Operands, ports and targets.
 
@@ -73,15 +69,6 @@ abbrev pub target_flags : Context → Scope → Var → Flags
 target_flags c s v = (target_judged c s v).flags
 
 -- Formals of a FUNCTION as targets.
-
-abbrev pub symbol_place : Option Symbol → Option ℕ
-symbol_place None = None
-symbol_place (Some (symbol.Constant s)) = None
-symbol_place (Some (symbol.Variable s place)) = Some place
-symbol_place (Some (symbol.Array s place x)) = Some place
-symbol_place (Some (symbol.Port d place)) = Some place
-symbol_place (Some (symbol.Ports d place x)) = Some place
-symbol_place (Some (symbol.Function k)) = None
 
 abbrev pub is_formal : Option Variable → Bool
 is_formal None = false
@@ -158,7 +145,7 @@ abbrev pub callee_of : Context → CallKind → List ℕ → Referent
 callee_of c k name = callee_at c k (get c.units name)
 
 abbrev pub call_flags : Context → Scope → CallKind → List ℕ → List Tree → Flags
-call_flags c s k name args = (reference_judged c (callee_of c k name) (arguments_judged c s (callee_of c k name) no_arguments 0 (trees_from args))).flags
+call_flags c s k name args = (reference_judged c (callee_of c k name) (arguments_judged c s (callee_of c k name) 0 (trees_from args))).flags
 
 abbrev pub position_flags : Context → Scope → Option Where → Flags
 position_flags c s None = no_flags

@@ -17,7 +17,7 @@ use Rattle.fm_rules.specs.declared.typing.Referent.TheVariants as referent
 use Rattle.fm_rules.specs.declared.typing.Arguments.{Arguments}
 use Rattle.fm_rules.specs.Flags.{e41, e44}
 use Rattle.fm_rules.specs.Typing.{plain, result_of, symbol_type, with_flags}
-use Rattle.fm_rules.specs.Expressions.{array_or, arguments_judged, no_arguments, reference_judged}
+use Rattle.fm_rules.specs.Expressions.{array_or, arguments_judged, reference_judged}
 
 -- a name with subscripts where a variable is needed; one that is no array has wrong subscripts
 abbrev pub subscripted : Context → Referent → Arguments → Judgement
@@ -29,7 +29,7 @@ subscripted c referent.Unknown a = with_flags Nothing a.flags (e41 true)
 
 abbrev pub element_of : Context → Scope → Var → Judgement
 element_of c s v =
-    subscripted c (array_or (get s.symbols v.name) referent.Unknown) (arguments_judged c s (array_or (get s.symbols v.name) referent.Unknown) no_arguments 0 (trees_from v.subscripts))
+    subscripted c (array_or (get s.symbols v.name) referent.Unknown) (arguments_judged c s (array_or (get s.symbols v.name) referent.Unknown) 0 (trees_from v.subscripts))
 
 abbrev pub is_bare : List Tree → Bool
 is_bare [] = true

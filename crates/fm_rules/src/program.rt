@@ -1,9 +1,10 @@
 //! A program that breaks no rule.
 
-ghost use Rattle.std.specs.Prelude.{◌≡◌, ◌↔◌, true, IfOk};
+ghost use Rattle.std.specs.Prelude.{◌≡◌, ◌↔◌, true, unwrap_or, IfOk};
 ghost use Rattle.fm_rules.specs.Race.{IsDeterministic, IsRaceVerdict};
 ghost use Rattle.fm_symbols.specs.Context.{context_of};
-ghost use Rattle.fm_rules.specs.Program.{IsLawful, all_links, is_main, main_of};
+ghost use Rattle.fm_rules.specs.Main.{is_main, is_program, main_of};
+ghost use Rattle.fm_rules.specs.Program.{IsLawful, all_links};
 
 use crate::entry_links::EntryLinks;
 use fm_base::{Line, NoMemory, Seq};
@@ -21,7 +22,7 @@ pub struct Program {
     ghost lawful: { ∥ IsLawful units names ∥₁ },
     ghost context_is: { context ≡ context_of units.units names.units },
     ghost links_are: { links ≡ all_links units.units },
-    ghost main_is: { main ≡ main_of units.units },
+    ghost main_is: { main ≡ unwrap_or (main_of units.units) 0 },
     ghost race_is: { ∥ IsRaceVerdict units.units context race ∥₁ },
 }
 
@@ -38,22 +39,24 @@ impl Drop for Program {
     }
 }
 
+/// Whether PROGRAM heads a unit of this kind.
+pub fn is_program(unit: UnitKind) -> bool
+    ensures { result ≡ is_program unit }
+{
+    matches!(unit, UnitKind::Program)
+}
+
 fn is_main(unit: &Unit) -> bool
     ensures { result ≡ is_main unit.now }
 {
-    matches!(heading_kind(&unit.heading.stmt), UnitKind::Program)
+    is_program(heading_kind(&unit.heading.stmt))
 }
 
-/// The number of the PROGRAM unit.
-fn main_number(units: &[Unit]) -> usize
+/// The number of the PROGRAM, from 0.
+pub fn main_of(units: &[Unit]) -> Option<usize>
     ensures { result ≡ main_of units.now }
 {
-    for number in 0..units.len() {
-        if is_main(&units[number]) {
-            return number;
-        }
-    }
-    0
+    units.iter().position(is_main)
 }
 
 impl Program {
@@ -73,7 +76,8 @@ impl Program {
         ensures units { IfOk result (λ p. p.units ≡ units) }
         ensures names { IfOk result (λ p. p.names ≡ names) }
     {
-        let main = u32::try_from(main_number(units.units.as_slice())).map_err(|_| NoMemory)?;
+        let main = main_of(units.units.as_slice()).unwrap_or(0);
+        let main = u32::try_from(main).map_err(|_| NoMemory)?;
         Ok(Program {
             units,
             names,
@@ -114,7 +118,7 @@ impl Program {
 
     /// The number of the PROGRAM unit, from 0.
     pub fn main(&self) -> u32
-        ensures { result ≡ main_of self.now.units.units }
+        ensures { result ≡ unwrap_or (main_of self.now.units.units) 0 }
     {
         self.main
     }

@@ -11,3 +11,4 @@ pub mod Queueing
 pub mod Becomes
 pub mod Serving
 pub mod Taking
+pub mod Holding

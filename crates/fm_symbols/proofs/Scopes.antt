@@ -1,11 +1,11 @@
 -- Units and their names, side by side.
-use Rattle.std.proofs.Common.{◌≡◌, ◌⊎◌, inl, inr, ℕ, suc, List, [], ◌∷◌, ◌++◌, length, refl, ap, sym, ◌∙◌}
+use Rattle.std.proofs.Common.{◌≡◌, ◌⊎◌, inl, inr, List, [], ◌∷◌, ◌++◌, length, refl, ap, sym, ◌∙◌}
 use Rattle.std.proofs.Math.Nat.{suc-ne-zero}
 use Rattle.std.proofs.lemmas.List.{append-nil}
 use Rattle.fm_tree.specs.declared.program_unit.Unit.{Unit}
 use Rattle.fm_symbols.specs.declared.names.UnitNames.{UnitNames}
 use Rattle.fm_symbols.specs.declared.context.Scope.{Scope}
-use Rattle.fm_symbols.specs.Context.{scope_of, scopes_of}
+use Rattle.fm_symbols.specs.Context.{scopes_of}
 
 -- where one side has ended, the other is not asked
 pub no_scopes : (us : List Unit) (ns : List UnitNames) → (length us ≡ 0) ⊎ (length ns ≡ 0) → scopes_of us ns ≡ []

@@ -1,23 +1,23 @@
 -- What names mean in the units of a program.
 -- Source: ANSI X3.9-1978, sections 18.1 and 18.2 (scope and classes of names); the Fortran M report for ports; this profile.
-use Rattle.std.specs.Prelude.{ℕ, ℤ, suc, ◌+◌, Bool, true, false, if◌then◌else◌, Option, Some, None, List, [], ◌∷◌, ◌++◌, map, length, slice_get}
+use Rattle.std.specs.Prelude.{ℕ, ℤ, ◌+◌, Bool, false, if◌then◌else◌, Option, Some, None, List, [], ◌∷◌, ◌++◌, map, length, slice_get}
 use Rattle.std.specs.FinMap.{get}
 use Rattle.fm_tree.specs.declared.form.UnitKind.{UnitKind}
 use Rattle.fm_tree.specs.declared.port_type.Kind.{Kind}
 use Rattle.fm_tree.specs.declared.port_type.Kind.TheVariants as kind
 use Rattle.fm_tree.specs.declared.program_unit.Unit.{Unit}
+use Rattle.fm_tree.specs.declared.statement.Stmt.{Stmt}
 use Rattle.fm_symbols.specs.ByName.{ByName, first_of_each}
 use Rattle.fm_symbols.specs.Headings.{heading_name, heading_formals, heading_kind, is_function}
+use Rattle.fm_symbols.specs.Titles.{heading_of, titles_by}
 use Rattle.fm_symbols.specs.declared.names.Constant.{Constant}
 use Rattle.fm_symbols.specs.declared.names.Constant.TheVariants as constant
 use Rattle.fm_symbols.specs.declared.names.Variable.{Variable}
 use Rattle.fm_symbols.specs.declared.names.UnitNames.{UnitNames}
-use Rattle.fm_symbols.specs.declared.names.Names.{Names}
 use Rattle.fm_symbols.specs.declared.symbol.Scalar.{Scalar}
 use Rattle.fm_symbols.specs.declared.symbol.Scalar.TheVariants.{Integer, Logical}
 use Rattle.fm_symbols.specs.declared.symbol.Direction.{Direction}
 use Rattle.fm_symbols.specs.declared.symbol.Direction.TheVariants.{In, Out}
-use Rattle.fm_symbols.specs.declared.symbol.Extent.{Extent}
 use Rattle.fm_symbols.specs.declared.symbol.Symbol.{Symbol}
 use Rattle.fm_symbols.specs.declared.symbol.Symbol.TheVariants as symbol
 use Rattle.fm_symbols.specs.declared.symbol.Formal.{Formal}
@@ -55,6 +55,16 @@ constant_entry c = (c.0, constant_symbol c.1)
 abbrev pub variable_entries : ℕ → List Variable → List (List ℕ × Symbol)
 variable_entries place [] = []
 variable_entries place (v ∷ vs) = (v.name, symbol_of place v) ∷ variable_entries (place + 1) vs
+
+-- the place of what a name means, if that is a variable
+abbrev pub symbol_place : Option Symbol → Option ℕ
+symbol_place None = None
+symbol_place (Some (symbol.Constant s)) = None
+symbol_place (Some (symbol.Variable s place)) = Some place
+symbol_place (Some (symbol.Array s place x)) = Some place
+symbol_place (Some (symbol.Port d place)) = Some place
+symbol_place (Some (symbol.Ports d place x)) = Some place
+symbol_place (Some (symbol.Function k)) = None
 
 -- the constants and the variables of a unit by their names
 abbrev pub symbols_of : UnitNames → ByName Symbol
@@ -105,18 +115,12 @@ scopes_of [] ns = []
 scopes_of (u ∷ us) [] = []
 scopes_of (u ∷ us) (n ∷ ns) = scope_of u n ∷ scopes_of us ns
 
--- the unit of this number, under its name
-abbrev pub title_entry : (number : ℕ) → Option (List ℕ) → List (List ℕ × ℕ)
-title_entry number None = []
-title_entry number (Some name) = (name, number) ∷ []
-
-abbrev pub titles_from : (number : ℕ) → List Unit → List (List ℕ × ℕ)
-titles_from number [] = []
-titles_from number (u ∷ us) = title_entry number (heading_name u.heading.stmt) ++ titles_from (number + 1) us
+abbrev pub number_told : (number : ℕ) → Stmt → ℕ
+number_told number h = number
 
 -- the number of the first unit with a name
 abbrev pub unit_numbers : List Unit → ByName ℕ
-unit_numbers us = first_of_each (titles_from 0 us)
+unit_numbers us = titles_by number_told (map heading_of us)
 
 -- the meaning of the names of a program
 abbrev pub context_of : List Unit → List UnitNames → Context

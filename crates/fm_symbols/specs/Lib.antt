@@ -1,3 +1,4 @@
 pub mod ByName
 pub mod Headings
 pub mod Context
+pub mod Titles

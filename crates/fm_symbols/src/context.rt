@@ -4,8 +4,9 @@ ghost use Rattle.std.specs.Prelude.{◌≡◌, ◌++◌, IfOk, OnOk, map};
 ghost use Rattle.std.specs.List.{slice_get};
 ghost use Rattle.std.specs.FinMap.{get};
 ghost use Rattle.fm_symbols.specs.ByName.{with_all};
-ghost use Rattle.fm_symbols.specs.Context.{constant_entry, constant_symbol, context_of, formal_by, formal_in, function_at, function_named, is_function_scope, port_symbol, result_in, scalar_by, scope_of, scope_with, scopes_of, symbol_by, symbol_in, symbol_of, symbols_of, title_entry, unit_numbers, value_symbol, variable_entries};
+ghost use Rattle.fm_symbols.specs.Context.{constant_entry, constant_symbol, context_of, formal_by, formal_in, function_at, function_named, is_function_scope, port_symbol, result_in, scalar_by, scope_of, scope_with, scopes_of, symbol_by, symbol_in, symbol_of, symbol_place, symbols_of, unit_numbers, value_symbol, variable_entries};
 ghost use Rattle.fm_symbols.specs.Headings.{heading_formals, heading_name};
+ghost use Rattle.fm_symbols.specs.Titles.{title_by};
 
 use crate::heading::{heading_formals, heading_kind, heading_name, is_function};
 use crate::insertion::insert_new;
@@ -101,6 +102,21 @@ fn symbol_of(place: u32, variable: &Variable) -> Symbol
         variable.words,
         place,
     )
+}
+
+/// The place of a variable by what its name means.
+pub fn symbol_place(symbol: Option<Symbol>) -> Option<u32>
+    ensures { result ≡ symbol_place symbol }
+{
+    match symbol {
+        None => None,
+        Some(Symbol::Constant(_)) => None,
+        Some(Symbol::Variable(_, place)) => Some(place),
+        Some(Symbol::Array(_, place, _)) => Some(place),
+        Some(Symbol::Port(_, place)) => Some(place),
+        Some(Symbol::Ports(_, place, _)) => Some(place),
+        Some(Symbol::Function(_)) => None,
+    }
 }
 
 fn constant_symbol(constant: Constant) -> Symbol
@@ -246,7 +262,7 @@ fn add_title(
     heading: &Stmt,
     units: &mut NameMap<u32>,
 ) -> Result<(), NoMemory>
-    ensures { OnOk result (units.new ≡ with_all units.old (title_entry number (heading_name heading.now))) }
+    ensures { OnOk result (units.new ≡ with_all units.old (title_by (heading_name heading.now) number)) }
 {
     match heading_name(heading) {
         Some(name) => insert_new(alloc, units, name, number),

@@ -2,24 +2,14 @@
 
 ghost use Rattle.std.specs.Prelude.{◌≡◌, Contains};
 ghost use Rattle.std.specs.List.{flat_map, slice_get};
-ghost use Rattle.fm_base.specs.Verdict.{IsVerdict, least, least_from, place, when};
+ghost use Rattle.fm_base.specs.Verdict.{IsVerdict, least, least_from};
 ghost use Rattle.fm_rules.specs.BrokenTypes.{broken_at, broken_in_entry, broken_in_statement, broken_in_unit, broken_types, flagged};
 
 use crate::statements::judge_statement;
-use fm_base::{Line, Refusal, Rule, keep_earlier, least_law};
+use fm_base::{Line, Refusal, Rule, keep_if, least_law};
 use fm_rules::Flags;
 use fm_symbols::{Context, Names, Scope, UnitNames, Variable};
 use fm_tree::{Entry, Placed, Unit, Units};
-
-fn keep_if(best: Option<Refusal>, broken: bool, line: Line, rule: Rule) -> Option<Refusal>
-    ensures { result ≡ least_from best (when broken (place line.0 rule)) }
-{
-    if broken {
-        keep_earlier(best, Refusal { line, rule })
-    } else {
-        best
-    }
-}
 
 #[tactic(auto, using(fm_base::proofs::Least::least_from_append))]
 fn keep_flagged(best: Option<Refusal>, line: Line, flags: Flags) -> Option<Refusal>

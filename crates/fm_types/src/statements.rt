@@ -2,7 +2,7 @@
 
 ghost use Rattle.std.specs.Prelude.{◌≡◌};
 ghost use Rattle.std.specs.List.{slice_get};
-ghost use Rattle.fm_rules.specs.TypeStatements.{assignment_flags, changes_formal, flags_of, is_barred, is_barred_simple, is_formal, is_formal_at, loop_flags, loop_variable_flags, simple_flags, symbol_place, typed_flags, value_for};
+ghost use Rattle.fm_rules.specs.TypeStatements.{assignment_flags, changes_formal, flags_of, is_barred, is_barred_simple, is_formal, is_formal_at, loop_flags, loop_variable_flags, simple_flags, typed_flags, value_for};
 
 use crate::calls::{call_flags, process_call_flags, written};
 use crate::messages::{merger_flags, probe_flags, receive_flags, send_flags, two_ports_flags};
@@ -11,25 +11,11 @@ use crate::parts::{
 };
 use fm_base::Name;
 use fm_rules::{CallKind, ExprType, Flags, Judgement};
-use fm_symbols::{Context, Scalar, Scope, Symbol, Variable, is_function, symbol_in};
+use fm_symbols::{Context, Scalar, Scope, Variable, is_function, symbol_in, symbol_place};
 use fm_tree::{Expr, LoopHead, Simple, Stmt, Var};
 use fm_types_expr::{
     both, e40, e46, e50, judge, judge_target, needed_value, no_flags, operand, target_named,
 };
-
-fn symbol_place(symbol: Option<Symbol>) -> Option<u32>
-    ensures { result ≡ symbol_place symbol }
-{
-    match symbol {
-        None => None,
-        Some(Symbol::Constant(_)) => None,
-        Some(Symbol::Variable(_, place)) => Some(place),
-        Some(Symbol::Array(_, place, _)) => Some(place),
-        Some(Symbol::Port(_, place)) => Some(place),
-        Some(Symbol::Ports(_, place, _)) => Some(place),
-        Some(Symbol::Function(_)) => None,
-    }
-}
 
 fn is_formal(variables: &[Variable], place: u32) -> bool
     ensures { result ≡ is_formal (slice_get variables.now place) }

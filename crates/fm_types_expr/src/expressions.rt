@@ -3,7 +3,8 @@
 ghost use Rattle.std.specs.Prelude.{◌≡◌};
 ghost use Rattle.std.specs.List.{slice_get};
 ghost use Rattle.fm_tree.specs.Tree.{trees_from};
-ghost use Rattle.fm_rules.specs.Expressions.{array_or, arguments_judged, fits_wanted, formal_in, formals_in, function_referent, in_parentheses, intrinsic_or, is_stray_port, judged, no_arguments, operated, reference_judged, referent_of, wanted, with_argument};
+ghost use Rattle.fm_rules.specs.Expressions.{array_or, arguments_judged, fits_wanted, formal_in, formals_in, function_referent, in_parentheses, intrinsic_or, is_stray_port, judged, operated, reference_judged, referent_of, wanted};
+ghost use Rattle.fm_types_expr.specs.Behind.{argument_behind};
 
 use crate::flags::{both, e40, e41, e42, e43, e50, no_flags};
 use crate::typing::{
@@ -113,8 +114,8 @@ fn is_stray_port(wanted: Option<Formal>, expr_type: ExprType) -> bool
     }
 }
 
-fn with_argument(before: Arguments, wanted: Option<Formal>, judgement: Judgement) -> Arguments
-    ensures { result ≡ with_argument before wanted judgement }
+fn argument_behind(before: Arguments, wanted: Option<Formal>, judgement: Judgement) -> Arguments
+    ensures { result ≡ argument_behind before wanted judgement }
 {
     let stray = e50(is_stray_port(wanted, judgement.expr_type));
     Arguments {
@@ -230,7 +231,7 @@ pub fn judge_arguments(
     referent: Referent,
     args: &[Expr],
 ) -> Arguments
-    ensures { result ≡ arguments_judged context.now scope.now referent no_arguments 0 (trees_from args.now) }
+    ensures { result ≡ arguments_judged context.now scope.now referent 0 (trees_from args.now) }
 {
     let mut known = Arguments {
         flags: no_flags(),
@@ -240,7 +241,7 @@ pub fn judge_arguments(
     let mut index: usize = 0;
     for arg in args {
         let judgement = judge(context, scope, arg);
-        known = with_argument(known, wanted(context, referent, index), judgement);
+        known = argument_behind(known, wanted(context, referent, index), judgement);
         index += 1;
     }
     Arguments {

@@ -18,7 +18,7 @@ use Rattle.fm_tree.specs.Structure.{bracket_of, contained_form, form_of, is_exec
 use Rattle.fm_tree.specs.Blocks.{behind, head_of, turned}
 use Rattle.fm_tree.specs.Layout.{closing, ends_behind, fitted, is_closed_by, is_parallel, label_left, laid_behind, laid_out, marks_of, own_behind, own_forms, put_end, with_ends, with_statement}
 use Rattle.fm_tree.specs.Units.{blank_statement, body_of}
-use Rattle.fm_unit_layout.proofs.Counts.{behind_push}
+use Rattle.fm_tree_blocks.proofs.Counts.{behind_push}
 use Rattle.fm_unit.specs.Pieces.{body_in, pieces_in, pieces_of}
 use Rattle.fm_unit.proofs.Filling.{Fills, ends_fill, own_fill}
 

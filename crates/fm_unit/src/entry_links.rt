@@ -9,6 +9,7 @@ ghost use Rattle.fm_tree.specs.Units.{form_at};
 ghost use Rattle.fm_rules.specs.Program.{all_links};
 ghost use Rattle.fm_rules.specs.Links.{after_at, behind_loop, into_branch, jump_by, links_of, mark_of, marks_of, mate_in, other_by, parted};
 
+use crate::linking::number;
 use fm_base::{NoMemory, Seq};
 use fm_rules::EntryLinks;
 use fm_tree::{Entry, EntryMark, Form, Unit, form_of, is_else, jump_label};
@@ -49,17 +50,10 @@ fn marks(alloc: Global, body: &[Entry]) -> Result<Vec<EntryMark>, NoMemory>
     Ok(marks)
 }
 
-// A place as entries have it.
-fn number_of(place: usize) -> Result<u32, NoMemory>
-    ensures { IfOk result (λ number. number ≡ place) }
-{
-    u32::try_from(place).map_err(|_| NoMemory)
-}
-
 fn next_of(k: usize) -> Result<u32, NoMemory>
     ensures { IfOk result (λ number. number ≡ k + 1) }
 {
-    number_of(k.checked_add(1).ok_or(NoMemory)?)
+    number(k.checked_add(1).ok_or(NoMemory)?)
 }
 
 fn after_at(body: &[Entry], k: usize) -> Result<u32, NoMemory>
@@ -106,7 +100,7 @@ fn into_branch(marks: &[EntryMark], k: usize, end: Option<usize>) -> Result<u32,
             if is_else(form_at(marks, end)) {
                 next_of(end)
             } else {
-                number_of(end)
+                number(end)
             }
         }
         None => next_of(k),
@@ -147,7 +141,7 @@ fn jump_at(
         return Ok(None);
     };
     match targets.get(&label.0).copied() {
-        Some(place) => Ok(Some(number_of(place)?)),
+        Some(place) => Ok(Some(number(place)?)),
         None => Ok(None),
     }
 }

@@ -3,7 +3,7 @@
 ghost use Rattle.std.specs.Prelude.{◌≡◌, IfOk, map};
 ghost use Rattle.fm_base.specs.declared.rule.Rule.TheVariants.{E26, E27};
 ghost use Rattle.fm_base.specs.Verdict.{least, least_from, place, when};
-ghost use Rattle.fm_rules.specs.BrokenStructure.{is_own, is_program, is_taken, missing_end, program_line, program_lines, wrong_programs, wrong_title, wrong_titles};
+ghost use Rattle.fm_rules.specs.BrokenStructure.{is_own, is_program_statement, is_taken, missing_end, program_line, program_lines, wrong_programs, wrong_title, wrong_titles};
 
 use crate::cutting::ends_unit;
 use fm_base::{Line, Name, NoMemory, Refusal, Rule, Seq, keep_earlier};
@@ -14,8 +14,8 @@ use fm_tree::{Placed, Stmt};
 use fm_values::Intrinsic;
 use std::alloc::Global;
 
-fn is_program(stmt: &Stmt) -> bool
-    ensures { result ≡ is_program stmt.now }
+fn is_program_statement(stmt: &Stmt) -> bool
+    ensures { result ≡ is_program_statement stmt.now }
 {
     matches!(stmt, Stmt::Program(_))
 }
@@ -23,7 +23,7 @@ fn is_program(stmt: &Stmt) -> bool
 fn program_line(placed: &Placed) -> Option<u32>
     ensures { result ≡ program_line placed.now }
 {
-    if is_program(&placed.stmt) {
+    if is_program_statement(&placed.stmt) {
         Some(placed.line.0)
     } else {
         None

@@ -2,7 +2,9 @@
 
 ghost use Rattle.std.specs.Prelude.{◌≡◌, IfOk, OnOk};
 ghost use Rattle.fm_symbols.specs.ByName.{with_all};
-ghost use Rattle.fm_rules.specs.UnitTitles.{is_function_named, is_function_title, title_entry, titled, titles_of};
+ghost use Rattle.fm_symbols.specs.Headings.{heading_name};
+ghost use Rattle.fm_symbols.specs.Titles.{title_by};
+ghost use Rattle.fm_rules.specs.UnitTitles.{first_of, is_function_named, is_function_title, title_told, titles_of};
 
 use fm_base::{Name, NoMemory, Seq};
 use fm_finmap::NameMap;
@@ -11,13 +13,14 @@ use fm_symbols::{heading_kind, heading_name, insert_new, is_function};
 use fm_tree::Placed;
 use std::alloc::Global;
 
+#[tactic(auto, unfolding(fm_symbols::specs::Headings::heading_name))]
 fn add_title(
     alloc: Global,
     number: usize,
     unit: &[Placed],
     titles: &mut NameMap<Title>,
 ) -> Result<(), NoMemory>
-    ensures { OnOk result (titles.new ≡ with_all titles.old (title_entry number unit.now)) }
+    ensures { OnOk result (titles.new ≡ with_all titles.old (title_by (heading_name (first_of unit.now)) (title_told number (first_of unit.now)))) }
 {
     match unit.first() {
         None => Ok(()),

@@ -1,9 +1,1 @@
-pub mod Lists
-pub mod Counts
-pub mod Walks
-pub mod Lookups
-pub mod Below
-pub mod Paths
-pub mod Mates
-pub mod Nesting
 pub mod Loops

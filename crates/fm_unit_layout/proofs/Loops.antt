@@ -11,7 +11,7 @@ use Rattle.fm_tree.specs.Structure.{bracket_of}
 use Rattle.fm_tree.specs.Blocks.{behind, head_of, turned}
 use Rattle.fm_tree.specs.Layout.{closing, end_form, label_left, marks_of, put_end}
 use Rattle.fm_unit_layout.specs.Steps.{next_end}
-use Rattle.fm_unit_layout.proofs.Counts.{behind_push}
+use Rattle.fm_tree_blocks.proofs.Counts.{behind_push}
 
 -- behind an end fewer blocks are open
 behind_closed : (entries : List EntryMark) (e : EntryMark) → bracket_of e.form ≡ Closes → behind (entries ++ e ∷ []) ≡ drop 1 (behind entries)

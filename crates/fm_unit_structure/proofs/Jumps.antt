@@ -13,8 +13,8 @@ use Rattle.fm_tree.specs.Structure.{is_separator}
 use Rattle.fm_tree.specs.Blocks.{PathEnds, behind, branch_end, head_of, innermost}
 use Rattle.fm_tree.specs.Labels.{jump_label}
 use Rattle.fm_tree.specs.Units.{block_path, form_at, path_of, stands_outside}
-use Rattle.fm_unit_layout.proofs.Below.{innermost_below}
-use Rattle.fm_unit_layout.proofs.Paths.{path_outwards, paths_agree}
+use Rattle.fm_tree_blocks.proofs.Below.{innermost_below}
+use Rattle.fm_tree_blocks.proofs.Paths.{path_outwards, paths_agree}
 use Rattle.fm_unit_structure.specs.Laws.{IsPrefix, JumpsAgree}
 use Rattle.fm_rules.specs.StructureLookups.{block_round}
 use Rattle.fm_rules.specs.StructureRules.{holds, is_upto}

@@ -1,15 +1,19 @@
 //! What the rules ask of a form.
 
 ghost use Rattle.std.specs.Prelude.{◌≡◌};
-ghost use Rattle.fm_rules.specs.StructureForms.{badly_ended, belongs, ends_do, ends_process_do, has_processors, is_do, is_process_do, is_processes, is_program, misplaced, opener_of, unmatched};
+ghost use Rattle.fm_rules.specs.StructureForms.{badly_ended, belongs, ends_do, ends_process_do, has_processors, heads_program, is_do, is_process_do, is_processes, misplaced, opener_of, unmatched};
 
+use fm_rules::is_program;
 use fm_tree::{Form, Open, Terminal, UnitKind, is_block_if, makes_processes};
 
-#[tactic(auto, unfolding(fm_rules::specs::StructureForms::is_program))]
-fn is_program(form: Form) -> bool
-    ensures { result ≡ is_program form }
+#[tactic(auto, unfolding(fm_rules::specs::StructureForms::heads_program))]
+fn heads_program(form: Form) -> bool
+    ensures { result ≡ heads_program form }
 {
-    matches!(form, Form::Heading(UnitKind::Program))
+    match form {
+        Form::Heading(unit) => is_program(unit),
+        _ => false,
+    }
 }
 
 #[tactic(auto, unfolding(fm_rules::specs::StructureForms::has_processors))]
@@ -57,7 +61,7 @@ pub(crate) fn misplaced(form: Form, first: bool, late: bool, heading: Form, open
     ensures { result ≡ misplaced form first late heading opener }
 {
     let sized = has_processors(heading);
-    let in_program = is_program(heading);
+    let in_program = heads_program(heading);
     let parallel = makes_processes(opener);
     match form {
         Form::Heading(_) => !first,

@@ -1,27 +1,16 @@
 //! The rules of a unit's structure.
 
 ghost use Rattle.std.specs.Prelude.{◌≡◌, ◌<◌, length, IfOk, IfSome};
-ghost use Rattle.fm_base.specs.Verdict.{least_from, place, when};
+ghost use Rattle.fm_base.specs.Verdict.{least_from};
 ghost use Rattle.fm_rules.specs.BrokenUnit.{broken_at, broken_in_unit};
 ghost use Rattle.fm_rules.specs.StructureRules.{holds, is_badly_ended, is_foreign, is_misplaced, is_unmatched, is_upto, jumps_in, jumps_into_block, lacks_target, repeats_label};
 
 use crate::forms::{badly_ended, belongs, misplaced, opener_of, unmatched};
 use crate::lookups::is_before;
 use crate::sheet::Sheet;
-use fm_base::{Line, NoMemory, Refusal, Rule, keep_earlier};
+use fm_base::{NoMemory, Refusal, Rule, keep_if};
 use fm_tree::{EntryMark, Open, is_closed_by, is_separator, jump_label, makes_processes};
 use std::alloc::Global;
-
-/// The best so far, or a rule at a line where it is broken.
-fn keep_if(best: Option<Refusal>, broken: bool, line: Line, rule: Rule) -> Option<Refusal>
-    ensures { result ≡ least_from best (when broken (place line.0 rule)) }
-{
-    if broken {
-        keep_earlier(best, Refusal { line, rule })
-    } else {
-        best
-    }
-}
 
 fn is_upto(k: usize, end: Option<usize>) -> bool
     ensures { result ≡ is_upto k end }

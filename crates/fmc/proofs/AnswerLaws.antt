@@ -1,14 +1,16 @@
 -- What is answered, by the exit.
-use Rattle.std.proofs.Common.{◌≡◌, ◌⊎◌, inl, inr, ℕ, ◌<◌, ◌≤◌, Bool, true, false, List, [], ◌∷◌, length, refl, sym, ap, subst, ◌∙◌, arith}
-use Rattle.std.specs.Prelude.{Option, Some, None, is_none, IfOk, IfErr, IfSome, Result, Ok, Err, codes}
+use Rattle.std.proofs.Common.{◌≡◌, ◌⊎◌, inl, inr, ℕ, suc, ◌<◌, ◌≤◌, Bool, true, false, List, [], ◌∷◌, length, refl, sym, ap, subst, ◌∙◌, arith}
+use Rattle.std.specs.Prelude.{◌≢◌, Option, Some, None, is_none, IfOk, IfErr, IfSome, Result, Ok, Err, replicate, codes}
+use Rattle.std.specs.Io.KnownBytes.{Appends}
 use Rattle.std.proofs.lemmas.Bool.{false≢true}
+use Rattle.std.proofs.lemmas.List.{length-replicate}
 use Rattle.fm_base.specs.declared.schedule.Turn.{Turn}
 use Rattle.fm_base.specs.declared.rule.Refusal.{Refusal}
-use Rattle.fm_base.specs.Rules.{refusal_text}
 use Rattle.fm_base.specs.Verdict.{IsClean, IsRefusal}
 use Rattle.fm_base.specs.declared.rule.CheckFail.{CheckFail}
 use Rattle.fm_base.specs.declared.name.Line.{Line}
 use Rattle.fm_cards.specs.Cards.{cards_of}
+use Rattle.fm_io.specs.Streams.{WritesFront}
 use Rattle.fm_sched.specs.Schedule.{IsLegal, Settles}
 use Rattle.fm_tree.specs.declared.program_unit.Placed.{Placed}
 use Rattle.fm_tree.specs.declared.program_unit.Unit.{Unit}
@@ -20,17 +22,16 @@ use Rattle.fm_rules.specs.Race.{IsRaceVerdict}
 use Rattle.fm_net.specs.Machine.{Place}
 use Rattle.fm_mean.specs.declared.outcome.FaultAt.{FaultAt}
 use Rattle.fm_mean.specs.Steps.{step, first}
-use Rattle.fm_mean.specs.Outcome.{outcome_of}
 use Rattle.fm_make.specs.Made.{made_text}
 use Rattle.fm_mean.proofs.Laws.{settles}
 use Rattle.fm_rules.specs.declared.program.Program.{Program}
 use Rattle.fm_front.specs.Verdict.{IsBroken, IsBrokenForm, AreStatementsOf}
-use Rattle.fm_front.specs.Program.{IsCheckedOf}
 use Rattle.fm_run.specs.Orders.{places_of}
-use Rattle.fm_run.specs.Runs.{IsRun, EndsSo}
+use Rattle.fm_run.specs.Runs.{EndsSo}
 use Rattle.fm_run.specs.declared.run.Ending.{Ending}
 use Rattle.fm_run.specs.declared.run.Ending.TheVariants as ending
 use Rattle.fm_run.specs.declared.run.Run as run
+use Rattle.fm_words.specs.Words.{command_of}
 use Rattle.fm_words.specs.declared.command.Command.{Command}
 use Rattle.fm_words.specs.declared.command.Command.TheVariants as command
 use Rattle.fmc.specs.declared.answer.Exit.{Exit}
@@ -38,8 +39,8 @@ use Rattle.fmc.specs.declared.answer.Exit.TheVariants.{Done, Faulted, Deadlocked
 use Rattle.fmc.specs.declared.answer.Reply.{Reply}
 use Rattle.fmc.specs.Exits.{is_end, is_decided, is_of_reading}
 use Rattle.fmc.specs.Listing.{listed_text}
-use Rattle.fmc.specs.Answer.{Says, SaysRun, SaysMade, SaysDemo, IsListOf, SaysTold, Tells, TellsList, TellsDeterminism, IsFirstRaceOf, determinism_text, SaysOf, IsHistoryIn, IsHistoryOf, IsEnded, IsUnplayed, IsRefused, IsNoHistory, HasHistory, IsAccepted, IsReady, IsRefusedBy, IsRefusedFor, IsCompleted, IsRefusedExit, IsTooLongExit, IsPlayedExit, are_reading, is_reading, report_by, source_limit, summary_by, exit_by, exit_of, state_after, cost_of}
-use Rattle.fmc.specs.Reply.{bytes_of, places_in, IsReply, IsRunOf, IsSummary, exit_in, text_in}
+use Rattle.fmc.specs.Answer.{Answers, HasGround, Says, SaysRun, SaysMade, IsListOf, SaysTold, Tells, TellsList, TellsDeterminism, IsFirstRaceOf, determinism_text, SaysOf, IsHistoryIn, IsHistoryOf, IsEnded, IsUnplayed, IsNoHistory, HasHistory, IsAccepted, IsReady, IsRefusedBy, IsRefusedFor, IsCompleted, IsRefusedExit, IsTooLongExit, IsPlayedExit, are_reading, is_reading, report_by, source_limit, summary_by, usage_text, exit_by, exit_of, cost_of}
+use Rattle.fmc.specs.Reply.{bytes_of, places_in, IsReply, IsReplyFor, IsReplyOf, IsRunOf, exit_in, text_in}
 
 -- Replies from what the parts give.
 
@@ -335,9 +336,10 @@ no_memory_says (Some command.List) b exit h ps t c e u = subst (λ (x : Exit). S
 no_memory_says (Some (command.Make number)) b exit h ps t c e u = inr (e, u)
 no_memory_says (Some (command.Demo number setup)) b exit h ps t c e u = (ap is_of_reading e, subst (λ (x : Exit). SaysRun setup.turns summary_by (made_text number) x h ps t) (sym e) u)
 
-pub for_any : (o : Option (List ℕ)) (P : List ℕ → Type 0) → ((b : List ℕ) → P b) → IfSome o P
-for_any None P f = tt
-for_any (Some b) P f = f b
+-- nor does usage
+pub usage_says : (o : Option Command) (b : List ℕ) (exit : Exit) (h : List Turn) (ps : List Place) (t : List ℕ) → is_none o ≡ true → exit ≡ Usage → IsUnplayed h ps t usage_text → SaysOf o b exit h ps t
+usage_says None b exit h ps t c e u = (e, u)
+usage_says (Some command) b exit h ps t c e u = absurd (false≢true c)
 
 -- the same of what the words say
 pub said_of : (o : Option Command) (c : Command) (b : List ℕ) (exit : Exit) (h : List Turn) (ps : List Place) (t : List ℕ) → o ≡ Some c → SaysOf o b exit h ps t → Says c b exit h ps t
@@ -347,11 +349,74 @@ pub both_ok : {T E : Type 0} (r : Result T E) (P Q R : T → Type 0) → ((x : T
 both_ok (Ok x) P Q R f p q = f x p q
 both_ok (Err e) P Q R f p q = tt
 
-pub when_told : (o : Option (List ℕ)) (P Q : List ℕ → Type 0) → ((b : List ℕ) → P b → Q b) → IfSome o P → IfSome o Q
-when_told None P Q f h = tt
-when_told (Some b) P Q f h = f b h
+-- a command that doesn't read meets no read fault
+pub no_read_fault : (c : Command) (b : List ℕ) (exit : Exit) (h : List Turn) (ps : List Place) (t : List ℕ) → is_reading c ≡ false → Says c b exit h ps t → exit ≡ ReadFault → ⊥
+no_read_fault (command.Run setup vars) b exit h ps t e k f = false≢true (sym e)
+no_read_fault command.Check b exit h ps t e k f = false≢true (sym e)
+no_read_fault command.List b exit h ps t e k f = false≢true (sym e)
+no_read_fault (command.Make number) b exit h ps t e (inl k) f = cc (sym k.0 ∙ f)
+no_read_fault (command.Make number) b exit h ps t e (inr k) f = cc (sym k.0 ∙ f)
+no_read_fault (command.Demo number setup) b exit h ps t e k f = demo_reads exit k.0 f
 
--- what holds of the bytes that were read holds of those that the source had
-pub of_read : (o : Option (List ℕ)) (read bytes : List ℕ) (P : List ℕ → Type 0) → read ≡ bytes → IfSome o (λ b. bytes ≡ b) → P read → IfSome o P
-of_read None read bytes P e h k = tt
-of_read (Some b) read bytes P e h k = subst P (e ∙ h) k
+-- a read fault says nothing of the bytes, and a source that is too long nothing but that
+read_fault_says : (c : Command) (b : List ℕ) (exit : Exit) (h : List Turn) (ps : List Place) (t : List ℕ) → is_reading c ≡ true → exit ≡ ReadFault → IsUnplayed h ps t (codes "read fault\n") → Says c b exit h ps t
+read_fault_says (command.Run setup vars) b exit h ps t c e u = subst (λ (x : Exit). SaysRun setup.turns (report_by vars) b x h ps t) (sym e) u
+read_fault_says command.Check b exit h ps t c e u = subst (λ (x : Exit). SaysTold TellsDeterminism b x h ps t) (sym e) u
+read_fault_says command.List b exit h ps t c e u = subst (λ (x : Exit). SaysTold TellsList b x h ps t) (sym e) u
+read_fault_says (command.Make number) b exit h ps t c e u = absurd (false≢true c)
+read_fault_says (command.Demo number setup) b exit h ps t c e u = absurd (false≢true c)
+
+too_long_says : (c : Command) (b : List ℕ) (exit : Exit) (h : List Turn) (ps : List Place) (t : List ℕ) → is_reading c ≡ true → exit ≡ TooLong → source_limit < length b → IsUnplayed h ps t (codes "source too long\n") → Says c b exit h ps t
+too_long_says (command.Run setup vars) b exit h ps t c e l u = subst (λ (x : Exit). SaysRun setup.turns (report_by vars) b x h ps t) (sym e) (l, u)
+too_long_says command.Check b exit h ps t c e l u = subst (λ (x : Exit). SaysTold TellsDeterminism b x h ps t) (sym e) (l, u)
+too_long_says command.List b exit h ps t c e l u = subst (λ (x : Exit). SaysTold TellsList b x h ps t) (sym e) (l, u)
+too_long_says (command.Make number) b exit h ps t c e l u = absurd (false≢true c)
+too_long_says (command.Demo number setup) b exit h ps t c e l u = absurd (false≢true c)
+
+-- The bytes of a source that may not tell them.
+
+pub reply_to_any : (o : Option Command) (left : Option (List ℕ)) (r : Reply) → ((b : List ℕ) → IsReplyFor o b r) → IsReplyOf o left r
+reply_to_any o None r f = ([], tt, f [])
+reply_to_any o (Some b) r f = (b, refl, f b)
+
+pub reply_to_read : (c : Command) (left : Option (List ℕ)) (read bytes : List ℕ) (r : Reply) → read ≡ bytes → IfSome left (λ l. bytes ≡ l) → IsReply c read r → IsReplyOf (Some c) left r
+reply_to_read c None read bytes r e h k = (read, tt, k)
+reply_to_read c (Some b) read bytes r e h k = (read, sym (e ∙ h), k)
+
+pub reply_to_fault : (c : Command) (left : Option (List ℕ)) (r : Reply) → is_reading c ≡ true → r.ran.exit ≡ ReadFault → IsUnplayed r.ran.history.items (places_in r.ran) (bytes_of r.text) (codes "read fault\n") → IsReplyOf (Some c) left r
+reply_to_fault c left r reads e u = reply_to_any (Some c) left r (λ b. read_fault_says c b r.ran.exit r.ran.history.items (places_in r.ran) (bytes_of r.text) reads e u)
+
+-- more bytes than the limit
+long_bytes : (limit : ℕ) → (b : List ℕ) × (limit < length b)
+long_bytes limit = let counted : length {A = ℕ} (replicate (suc limit) 0) ≡ suc limit = length-replicate (suc limit) 0 in (replicate (suc limit) 0, omega (arith, counted))
+
+long_reply : (c : Command) (r : Reply) (b : List ℕ) → source_limit < length b → is_reading c ≡ true → r.ran.exit ≡ TooLong → IsUnplayed r.ran.history.items (places_in r.ran) (bytes_of r.text) (codes "source too long\n") → IsReplyOf (Some c) None r
+long_reply c r b l reads e u = (b, tt, too_long_says c b r.ran.exit r.ran.history.items (places_in r.ran) (bytes_of r.text) reads e l u)
+
+pub reply_to_long : (c : Command) (left : Option (List ℕ)) (r : Reply) → is_reading c ≡ true → IfSome left (λ l. source_limit < length l) → r.ran.exit ≡ TooLong
+    → IsUnplayed r.ran.history.items (places_in r.ran) (bytes_of r.text) (codes "source too long\n") → IsReplyOf (Some c) left r
+reply_to_long c None r reads l e u = long_reply c r (long_bytes source_limit).0 (long_bytes source_limit).1 reads e u
+reply_to_long c (Some b) r reads l e u = (b, refl, too_long_says c b r.ran.exit r.ran.history.items (places_in r.ran) (bytes_of r.text) reads e l u)
+
+-- the same for words that are this command
+pub reply_of_words : (o : Option Command) (c : Command) (left : Option (List ℕ)) (r : Reply) → o ≡ Some c → IsReplyOf (Some c) left r → IsReplyOf o left r
+reply_of_words o c left r e k = subst (λ (x : Option Command). IsReplyOf x left r) (sym e) k
+
+pub unread_words : (o : Option Command) (c : Command) (b other : List ℕ) (r : Reply) → o ≡ Some c → is_reading c ≡ false → IsReply c b r → IsReplyFor o other r
+unread_words o c b other r e unread k =
+    subst (λ (x : Option Command). IsReplyFor x other r) (sym e) (says_unread c b other r.ran.exit r.ran.history.items (places_in r.ran) (bytes_of r.text) unread k)
+
+-- what follows for any bytes that the reply is for, follows for those that are told
+pub when_told : (o : Option Command) (left : Option (List ℕ)) (r : Reply) (P : List ℕ → Type 0) → IsReplyOf o left r → ((b : List ℕ) → IsReplyFor o b r → P b) → IfSome left P
+when_told o None r P k f = tt
+when_told o (Some b) r P k f = f b (subst (λ (x : List ℕ). IsReplyFor o x r) (sym k.1) k.2)
+
+-- the reply was written, whole or a front of it
+pub answered : (words : List (List ℕ)) (b : List ℕ) (r : Reply) (exit : Exit) (before after : ℕ) (left old new : Option (List ℕ))
+    → IsReplyFor (command_of words) b r → HasGround (are_reading (command_of words)) r.ran.exit before after left
+    → (exit ≢ WriteFault → (exit ≡ r.ran.exit) × Appends old new (bytes_of r.text)) → (exit ≡ WriteFault → WritesFront old new (bytes_of r.text))
+    → Answers words b exit r.ran.history.items (places_in r.ran) before after left old new
+answered words b r exit before after left old new says ground whole cut = record {
+  whole_text = λ told. (bytes_of r.text, subst (λ (x : Exit). SaysOf (command_of words) b x r.ran.history.items (places_in r.ran) (bytes_of r.text)) (sym (whole told).0) says, (whole told).1);
+  cut_short = λ fault. (r.ran.exit, bytes_of r.text, says, ground, cut fault);
+}

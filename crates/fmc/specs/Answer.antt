@@ -1,6 +1,6 @@
 -- What a call answers: exit, kept schedule and text, for the bytes of a source.
 -- Source: this profile.
-use Rattle.std.specs.Prelude.{◌≡◌, ◌≢◌, ◌⊎◌, ℕ, ◌<◌, ◌≤◌, Bool, true, false, List, [], ◌∷◌, ◌++◌, length, Option, Some, None, is_none, codes}
+use Rattle.std.specs.Prelude.{◌≡◌, ◌≢◌, ◌⊎◌, ℕ, ◌<◌, ◌≤◌, Bool, true, false, List, [], ◌∷◌, ◌++◌, length, Option, Some, None, codes}
 use Rattle.std.specs.Fmt.{decimal}
 use Rattle.std.specs.Io.KnownBytes.{Appends, IsAtEnd}
 use Rattle.fm_base.specs.declared.name.Line.{Line}
@@ -21,7 +21,7 @@ use Rattle.fm_mean.specs.Process.{Proc}
 use Rattle.fm_mean.specs.Determinism.{IsDeterministic}
 use Rattle.fm_mean.specs.Steps.{language, step, first}
 use Rattle.fm_mean.specs.Outcome.{outcome_of}
-use Rattle.fm_report.specs.Report.{report_text}
+use Rattle.fm_report.specs.Report.{report_text, spent_text}
 use Rattle.fm_symbols.specs.Context.{context_of}
 use Rattle.fm_rules.specs.Units.{units_of}
 use Rattle.fm_rules.specs.Names.{names_of}
@@ -45,10 +45,6 @@ usage_text = codes "usage: fmc run or trace or replay or check or list or make N
 -- the most bytes of a source
 abbrev pub source_limit : ℕ
 source_limit = 1000000
-
--- `spent T`
-abbrev pub spent_text : ℕ → List ℕ
-spent_text turns = codes "spent " ++ decimal turns ++ 10 ∷ []
 
 -- the exit of a run that ended
 abbrev pub exit_by : List FaultAt → Bool → Exit

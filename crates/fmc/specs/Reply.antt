@@ -1,6 +1,6 @@
 -- A reply as plain data.
 -- Source: this profile.
-use Rattle.std.specs.Prelude.{◌≡◌, ℕ, false, List}
+use Rattle.std.specs.Prelude.{◌≡◌, ℕ, false, Option, List, IfSome}
 use Rattle.fm_net.specs.Machine.{Place}
 use Rattle.fm_run.specs.Orders.{places_of}
 use Rattle.fm_rules.specs.declared.program.Program.{Program}
@@ -17,7 +17,8 @@ use Rattle.fmc.specs.declared.answer.Reply.{Reply}
 use Rattle.fmc.specs.declared.answer.Text.{Text}
 use Rattle.fmc.specs.declared.answer.Text.TheVariants.{Fixed, Made}
 use Rattle.fmc.specs.Exits.{is_of_reading}
-use Rattle.fmc.specs.Answer.{Says, SaysRun, Tells, exit_of, spent_text, summary_by}
+use Rattle.fm_report.specs.Report.{spent_text}
+use Rattle.fmc.specs.Answer.{Says, SaysOf, SaysRun, Tells, exit_of, summary_by}
 
 abbrev pub bytes_of : Text → List ℕ
 bytes_of (Fixed s) = s.now
@@ -29,6 +30,14 @@ places_in ran = places_of ran.paths.items
 -- the reply is one of the command for these bytes
 abbrev pub IsReply : Command → List ℕ → Reply → Type 0
 IsReply command b r = Says command b r.ran.exit r.ran.history.items (places_in r.ran) (bytes_of r.text)
+
+-- and of words
+abbrev pub IsReplyFor : Option Command → List ℕ → Reply → Type 0
+IsReplyFor o b r = SaysOf o b r.ran.exit r.ran.history.items (places_in r.ran) (bytes_of r.text)
+
+-- the reply is one of the words for some bytes: for those that the source had left, where it tells them
+abbrev pub IsReplyOf : Option Command → (left : Option (List ℕ)) → Reply → Type 0
+IsReplyOf o left r = (b : List ℕ) × IfSome left (λ l. l ≡ b) × IsReplyFor o b r
 
 -- the exit of a run
 abbrev pub exit_in : Ending → Exit

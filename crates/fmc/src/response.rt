@@ -10,7 +10,7 @@ ghost use Rattle.fmc.specs.Listing.{listed_text};
 ghost use Rattle.fm_run.specs.Orders.{places_of};
 ghost use Rattle.fm_words.specs.declared.command.Command.TheVariants as command;
 ghost use Rattle.fmc.specs.Exits.{is_decided};
-ghost use Rattle.fmc.specs.Answer.{FollowsIn, IsListOf, determinism_text, IsUnplayed, IsPlayedExit, SaysDemo, SaysMade, SaysRun, count_line, ended_word, exit_of, report_by, spent_text, source_limit, summary_by};
+ghost use Rattle.fmc.specs.Answer.{FollowsIn, IsListOf, determinism_text, IsUnplayed, IsPlayedExit, SaysDemo, SaysMade, SaysRun, count_line, ended_word, exit_of, report_by, source_limit, summary_by};
 ghost use Rattle.fmc.specs.Reply.{bytes_of, places_in, IsReply, IsRunOf, IsSummary, exit_in, text_in};
 
 use crate::answer::{Exit, Ran, Reply, Text};
@@ -20,7 +20,7 @@ use fm_front::{check_statements, front, statements};
 use fm_make::make;
 use fm_mean::Outcome;
 use fm_outcome_code::Compiled;
-use fm_report::report;
+use fm_report::{report, spent_text};
 use fm_run::{Ending, Run, run_program};
 use fm_tree::Placed;
 use fm_words::Command;
@@ -78,15 +78,6 @@ fn exit_in(ending: &Ending) -> Exit
         Ending::Ended(outcome) => exit_of(outcome),
         Ending::Spent => Exit::Spent,
     }
-}
-
-fn spent_text(alloc: Global, turns: u64) -> Result<Vec<u8>, NoMemory>
-    ensures { IfOk result (λ v. v.items ≡ spent_text turns) }
-{
-    let mut text = Vec::from_slice(alloc, b"spent ")?;
-    text.extend_from_slice(turns.to_string(alloc)?.as_bytes())?;
-    text.push(b'\n')?;
-    Ok(text)
 }
 
 // The text of a run: its report, or that it was spent.

@@ -1,6 +1,6 @@
 //! The top call.
 
-ghost use Rattle.std.specs.Prelude.{◌≡◌, ◌≢◌, ◌≤◌, ◌<◌, ◌⊎◌, ℕ, true, false, List, map, length, IfSome, IfOk, IfErr, Some, is_none};
+ghost use Rattle.std.specs.Prelude.{◌≡◌, ◌≢◌, ◌≤◌, ◌<◌, ℕ, true, false, List, map, length, IfSome, IfOk, IfErr, Some, is_none};
 ghost use Rattle.std.specs.Io.KnownBytes.{Appends, IsAtEnd};
 ghost use Rattle.fm_base.specs.declared.rule.Refusal.{Refusal};
 ghost use Rattle.fm_base.specs.Verdict.{IsRefusal};
@@ -11,8 +11,8 @@ ghost use Rattle.fm_front.specs.Verdict.{IsBroken};
 ghost use Rattle.fm_words.specs.Words.{command_of};
 ghost use Rattle.fm_words.specs.declared.command.Command.{Command};
 ghost use Rattle.fmc.specs.Exits.{is_usage, is_read};
-ghost use Rattle.fmc.specs.Answer.{Answers, FollowsIn, Says, SaysOf, SaysRun, HasHistory, IsReady, IsRefusedBy, IsCompleted, IsRefusedExit, IsTooLongExit, IsPlayedExit, are_reading, is_reading, report_by, source_limit};
-ghost use Rattle.fmc.specs.Reply.{bytes_of, places_in};
+ghost use Rattle.fmc.specs.Answer.{Answers, FollowsIn, SaysRun, HasHistory, IsReady, IsRefusedBy, IsCompleted, IsRefusedExit, IsTooLongExit, IsPlayedExit, are_reading, is_reading, report_by, source_limit};
+ghost use Rattle.fmc.specs.Reply.{IsReplyFor, IsReplyOf, bytes_of, places_in};
 
 use crate::answer::{Exit, Ran, Reply, Text};
 use crate::response::{no_memory, play_source, reply, unplayed_reply};
@@ -31,7 +31,7 @@ const USAGE: &[u8] = b"usage: fmc run or trace or replay or check or list or mak
 /// The reply to a command that works on the source.
 fn respond_to<S: Source>(alloc: Global, command: Command, source: &mut S) -> Reply
     requires { is_reading command ≡ true }
-    ensures reply { IfSome (S.left source.old) (λ b. Says command b result.ran.exit result.ran.history.items (places_in result.ran) (bytes_of result.text)) }
+    ensures reply { IsReplyOf (Some command) (S.left source.old) result }
     ensures no_usage { is_usage result.ran.exit ≡ false }
     ensures no_write { result.ran.exit ≢ Exit.WriteFault }
     ensures read_fault { result.ran.exit ≡ Exit.ReadFault → Rose (S.faults source.old) (S.faults source.new) }
@@ -63,7 +63,9 @@ fn is_reading(command: &Command) -> bool
 }
 
 fn respond<S: Source>(alloc: Global, words: &[&str], source: &mut S) -> Reply
-    ensures reply { IfSome (S.left source.old) (λ b. SaysOf (command_of (map (λ w. w.now) words.now)) b result.ran.exit result.ran.history.items (places_in result.ran) (bytes_of result.text)) }
+    ensures reply { IsReplyOf (command_of (map (λ w. w.now) words.now)) (S.left source.old) result }
+    ensures unread_reply { are_reading (command_of (map (λ w. w.now) words.now)) ≡ false → (b : List ℕ)
+        → IsReplyFor (command_of (map (λ w. w.now) words.now)) b result }
     ensures words { is_usage result.ran.exit ≡ is_none (command_of (map (λ w. w.now) words.now)) }
     ensures no_write { result.ran.exit ≢ Exit.WriteFault }
     ensures read_fault { result.ran.exit ≡ Exit.ReadFault → Rose (S.faults source.old) (S.faults source.new) }
@@ -127,6 +129,16 @@ pub fn fmc<S: Source, K: Sink>(alloc: Global, words: &[&str], source: &mut S, si
     ensures flushed { result.exit ≢ Exit.WriteFault → K.flushed sink.new }
     // The kept schedule is one of the source's program, whatever the exit.
     ensures history { IfSome (S.left source.old) (λ b. HasHistory (command_of (map (λ w. w.now) words.now)) b result.history.items (places_in result)) }
+    // A source that tells no bytes, as standard input, has bytes all the same of which both hold.
+    ensures some_bytes { (b : List ℕ) × IfSome (S.left source.old) (λ l. l ≡ b)
+        × Answers (map (λ w. w.now) words.now) b result.exit result.history.items (places_in result)
+        (S.faults source.old) (S.faults source.new) (S.left source.new) (K.written sink.old) (K.written sink.new)
+        × HasHistory (command_of (map (λ w. w.now) words.now)) b result.history.items (places_in result) }
+    // Where nothing is read, the words alone decide: the bytes may be any.
+    ensures unread_answers { are_reading (command_of (map (λ w. w.now) words.now)) ≡ false → (b : List ℕ)
+        → Answers (map (λ w. w.now) words.now) b result.exit result.history.items (places_in result)
+        (S.faults source.old) (S.faults source.new) (S.left source.new) (K.written sink.old) (K.written sink.new)
+        × HasHistory (command_of (map (λ w. w.now) words.now)) b result.history.items (places_in result) }
     ensures usage { result.exit ≢ Exit.WriteFault → is_usage result.exit ≡ is_none (command_of (map (λ w. w.now) words.now)) }
 
     // A fault is told only where the source or the sink failed in this call.
@@ -140,6 +152,13 @@ pub fn fmc<S: Source, K: Sink>(alloc: Global, words: &[&str], source: &mut S, si
         → IfSome (S.left source.old) (λ b. IsReady command b → IsCompleted command result.exit) }
     ensures refused { (command : Command) → command_of (map (λ w. w.now) words.now) ≡ Some command → ¬ Rose (S.faults source.old) (S.faults source.new) → ¬ Rose (K.faults sink.old) (K.faults sink.new)
         → IfSome (S.left source.old) (λ b. (v : Refusal) → IsRefusedBy command b v → IsRefusedExit result.exit) }
+    // Where nothing is read, it doesn't matter whether the source fails.
+    ensures unread_complete { (command : Command) → command_of (map (λ w. w.now) words.now) ≡ Some command
+        → is_reading command ≡ false → ¬ Rose (K.faults sink.old) (K.faults sink.new)
+        → (b : List ℕ) → IsReady command b → IsCompleted command result.exit }
+    ensures unread_refused { (command : Command) → command_of (map (λ w. w.now) words.now) ≡ Some command
+        → is_reading command ≡ false → ¬ Rose (K.faults sink.old) (K.faults sink.new)
+        → (b : List ℕ) (v : Refusal) → IsRefusedBy command b v → IsRefusedExit result.exit }
     ensures too_long { are_reading (command_of (map (λ w. w.now) words.now)) ≡ true → ¬ Rose (S.faults source.old) (S.faults source.new) → ¬ Rose (K.faults sink.old) (K.faults sink.new)
         → IfSome (S.left source.old) (λ b. source_limit < length b → IsTooLongExit result.exit) }
 {

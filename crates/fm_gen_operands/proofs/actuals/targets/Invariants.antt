@@ -1,7 +1,7 @@
 use Rattle.std.proofs.Common.{◌≡◌, ◌+◌, ◌++◌, drop}
 use Rattle.fm_mean.specs.Evaluate.{refs_in_vars}
 use Rattle.fm_plain_frame.specs.Units.{unit_of}
-use Rattle.fm_gen_relation.specs.Sound.{names_in}
+use Rattle.fm_mean.specs.Referring.{names_in}
 use Rattle.fm_gen_operands.specs.Places.{targets_code}
 use Rattle.fm_gen_operands.proofs.actuals.targets.Given as goal
 

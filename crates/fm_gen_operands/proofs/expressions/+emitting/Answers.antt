@@ -4,8 +4,8 @@ use Rattle.fm_tree.proofs.Nodes.{in_list}
 use Rattle.fm_mean.specs.Evaluate.{reference_of, refs_in_all}
 use Rattle.fm_plain_frame.specs.Units.{unit_of}
 use Rattle.fm_gen_operands.specs.Code.{expressions_code}
-use Rattle.fm_gen_relation.specs.Sound.{names_in}
-use Rattle.fm_gen_operands.specs.References.{reference_by}
+use Rattle.fm_mean.specs.Referring.{names_in}
+use Rattle.fm_plain_frame.specs.References.{reference_by}
 use Rattle.fm_gen_operands.proofs.Counts.{element_added, intrinsic_added}
 use Rattle.fm_gen_operands.proofs.expressions.+emitting.Goals as goal
 

@@ -3,7 +3,7 @@ use Rattle.fm_tree.specs.Tree.{node_count, node_counts, trees_from}
 use Rattle.fm_mean.specs.Evaluate.{refs_in_all}
 use Rattle.fm_plain_frame.specs.Units.{unit_of}
 use Rattle.fm_gen_operands.specs.Code.{expressions_code}
-use Rattle.fm_gen_relation.specs.Sound.{names_in}
+use Rattle.fm_mean.specs.Referring.{names_in}
 use Rattle.fm_gen_operands.proofs.expressions.+emitting.Given as goal
 
 abbrev pub decreases-emit : goal.decreases-emit

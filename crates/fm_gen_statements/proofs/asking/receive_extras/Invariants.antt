@@ -1,6 +1,6 @@
 use Rattle.std.proofs.Common.{◌≡◌, ◌++◌, drop}
 use Rattle.fm_plain_frame.specs.Units.{unit_of}
-use Rattle.fm_gen_relation.specs.Sound.{names_in}
+use Rattle.fm_mean.specs.Referring.{names_in}
 use Rattle.fm_gen_statements.specs.Statements.{extras_code, refs_behind}
 use Rattle.fm_gen_statements.proofs.asking.receive_extras.Given as goal
 

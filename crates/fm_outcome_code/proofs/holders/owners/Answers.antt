@@ -9,9 +9,10 @@ use Rattle.fm_proc_language.specs.Processes.{CodeProc}
 use Rattle.fm_procs.specs.declared.entries.Entry.{Entry}
 use Rattle.fm_procs.specs.Readings.{proc_in, procs_of}
 use Rattle.fm_proc_simulation.specs.Shown.{holdings, holdings_at}
-use Rattle.fm_outcome_code.specs.Holding.{Owners, with_holders}
-use Rattle.fm_outcome_code.proofs.Holding.{from_none, with_both}
-use Rattle.fm_outcome_code.proofs.Listed.{entries_all, entries_more, entries_of, flat_more}
+use Rattle.fm_run.specs.Gathered.{Owners, with_holders}
+use Rattle.fm_run.proofs.Holding.{from_none, with_both}
+use Rattle.fm_outcome_code.specs.declared.rows.Part.TheVariants as part
+use Rattle.fm_outcome_code.proofs.Listed.{entries_all, entries_more, entries_of, flat_more, no_holding}
 use Rattle.fm_outcome_code.proofs.holders.owners.Goals as goal
 
 pub entries-preserved : goal.entries-preserved
@@ -27,5 +28,5 @@ entries-preserved c =
 pub returns : goal.returns
 returns c =
     let all = ap (map (deref_pair {K = Path} {X = Entry})) c.deref-row-items.ensures.value ∙ c.in_ok-rows.ensures in
-    c.entries.invariant ∙ ap (λ (es : List (Place × CodeProc)). with_holders (empty {R = outport_cmp}) (flat_map holdings_at es)) (entries_all c.args.processes.now c.deref-row-items.result.now c.entries.row-index c.entries-test.false all)
+    c.entries.invariant ∙ ap (with_holders (empty {R = outport_cmp})) (entries_all holdings_at part.Held no_holding c.args.processes.now c.deref-row-items.result.now c.entries.row-index c.entries-test.false all)
     ∙ from_none (empty {R = outport_cmp}) (holdings (procs_of c.args.processes.now)) refl

@@ -3,7 +3,7 @@ use Rattle.std.proofs.lemmas.Int.{to_z-of_z}
 use Rattle.fm_finmap.specs.Map.{map_of}
 use Rattle.fm_mean.specs.Outports.{outport_cmp}
 use Rattle.fm_proc_language.specs.Slots.{port_in}
-use Rattle.fm_outcome_code.specs.Holding.{with_held}
+use Rattle.fm_run.specs.Gathered.{with_held}
 use Rattle.fm_outcome_code.proofs.Holding.{held_next}
 use Rattle.fm_outcome_code.proofs.holders.put_words.Goals as goal
 

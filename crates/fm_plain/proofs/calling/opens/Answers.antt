@@ -17,8 +17,8 @@ returns-in-Ok-clause-acts c = λ w.
     let o = c.args.opening in
     let r = entered (unit_of o.callee) f.values o.arguments.now in
     c.lets_go.ensures w (standing p c.args.top.now c.args.below.now.items) _ _
-    (opened p w f o.next c.args.below.now.items c.new-3.result c.replace.result c.replace.new.dest c.push.new.self.items c.len-place.result o.callee.number (unit_of o.callee) r o.backs (let_go_ports p c.put_out-ports.result) c.in_ok-cost.cost
+    (opened p w f o.next c.args.below.now.items c.new-3.result c.replace.result c.replace.new.dest c.push.new.self.items c.len-place.result o.callee.number (unit_of o.callee) r o.backs (let_go_ports p c.of_replaced-ports.result) c.in_ok-cost.cost
     c.in_ok-push.ensures.items (search rules)
     (ap (frame_of p) c.replace.ensures.after ∙ (c.new-frame.ensures p ∙ (ap (λ n. new_frame n (values_of (variables_of p n) c.in-Ok.entered.memory.items) o.backs) c.number-number.ensures.number ∙ ap (λ vs. new_frame o.callee.number vs o.backs) c.in-Ok.ensures.theirs)))
     (ap (frame_of p) c.replace.ensures.value ∙ (c.go_on.ensures p ∙ ap (λ x. waiting x o.next) c.in-Ok.ensures.mine))
-    (c.put_out-ports.ensures p ∙ c.in-Ok.ensures.drops) c.in_ok-cost.ensures)
+    (c.of_replaced-ports.ensures p ∙ c.in-Ok.ensures.drops) c.in_ok-cost.ensures)

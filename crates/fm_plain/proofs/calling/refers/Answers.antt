@@ -1,10 +1,9 @@
 use Rattle.std.proofs.Common.{sym, subst, ap, ◌∙◌, rules}
 use Rattle.std.specs.Prelude.{option_map}
 use Rattle.std.proofs.lemmas.Result.{IfOk-weaker}
-use Rattle.fm_tree.specs.Tree.{trees_from}
 use Rattle.fm_rules.specs.declared.program.Program.{Program}
 use Rattle.fm_mean.specs.Actions.{Action}
-use Rattle.fm_mean.specs.Evaluate.{actuals_of, reference_of, refs_in_all}
+use Rattle.fm_mean.specs.Evaluate.{reference_of}
 use Rattle.fm_mean.specs.Names.{unit_at}
 use Rattle.fm_plain_frame.specs.Units.{unit_of}
 use Rattle.fm_plain.specs.Standing.{below_in, frame_in, line_in, program_in, scope_in, standing}

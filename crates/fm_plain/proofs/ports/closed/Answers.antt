@@ -20,6 +20,6 @@ returns-clause-acts c = λ w below.
     let f = frame_in h c.args.top.now in
     let g = frame_in h c.go_to.new.top in
     c.lets_go.ensures w (f ∷ below) (g ∷ below) _
-    (closed_own w (point_in h) f g below c.args.place c.fill.new.room.items (let_go_ports (program_in h) c.put_out-ports.result) (some_is c.port.result _ c.is_none.result c.port.ensures c.is_none.ensures c.if-is_none.false)
-    (c.fill.ensures ∙ ap (λ o. o ∷ []) c.exchange.ensures.port) (c.put_out-ports.ensures (program_in h))
+    (closed_own w (point_in h) f g below c.args.place c.fill.new.room.items (let_go_ports (program_in h) c.of_replaced-ports.result) (some_is c.port.result _ c.is_none.result c.port.ensures c.is_none.ensures c.if-is_none.false)
+    (c.fill.ensures ∙ ap (λ o. o ∷ []) c.exchange.ensures.port) (c.of_replaced-ports.ensures (program_in h))
     (c.go_to.ensures (program_in h) ∙ ap (λ x. at_entry x h.entry.now.after) c.exchange.ensures.frame))

@@ -29,5 +29,5 @@ returns-in-Ok-clause-acts c =
     (start_last p f.starts.items c.push.new.self.items _ _ c.len-place.result _ (search rules) c.in_ok-push.ensures.items
     (start_alike p c.args.callee.now.program.now c.number-unit.result n u c.in-Ok.entered.memory.items c.in_ok-backs.backs (backs_of u xs) c.args.seat.0 c.args.seat.1 t.theirs
     c.number-unit.ensures.number c.requires.callee c.number-unit.ensures.unit (c.in-Ok.ensures.theirs ∙ ap (λ (is : List Item). (entered u is xs).theirs) old) c.in_ok-backs.ensures))
-    (c.put_out-ports.ensures p ∙ (c.in-Ok.ensures.drops ∙ ap (λ (is : List Item). (entered u is xs).drops) old))
+    (c.of_replaced-ports.ensures p ∙ (c.in-Ok.ensures.drops ∙ ap (λ (is : List Item). (entered u is xs).drops) old))
     c.in_ok-cost.ensures)

@@ -4,7 +4,7 @@ use Rattle.fm_finmap.specs.Map.{map_of}
 use Rattle.fm_mean.specs.Outports.{outport_cmp}
 use Rattle.fm_mean.specs.Process.{frames_ports}
 use Rattle.fm_plain_frame.specs.Frames.{frame_of}
-use Rattle.fm_plain_net.specs.Holding.{with_held}
+use Rattle.fm_run.specs.Gathered.{with_held}
 use Rattle.fm_plain_net.proofs.holders.put_frames.Given as goal
 
 abbrev pub invariant-frames : goal.invariant-frames

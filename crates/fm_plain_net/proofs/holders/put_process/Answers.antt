@@ -5,7 +5,7 @@ use Rattle.fm_net.specs.Machine.{Place}
 use Rattle.fm_mean.specs.Outports.{outport_cmp}
 use Rattle.fm_mean.specs.Process.{held}
 use Rattle.fm_plain_frame.specs.Frames.{proc_of}
-use Rattle.fm_plain_net.specs.Holding.{with_held}
+use Rattle.fm_run.specs.Gathered.{with_held}
 use Rattle.fm_plain_net.proofs.holders.put_process.Goals as goal
 
 pub returns : goal.returns

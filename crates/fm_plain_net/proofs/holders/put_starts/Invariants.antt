@@ -3,7 +3,7 @@ use Rattle.fm_finmap.specs.Map.{map_of}
 use Rattle.fm_mean.specs.Outports.{outport_cmp}
 use Rattle.fm_mean.specs.Process.{started_ports}
 use Rattle.fm_plain_frame.specs.Frames.{start_of}
-use Rattle.fm_plain_net.specs.Holding.{with_held}
+use Rattle.fm_run.specs.Gathered.{with_held}
 use Rattle.fm_plain_net.proofs.holders.put_starts.Given as goal
 
 abbrev pub invariant-starts : goal.invariant-starts

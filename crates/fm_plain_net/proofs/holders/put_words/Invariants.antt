@@ -3,7 +3,7 @@ use Rattle.fm_finmap.specs.Map.{map_of}
 use Rattle.fm_mean.specs.Outports.{outport_cmp}
 use Rattle.fm_mean.specs.Places.{live}
 use Rattle.fm_plain_frame.specs.Memory.{port_in}
-use Rattle.fm_plain_net.specs.Holding.{with_held}
+use Rattle.fm_run.specs.Gathered.{with_held}
 use Rattle.fm_plain_net.proofs.holders.put_words.Given as goal
 
 abbrev pub invariant-words : goal.invariant-words

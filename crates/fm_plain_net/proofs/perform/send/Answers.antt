@@ -35,12 +35,12 @@ returns-clause-performs c =
     let later = c.message_from.new.ports in
     let sent = c.in_ok-message.ensures.message ∙ c.in_ok-items.ensures.ok.1 in
     let cost = send_cost P p x m [] ports later c.args.channel c.args.writer c.args.items c.args.next c.requires.event c.requires.can in
-    nobody P p x m [] ports (proc_of P c.take_message.new.process) (chans_of c.put_message.new.channels) later c.alone.result.cost
+    nobody P p x m [] ports (proc_of P c.take_message.new.process) (chans_of c.send_or_lose.new.self) later c.alone.result.cost
     (sends P p x m [] ports later c.args.channel c.args.writer c.args.items c.args.next c.requires.event c.requires.can (proc_of P c.take_message.new.process) c.in_ok-items.ensures.ok.0
-    (chans_of c.put_message.new.channels) (c.in_ok-put_message.ensures.channels ∙ any_writer c.args.channel 0 c.args.writer c.in_ok-message.message m ∙ ap (λ v. sent_by (Writer c.args.channel c.args.writer) v m) sent)
+    (chans_of c.send_or_lose.new.self) (c.in_ok-send_or_lose.ensures.ok ∙ any_writer c.args.channel 0 c.args.writer c.in_ok-message.message m ∙ ap (λ v. sent_by (Writer c.args.channel c.args.writer) v m) sent)
     c.alone.result.cost (omega (arith, c.alone.ensures.cost, c.in_ok-cost.ensures, ap (λ v. message_words (message_of v)) c.as_slice.ensures, ap message_words c.in_ok-items.ensures.ok.1, cost))
     (subst (λ v. StayBut (message_ports v) ports later) c.in_ok-items.ensures.ok.1 c.in_ok-message.ensures.others))
     c.alone.result.children.items c.alone.ensures.children c.alone.result.cost refl
 
 pub returns-clause-waking : goal.returns-clause-waking
-returns-clause-waking c = wakes_all c.args.channels.now c.put_message.new.channels c.in_ok-put_message.ensures.waking
+returns-clause-waking c = wakes_all c.args.channels.now c.send_or_lose.new.self c.in_ok-send_or_lose.ensures.waking

@@ -1,6 +1,7 @@
 use Rattle.std.proofs.Common.{◌≡◌, Some, sym, ap, ◌∙◌, w64}
 use Rattle.std.proofs.lemmas.Int.{to_z-of_z}
 use Rattle.fm_chan.specs.Bodies.{chans_of}
+use Rattle.fm_chan.proofs.Waking.{wakes_all}
 use Rattle.fm_code.specs.Statements.{with_words}
 use Rattle.fm_proc_language.specs.Frames.{message_from}
 use Rattle.fm_proc_language.specs.Slots.{in_slot}
@@ -23,4 +24,7 @@ returns-clause-performs c =
     c.take_message.new.body (c.in_ok-message.ensures.body ∙ ap (λ v. with_words b c.args.next (message_from h v).0.words) items)
     c.take_message.new.slots (c.in_ok-message.ensures.slots ∙ ap (λ v. (message_from h v).0.slots) items)
     c.in_ok-message.message (c.in_ok-message.ensures.message ∙ ap (λ v. (message_from h v).1) items)
-    (chans_of c.put_message.new.channels) c.in_ok-put_message.ensures.channels c.in_ok-cost.cost c.in_ok-cost.ensures
+    (chans_of c.send_or_lose.new.self) c.in_ok-send_or_lose.ensures.ok c.in_ok-cost.cost c.in_ok-cost.ensures
+
+pub returns-clause-waking : goal.returns-clause-waking
+returns-clause-waking c = wakes_all c.args.channels.now c.send_or_lose.new.self c.in_ok-send_or_lose.ensures.waking

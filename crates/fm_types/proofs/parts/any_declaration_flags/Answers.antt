@@ -1,11 +1,11 @@
 use Rattle.std.proofs.Common.{ap, ◌∙◌}
 use Rattle.fm_rules.specs.Flags.{both}
-use Rattle.fm_rules.specs.TypeStatements.{any_from, declaration_flags}
-use Rattle.fm_types.proofs.Places.{flags_more}
+use Rattle.fm_rules.specs.TypeStatements.{declaration_flags}
+use Rattle.fm_types.proofs.Places.{any_from_none, flags_more}
 use Rattle.fm_types.proofs.parts.any_declaration_flags.Goals as goal
 
 pub loop-declaration-init : goal.loop-declaration-init
-loop-declaration-init c = ap (λ f. any_from (declaration_flags c.args.context.now c.args.scope.now c.args.scalar) f c.args.declarations.now) c.no_flags-flags.ensures
+loop-declaration-init c = any_from_none (declaration_flags c.args.context.now c.args.scope.now c.args.scalar) c.no_flags-flags.result c.args.declarations.now c.no_flags-flags.ensures
 
 pub loop-declaration-preserved : goal.loop-declaration-preserved
 loop-declaration-preserved c =

@@ -1,5 +1,6 @@
 use Rattle.std.proofs.Common.{◌≡◌, drop}
-use Rattle.fm_rules.specs.TypeStatements.{any_from, in_any, declaration_flags}
+use Rattle.fm_rules.specs.TypeStatements.{in_any, declaration_flags}
+use Rattle.fm_types.proofs.Places.{any_from}
 use Rattle.fm_types.proofs.parts.any_declaration_flags.Given as goal
 
 abbrev pub invariant-loop-declaration : goal.invariant-loop-declaration

@@ -1,11 +1,11 @@
 use Rattle.std.proofs.Common.{ap, ◌∙◌}
 use Rattle.fm_rules.specs.Flags.{both}
-use Rattle.fm_rules.specs.TypeStatements.{any_from, extra_flags}
-use Rattle.fm_types.proofs.Places.{flags_more}
+use Rattle.fm_rules.specs.TypeStatements.{extra_flags}
+use Rattle.fm_types.proofs.Places.{any_from_none, flags_more}
 use Rattle.fm_types.proofs.parts.any_extra_flags.Goals as goal
 
 pub loop-extra-init : goal.loop-extra-init
-loop-extra-init c = ap (λ f. any_from (extra_flags c.args.context.now c.args.scope.now) f c.args.extras.now) c.no_flags-flags.ensures
+loop-extra-init c = any_from_none (extra_flags c.args.context.now c.args.scope.now) c.no_flags-flags.result c.args.extras.now c.no_flags-flags.ensures
 
 pub loop-extra-preserved : goal.loop-extra-preserved
 loop-extra-preserved c =

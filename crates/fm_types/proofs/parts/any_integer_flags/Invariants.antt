@@ -1,5 +1,6 @@
 use Rattle.std.proofs.Common.{◌≡◌, drop}
-use Rattle.fm_rules.specs.TypeStatements.{any_from, in_any, integer_flags}
+use Rattle.fm_rules.specs.TypeStatements.{in_any, integer_flags}
+use Rattle.fm_types.proofs.Places.{any_from}
 use Rattle.fm_types.proofs.parts.any_integer_flags.Given as goal
 
 abbrev pub invariant-loop-expr : goal.invariant-loop-expr

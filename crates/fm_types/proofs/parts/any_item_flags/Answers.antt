@@ -1,11 +1,11 @@
 use Rattle.std.proofs.Common.{ap, ◌∙◌}
 use Rattle.fm_rules.specs.Flags.{both}
-use Rattle.fm_rules.specs.TypeStatements.{any_from, item_flags}
-use Rattle.fm_types.proofs.Places.{flags_more}
+use Rattle.fm_rules.specs.TypeStatements.{item_flags}
+use Rattle.fm_types.proofs.Places.{any_from_none, flags_more}
 use Rattle.fm_types.proofs.parts.any_item_flags.Goals as goal
 
 pub loop-item-init : goal.loop-item-init
-loop-item-init c = ap (λ f. any_from (item_flags c.args.context.now c.args.scope.now) f c.args.items.now) c.no_flags-flags.ensures
+loop-item-init c = any_from_none (item_flags c.args.context.now c.args.scope.now) c.no_flags-flags.result c.args.items.now c.no_flags-flags.ensures
 
 pub loop-item-preserved : goal.loop-item-preserved
 loop-item-preserved c =

@@ -1,5 +1,5 @@
 use Rattle.std.proofs.Common.{true, length, get_or, ap, ◌∙◌, arith, None}
-use Rattle.fm_unit_layout.proofs.Lookups.{length-end_list, end_at}
+use Rattle.fm_tree_blocks.proofs.Lookups.{length-end_list, end_at}
 use Rattle.fm_unit.proofs.entry_links.end_at.Goals as goal
 
 pub bounds-ends-k : goal.bounds-ends-k

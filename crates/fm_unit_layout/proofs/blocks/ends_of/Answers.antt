@@ -2,8 +2,8 @@ use Rattle.std.proofs.Common.{◌≡◌, ◌∙◌, ℕ, ◌+◌, ◌-◌, ◌<�
 use Rattle.fm_tree.specs.Structure.{bracket_of}
 use Rattle.fm_tree.specs.Blocks.{ends, ends_from, head_of, turned_back}
 use Rattle.fm_tree.specs.Units.{blank_mark}
-use Rattle.fm_unit_layout.proofs.Lists.{reverse_push}
-use Rattle.fm_unit_layout.proofs.Walks.{ends_more, ends_from_more}
+use Rattle.fm_tree_blocks.proofs.Lists.{reverse_push}
+use Rattle.fm_tree_blocks.proofs.Walks.{ends_more, ends_from_more}
 use Rattle.fm_unit_layout.proofs.blocks.ends_of.Goals as goal
 
 pub entries-preserved : goal.entries-preserved

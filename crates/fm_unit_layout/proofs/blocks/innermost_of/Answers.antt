@@ -2,7 +2,7 @@ use Rattle.std.proofs.Common.{◌∙◌, ◌+◌, ◌<◌, ◌∷◌, ◌++◌, 
 use Rattle.fm_tree.specs.Structure.{bracket_of}
 use Rattle.fm_tree.specs.Blocks.{behind, head_of, inner_from, turned}
 use Rattle.fm_tree.specs.Units.{blank_mark}
-use Rattle.fm_unit_layout.proofs.Walks.{behind_more, inner_more}
+use Rattle.fm_tree_blocks.proofs.Walks.{behind_more, inner_more}
 use Rattle.fm_unit_layout.proofs.blocks.innermost_of.Goals as goal
 
 pub entries-preserved : goal.entries-preserved

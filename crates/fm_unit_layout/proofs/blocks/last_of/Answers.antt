@@ -1,4 +1,4 @@
-use Rattle.fm_unit_layout.proofs.Lists.{last_first}
+use Rattle.fm_tree_blocks.proofs.Lists.{last_first}
 use Rattle.fm_unit_layout.proofs.blocks.last_of.Goals as goal
 
 pub returns : goal.returns

@@ -1,7 +1,7 @@
 use Rattle.std.proofs.Common.{◌≡◌, ◌∙◌, length, ap, sym, arith}
 use Rattle.fm_tree.specs.Structure.{bracket_of}
 use Rattle.fm_tree.specs.Blocks.{behind, turned}
-use Rattle.fm_unit_layout.proofs.Counts.{behind_push}
+use Rattle.fm_tree_blocks.proofs.Counts.{behind_push}
 use Rattle.fm_unit_layout.proofs.layout.add.Goals as goal
 
 pub returns-clause-stack : goal.returns-clause-stack

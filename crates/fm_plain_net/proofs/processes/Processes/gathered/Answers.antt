@@ -11,16 +11,16 @@ use Rattle.fm_plain_net.proofs.Listed.{entries_all, entries_more, flat_more, row
 use Rattle.fm_plain_net.proofs.Maps.{entries_of}
 use Rattle.fm_plain_net.proofs.processes.Processes.gathered.Goals as goal
 
-pub add-requires-clause-next : goal.add-requires-clause-next
-add-requires-clause-next c =
+pub add_process-requires-clause-next : goal.add_process-requires-clause-next
+add_process-requires-clause-next c =
     let P = c.args.program.now in
     let rows = c.deref-row-items.result.now in
     let i = c.processes.row-index in
     let row = c.row-item.result in
     (row_listed P rows i row c.processes-test.true c.row-item.is c.args.self.now c.requires.next c.requires.families (ap (map (deref_pair {K = Path} {X = Slot})) c.deref-row-items.ensures.value ∙ c.in_ok-rows.ensures)).0
 
-pub add-requires-clause-family : goal.add-requires-clause-family
-add-requires-clause-family c =
+pub add_process-requires-clause-family : goal.add_process-requires-clause-family
+add_process-requires-clause-family c =
     let P = c.args.program.now in
     let rows = c.deref-row-items.result.now in
     let i = c.processes.row-index in
@@ -38,9 +38,9 @@ processes-preserved c =
     let more = entries_more P rows i row c.processes-test.true c.row-item.is in
     let m = procs_of P c.args.self.now in
     record {
-      lines = c.in_ok-add.ensures.lines ∙ ap (λ ls. ls ++ lines_at e) c.processes.invariant.lines ∙ sym (flat_more lines_at before e) ∙ ap (flat_map lines_at) (sym more);
-      faults = c.in_ok-add.ensures.faults ∙ ap (λ ls. ls ++ fault_at e) c.processes.invariant.faults ∙ sym (flat_more fault_at before e) ∙ ap (flat_map fault_at) (sym more);
-      waits = c.in_ok-add.ensures.waits ∙ ap (λ ls. ls ++ wait_at P m e) c.processes.invariant.waits ∙ sym (flat_more (wait_at P m) before e) ∙ ap (flat_map (wait_at P m)) (sym more);
+      lines = c.in_ok-add_process.ensures.lines ∙ ap (λ ls. ls ++ lines_at e) c.processes.invariant.lines ∙ sym (flat_more lines_at before e) ∙ ap (flat_map lines_at) (sym more);
+      faults = c.in_ok-add_process.ensures.faults ∙ ap (λ ls. ls ++ fault_at e) c.processes.invariant.faults ∙ sym (flat_more fault_at before e) ∙ ap (flat_map fault_at) (sym more);
+      waits = c.in_ok-add_process.ensures.waits ∙ ap (λ ls. ls ++ wait_at P m e) c.processes.invariant.waits ∙ sym (flat_more (wait_at P m) before e) ∙ ap (flat_map (wait_at P m)) (sym more);
     }
 
 pub returns-clause-lines : goal.returns-clause-lines

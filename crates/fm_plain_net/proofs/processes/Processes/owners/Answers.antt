@@ -8,9 +8,9 @@ use Rattle.fm_mean.specs.Holders.{holdings, holdings_at}
 use Rattle.fm_mean.specs.Outports.{outport_cmp}
 use Rattle.fm_mean.specs.Process.{Proc}
 use Rattle.fm_plain_net.specs.declared.processes.Slot.{Slot}
-use Rattle.fm_plain_net.specs.Holding.{Owners, with_holders}
+use Rattle.fm_run.specs.Gathered.{Owners, with_holders}
 use Rattle.fm_plain_net.specs.Readings.{proc_in, procs_of}
-use Rattle.fm_plain_net.proofs.Holding.{from_none, with_both}
+use Rattle.fm_run.proofs.Holding.{from_none, with_both}
 use Rattle.fm_plain_net.proofs.Listed.{entries_all, entries_more, flat_more}
 use Rattle.fm_plain_net.proofs.Maps.{entries_of}
 use Rattle.fm_plain_net.proofs.processes.Processes.owners.Goals as goal

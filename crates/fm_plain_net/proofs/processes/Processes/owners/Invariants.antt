@@ -6,7 +6,7 @@ use Rattle.fm_base.specs.declared.path.Path.{Path}
 use Rattle.fm_finmap.specs.Map.{map_of}
 use Rattle.fm_mean.specs.Holders.{holdings_at}
 use Rattle.fm_mean.specs.Outports.{outport_cmp}
-use Rattle.fm_plain_net.specs.Holding.{with_holders}
+use Rattle.fm_run.specs.Gathered.{with_holders}
 use Rattle.fm_plain_net.specs.declared.processes.Slot.{Slot}
 use Rattle.fm_plain_net.proofs.Maps.{entries_of}
 use Rattle.fm_plain_net.proofs.processes.Processes.owners.Given as goal

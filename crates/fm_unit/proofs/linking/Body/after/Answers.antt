@@ -1,5 +1,5 @@
 use Rattle.std.proofs.Common.{false, length, ap, arith}
-use Rattle.fm_unit_layout.proofs.Lookups.{length-end_list}
+use Rattle.fm_tree_blocks.proofs.Lookups.{length-end_list}
 use Rattle.fm_unit.proofs.linking.Body.after.Goals as goal
 
 pub overflow_add-next : goal.overflow_add-next

@@ -3,8 +3,8 @@ use Rattle.std.specs.Option.{IfSome}
 use Rattle.fm_tree.specs.declared.entry_mark.EntryMark.{EntryMark}
 use Rattle.fm_tree.specs.declared.entry_mark.Open.{Open}
 use Rattle.fm_tree.specs.Blocks.{innermost}
-use Rattle.fm_unit_layout.proofs.Below.{innermost_below}
-use Rattle.fm_unit_layout.proofs.Lookups.{length-inner_list, inner_at}
+use Rattle.fm_tree_blocks.proofs.Below.{innermost_below}
+use Rattle.fm_tree_blocks.proofs.Lookups.{length-inner_list, inner_at}
 use Rattle.fm_unit.proofs.linking.Body.inner_at.Goals as goal
 
 pub index-requires : goal.index-requires

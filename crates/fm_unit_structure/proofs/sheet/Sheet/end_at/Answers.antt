@@ -1,5 +1,5 @@
 use Rattle.std.proofs.Common.{true, length, get_or, ap, ◌∙◌, arith}
-use Rattle.fm_unit_layout.proofs.Lookups.{length-end_list, end_at}
+use Rattle.fm_tree_blocks.proofs.Lookups.{length-end_list, end_at}
 use Rattle.fm_unit_structure.proofs.sheet.Sheet.end_at.Goals as goal
 
 pub index-requires : goal.index-requires

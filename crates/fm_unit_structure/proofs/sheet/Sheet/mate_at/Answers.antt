@@ -3,8 +3,8 @@ use Rattle.std.specs.Option.{IfSome}
 use Rattle.std.proofs.lemmas.List.{length-drop}
 use Rattle.fm_tree.specs.declared.entry_mark.EntryMark.{EntryMark}
 use Rattle.fm_tree.specs.Blocks.{mate_of}
-use Rattle.fm_unit_layout.proofs.Below.{end_within}
-use Rattle.fm_unit_layout.proofs.Lookups.{length-end_list, end_at}
+use Rattle.fm_tree_blocks.proofs.Below.{end_within}
+use Rattle.fm_tree_blocks.proofs.Lookups.{length-end_list, end_at}
 use Rattle.fm_unit_structure.proofs.sheet.Sheet.mate_at.Goals as goal
 
 pub index-requires : goal.index-requires

@@ -1,0 +1,10 @@
+pub mod Lists
+pub mod Counts
+pub mod Walks
+pub mod Lookups
+pub mod Below
+pub mod Paths
+pub mod Mates
+pub mod Nesting
+pub mod LaidMarks
+pub mod BodyMarks
