@@ -5,7 +5,9 @@
 
 Of FOLDER, by default of this repository: each file of definitions, crates/*/specs/*.antt, stands in docs/DEFINITIONS.md
 as CRATE/specs/FILE, FILE, .., and no other does; what a row of a table there says that a file defines stands in it;
-each boundary of docs/ARCHITECTURE.md, a row `A, B to C, D`, is in crates.txt; and each crate that a page names is one.
+each boundary of docs/ARCHITECTURE.md, a row `A, B to C, D`, is in crates.txt; each call in a row of docs/PROMISES.md is
+a function there, and each clause in it is one of the row's calls, or a word of a file of definitions; and each crate
+that a page names is one.
 Prints what is wrong, and has status 1 then.
 """
 import glob
@@ -18,6 +20,8 @@ FILES = re.compile(r"\b(fm_\w+|fmc)/specs/([A-Z]\w*(?:, [A-Z]\w*)*)")
 CRATE = re.compile(r"\bfm_[a-z_]*[a-z]\b")
 NAME = re.compile(r"\bfm(?:c(?:_[a-z]+)?|_[a-z_]*[a-z])\b")
 WORD = re.compile(r"`([^`]+)`")
+CALL = re.compile(r"^ *(?:pub(?:\(crate\))? )?fn (\w+)|^ *ensures (\w+) \{", re.M)
+SMALL = re.compile(r"[a-z]\w*$")
 
 
 def read(path):
@@ -80,11 +84,39 @@ def wrong_crates(folder, below):
             yield f"{os.path.basename(path)} names the crate {name}, which isn't there"
 
 
+def clauses(folder):
+    """Of each function of the crates the names of its clauses, those of functions of one name together."""
+    found, last = {}, set()
+    for path in sorted(glob.glob(f"{folder}/crates/*/src/*.rt")):
+        for name, clause in CALL.findall(read(path)):
+            if name:
+                last = found.setdefault(name, set())
+            else:
+                last.add(clause)
+    return found
+
+
+def wrong_promises(folder, page):
+    """What the rows of the promises cite that isn't there: a call, or a clause of none of the row's calls."""
+    found = clauses(folder)
+    words = set(re.findall(r"\w+", "".join(read(path) for path in glob.glob(f"{folder}/crates/*/specs/*.antt"))))
+    for cells in rows(page):
+        if len(cells) < 3:
+            continue
+        calls = [it.split("::")[-1] for it in WORD.findall(cells[-2])]
+        yield from (f"PROMISES: there is no call {it}" for it in calls if SMALL.match(it) and it not in [*found, "fmc", "may_wait"] and not NAME.match(it))
+        here = set().union(*(found.get(it, set()) for it in calls), calls)
+        for word in WORD.findall(cells[-1]):
+            if word not in here and word not in words:
+                yield f"PROMISES: {', '.join(calls)} has no clause {word}"
+
+
 def main():
     folder = sys.argv[1] if len(sys.argv) > 1 else TOP
     below = crates(folder)
     wrong = [*wrong_files(folder, read(f"{folder}/docs/DEFINITIONS.md")),
-             *wrong_boundaries(below, read(f"{folder}/docs/ARCHITECTURE.md")), *wrong_crates(folder, below)]
+             *wrong_boundaries(below, read(f"{folder}/docs/ARCHITECTURE.md")), *wrong_crates(folder, below),
+             *wrong_promises(folder, read(f"{folder}/docs/PROMISES.md"))]
     print("\n".join(wrong) or "the pages name what stands in the crates")
     sys.exit(1 if wrong else 0)
 

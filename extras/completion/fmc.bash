@@ -12,9 +12,11 @@ _fmc() {
         --turns | --slice | --workers) return ;;
     esac
     if ((COMP_CWORD == 1)); then
-        options='run check list make demo'
-    elif [[ ${COMP_WORDS[1]} == run ]]; then
+        options='run trace replay check list make demo'
+    elif [[ ${COMP_WORDS[1]} == run || ${COMP_WORDS[1]} == trace ]]; then
         options='--turns --slice --workers --plan --vars'
+    elif [[ ${COMP_WORDS[1]} == replay ]]; then
+        options='--vars'
     elif [[ ${COMP_WORDS[1]} == demo ]] && ((COMP_CWORD > 2)); then
         options='--turns --slice --workers --plan'
     fi

@@ -24,7 +24,7 @@ pub record IsLow (P : ℕ → Type 0) (line : Line) : Type 0 where
 abbrev pub IsLowest : (ℕ → Type 0) → Option Line → Type 0
 IsLowest P best = MatchOption best ((k : ℕ) → ¬ P k) (IsLow P)
 
-lowest_same : (P Q : ℕ → Type 0) → ((k : ℕ) → P k → Q k) → ((k : ℕ) → Q k → P k) → (best : Option Line) → IsLowest P best → IsLowest Q best
+pub lowest_same : (P Q : ℕ → Type 0) → ((k : ℕ) → P k → Q k) → ((k : ℕ) → Q k → P k) → (best : Option Line) → IsLowest P best → IsLowest Q best
 lowest_same P Q pq qp None h = λ k x. h k (qp k x)
 lowest_same P Q pq qp (Some b) h = record { here = pq b.0 h.here; least = λ k x. h.least k (qp k x) }
 
@@ -37,7 +37,7 @@ lowest_more P (Some b) line h =
     (λ (l : b.0 ≤ line.0). subst (λ (x : Line). IsLow Q x) (sym (cond-false (ltb line.0 b.0) line b (le-ltb line.0 b.0 l)))
     (record { here = inl h.here; least = λ k x. ⊎_elim (λ (p : P k). h.least k p) (λ (e : line.0 ≡ k). omega (arith, e, l)) x })) (cases_lt line.0 b.0)
 
-lowest_if : (P : ℕ → Type 0) (test : Bool) (best : Option Line) (line : Line) → IsLowest P best → IsLowest (λ k. P k ⊎ ((test ≡ true) × (line.0 ≡ k))) (lower_if test best line)
+pub lowest_if : (P : ℕ → Type 0) (test : Bool) (best : Option Line) (line : Line) → IsLowest P best → IsLowest (λ k. P k ⊎ ((test ≡ true) × (line.0 ≡ k))) (lower_if test best line)
 lowest_if P true best line h =
     lowest_same (λ k. P k ⊎ (line.0 ≡ k)) (λ k. P k ⊎ ((true ≡ true) × (line.0 ≡ k))) (λ k x. ⊎_elim (λ (p : P k). inl p) (λ (e : line.0 ≡ k). inr (refl, e)) x)
     (λ k x. ⊎_elim (λ (p : P k). inl p) (λ (e : (true ≡ true) × (line.0 ≡ k)). inr e.1) x) (lower best line) (lowest_more P best line h)

@@ -192,7 +192,7 @@ fn calls_of(
 }
 
 /// For each unit its calls, with those by PROCESSCALL where processes count.
-pub(crate) fn all_calls(
+pub fn all_calls(
     alloc: Global,
     processes: bool,
     units: &[Unit],
@@ -218,7 +218,7 @@ fn targets_of(alloc: Global, calls: &[Call]) -> Result<Seq<usize>, NoMemory>
 }
 
 /// For each unit the units that it calls.
-pub(crate) fn graph_of(alloc: Global, calls: &[Seq<Call>]) -> Result<Seq<Seq<usize>>, NoMemory>
+pub fn graph_of(alloc: Global, calls: &[Seq<Call>]) -> Result<Seq<Seq<usize>>, NoMemory>
     ensures { IfOk result (λ graph. graph ≡ graph_of calls.now) }
 {
     let mut graph = Seq::new(alloc);

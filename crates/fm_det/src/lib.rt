@@ -5,5 +5,6 @@ mod calls;
 mod racing;
 mod recursive;
 
-pub use racing::race;
+pub use calls::{all_calls, graph_of};
+pub use racing::{flag_at, lower_if, race};
 pub use recursive::recursion;

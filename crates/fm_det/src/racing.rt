@@ -32,7 +32,8 @@ fn lower(best: Option<Line>, line: Line) -> Option<Line>
     }
 }
 
-fn lower_if(test: bool, best: Option<Line>, line: Line) -> Option<Line>
+/// The least line so far and another one, if it counts.
+pub fn lower_if(test: bool, best: Option<Line>, line: Line) -> Option<Line>
     ensures { result ≡ lower_if test best line }
 {
     if test { lower(best, line) } else { best }
@@ -58,7 +59,8 @@ fn racy_in_unit(flag: bool, best: Option<Line>, unit: &Unit) -> Option<Line>
     }
 }
 
-fn flag_at(flags: &[bool], unit: usize) -> bool
+/// The flag of a unit; false where there is none.
+pub fn flag_at(flags: &[bool], unit: usize) -> bool
     ensures { result ≡ slice_index_or flags.now unit false }
 {
     match flags.get(unit) {

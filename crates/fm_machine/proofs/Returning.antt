@@ -1,5 +1,5 @@
 -- A return, with the ports that it lets go.
-use Rattle.std.proofs.Common.{◌≡◌, ◌==◌, ℕ, ℤ, ◌+◌, Bool, true, false, cond, Some, List, [], ◌∷◌, ◌++◌, length, refl, sym, ap, ◌∙◌}
+use Rattle.std.proofs.Common.{◌≡◌, ◌==◌, ℕ, ℤ, ◌+◌, Bool, true, false, cond, Some, List, [], ◌∷◌, ◌++◌, drop, length, refl, sym, ap, ◌∙◌}
 use Rattle.fm_code.specs.declared.body.Body.{Body}
 use Rattle.fm_code.specs.declared.body.Frame.{Frame}
 use Rattle.fm_code.specs.Passing.{backs_fit, back_words}
@@ -31,6 +31,24 @@ returns_so b c below below' is e =
 
 pub results_so : (b : Body) (v : ℤ) (c : Frame) (below below' : List Frame) → below ≡ c ∷ below' → results_in b v below ≡ Own (record b { frame = record c { results = c.results ++ v ∷ [] }; below = below' }) [] (drops_in (results_in b v below)) 1
 results_so b v c below below' is = owns_drops (results_in b v below) _ [] _ 1 (ap (results_in b v) is)
+
+the_caller : (b : Body) (c c' : Frame) (below' : List Frame) → b.below ≡ c ∷ below' → b.below ≡ c' ∷ drop 1 b.below → c' ≡ c
+the_caller b c c' below' is first = cc (sym first ∙ is)
+
+-- a caller that got its words before the frame above it was left
+pub returned_whole : (b : Body) (c c' : Frame) (below' : List Frame) (ws : List ℤ) (cost : ℕ) → b.below ≡ c ∷ below' → b.below ≡ c' ∷ drop 1 b.below → is_stuck_in (gives_back b b.below) ≡ false → ws ≡ (given b c').mine → cost ≡ 1 + back_words b.frame.backs
+    → gives_back b b.below ≡ Own (record b { frame = record c { words = ws }; below = below' }) [] (drops_in (gives_back b b.below)) cost
+returned_whole b c c' below' ws cost is first e words costs =
+    let mine : ws ≡ (given b c).mine = words ∙ ap (λ d. (given b d).mine) (the_caller b c c' below' is first) in
+    returns_so b c b.below below' is e
+    ∙ (ap (λ l. Own (record b { frame = record c { words = l }; below = below' }) [] (drops_in (gives_back b b.below)) (1 + back_words b.frame.backs)) (sym mine)
+    ∙ ap (Own (record b { frame = record c { words = ws }; below = below' }) [] (drops_in (gives_back b b.below))) (sym costs))
+
+pub result_whole : (b : Body) (v : ℤ) (c c' : Frame) (below' : List Frame) (rs : List ℤ) → b.below ≡ c ∷ below' → b.below ≡ c' ∷ drop 1 b.below → rs ≡ c'.results ++ v ∷ []
+    → results_in b v b.below ≡ Own (record b { frame = record c { results = rs }; below = below' }) [] (drops_in (results_in b v b.below)) 1
+result_whole b v c c' below' rs is first results =
+    let mine : rs ≡ c.results ++ v ∷ [] = results ∙ ap (λ d. d.results ++ v ∷ []) (the_caller b c c' below' is first) in
+    results_so b v c b.below below' is ∙ ap (λ l. Own (record b { frame = record c { results = l }; below = below' }) [] (drops_in (results_in b v b.below)) 1) (sym mine)
 
 goes_unstuck : (a : Action) → look_in a ≡ look.Goes → is_stuck_in a ≡ false
 goes_unstuck statements.Stuck e = absurd (cc)

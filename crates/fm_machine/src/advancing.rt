@@ -1,6 +1,6 @@
 //! Statements, one after another.
 
-ghost use Rattle.std.specs.Prelude.{◌≡◌, ◌≢◌, ◌≤◌, ◌+◌, ◌++◌, [], Some, None, IfOk, IfSome, OnOk, List, option_to_list};
+ghost use Rattle.std.specs.Prelude.{◌≡◌, ◌≢◌, ◌≤◌, ◌+◌, ◌++◌, [], Some, None, IfOk, IfSome, OnErr, OnOk, List, option_to_list};
 ghost use Rattle.fm_code.specs.declared.ask.Ask.TheVariants as ask;
 ghost use Rattle.fm_code.specs.declared.instr.Instr.{Instr};
 ghost use Rattle.fm_code.specs.Fused.{AreFused};
@@ -88,7 +88,7 @@ pub fn next_look(alloc: Global, work: &mut Work, body: &Body) -> Result<Look, No
 }
 
 /// Does the next statement of a body, which asks that these ports be let go. The cost. That the ports go is
-/// up to the caller. After want of memory the body may have changed.
+/// up to the caller. After want of memory the body is as it was.
 pub fn let_go(
     alloc: Global,
     work: &mut Work,
@@ -96,7 +96,8 @@ pub fn let_go(
     slots: &[i64],
 ) -> Result<u64, NoMemory>
     requires { ask_of body.old ≡ Some (ask.LetGo slots.now) }
-    ensures { IfOk result (λ cost. action_of body.old ≡ Own body.new [] slots.now cost) }
+    ensures acts { IfOk result (λ cost. action_of body.old ≡ Own body.new [] slots.now cost) }
+    ensures stays { OnErr result (body.new ≡ body.old) }
 {
     match next_end(alloc, work, body)? {
         StatementEnd::Over(ending) => let_go_at_ending(alloc, ending, &mut work.spare, body),

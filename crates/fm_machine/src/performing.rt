@@ -1,16 +1,19 @@
 //! What statements do to their body.
 
-ghost use Rattle.std.specs.Prelude.{◌≡◌, [], ◌∷◌, false, Some, None, IfOk, IfSome, OnOk};
+ghost use Rattle.std.specs.Prelude.{◌≡◌, ◌+◌, [], ◌∷◌, true, false, length, Some, None, IfOk, IfSome, OnErr, OnOk};
 ghost use Rattle.fm_code.specs.Acts.{Prints};
+ghost use Rattle.fm_code.specs.Passing as passing;
+ghost use Rattle.fm_code.specs.Passing.{back_words, backs_fit};
 ghost use Rattle.fm_code.specs.Statements.{Own, action_by, gives_back, results_in, closes, moves, ran, is_stuck_in};
 ghost use Rattle.fm_machine_instr.specs.Told.{ended, told_end};
+ghost use Rattle.fm_machine_calls.specs.Frames.{given};
 ghost use Rattle.fm_machine_calls.specs.Looks.{look_in};
 ghost use Rattle.fm_machine.specs.Finished.{went, told, drops_in, Stays, opening};
 
 use crate::opening::{look_open, look_start, open, start};
 use crate::spares::keep;
 use fm_base::{NoMemory, Printed, Seq, output_line};
-use fm_code::{Ask, Body, Frame, Operand, Pile, Scratch, back_words, word_at};
+use fm_code::{Ask, Back, Body, Frame, Operand, Pile, Scratch, back_words, word_at};
 use fm_machine_calls::{
     Look, fail, give_all, give_plain, leaves_no_port, look_back, look_close, look_move,
     look_plainly, look_value,
@@ -45,6 +48,12 @@ fn print(
     Ok((text, cost))
 }
 
+fn give_back_cost(backs: &[Back]) -> Result<u64, NoMemory>
+    ensures { IfOk result (λ cost. cost ≡ 1 + back_words backs.now) }
+{
+    back_words(backs)?.checked_add(1).ok_or(NoMemory)
+}
+
 /// The innermost frame gives back to the one below it. The cost.
 #[tactic(auto, using(crate::proofs::Returning::returns_fit, crate::proofs::Returning::returns_so))]
 fn give_back(alloc: Global, spare: &mut Pile<Frame>, body: &mut Body) -> Result<u64, NoMemory>
@@ -65,8 +74,41 @@ fn give_back(alloc: Global, spare: &mut Pile<Frame>, body: &mut Body) -> Result<
         &mut frame.words,
         &mut ports,
     )?;
-    let cost = back_words(backs)?.checked_add(1).ok_or(NoMemory)?;
+    let cost = give_back_cost(backs)?;
     keep(spare, frame);
+    Ok(cost)
+}
+
+/// The words of a caller to which a frame has given back. Both stay as they are.
+fn words_given(alloc: Global, caller: &Frame, frame: &Frame) -> Result<Seq<i64>, NoMemory>
+    requires { backs_fit (length caller.now.words) (length frame.now.words) frame.now.backs ≡ true }
+    ensures { IfOk result (λ ws. ws ≡ (passing.give_all frame.now.backs (given caller.now.words frame.now.words [])).mine) }
+{
+    let mut mine = Seq::from_slice(alloc, caller.words.as_slice())?;
+    let mut theirs = Seq::from_slice(alloc, frame.words.as_slice())?;
+    let mut ports = Seq::new(alloc);
+    let backs = frame.backs.as_slice();
+    give_all(alloc, backs, &mut mine, &mut theirs, &mut ports)?;
+    Ok(mine)
+}
+
+/// As `give_back`, over copies: after want of memory the body is as it was.
+fn give_back_whole(alloc: Global, spare: &mut Pile<Frame>, body: &mut Body) -> Result<u64, NoMemory>
+    requires { is_stuck_in (gives_back body.old body.old.below) ≡ false }
+    ensures gives { IfOk result (λ cost. gives_back body.old body.old.below ≡ Own body.new [] (drops_in (gives_back body.old body.old.below)) cost) }
+    ensures stays { OnErr result (body.new ≡ body.old) }
+{
+    let cost = give_back_cost(body.frame.backs.as_slice())?;
+    // A step was told, so there is a caller.
+    let Some(caller) = body.below.first() else {
+        return Err(NoMemory);
+    };
+    let words = words_given(alloc, caller, &body.frame)?;
+    let Some(caller) = body.below.pop() else {
+        unreachable!()
+    };
+    keep(spare, replace(&mut body.frame, caller));
+    body.frame.words = words;
     Ok(cost)
 }
 
@@ -94,6 +136,30 @@ fn leave_result(value: i64, spare: &mut Pile<Frame>, body: &mut Body) -> Result<
     };
     keep(spare, replace(&mut body.frame, caller));
     body.frame.results.push(value)?;
+    Ok(())
+}
+
+/// As `leave_result`, over a copy: after want of memory the body is as it was.
+fn leave_result_whole(
+    alloc: Global,
+    value: i64,
+    spare: &mut Pile<Frame>,
+    body: &mut Body,
+) -> Result<(), NoMemory>
+    ensures gives { OnOk result (results_in body.old value body.old.below ≡ Own body.new [] (drops_in (results_in body.old value body.old.below)) 1) }
+    ensures stays { OnErr result (body.new ≡ body.old) }
+{
+    // A step was told, so there is a caller.
+    let Some(caller) = body.below.first() else {
+        return Err(NoMemory);
+    };
+    let mut results = Seq::from_slice(alloc, caller.results.as_slice())?;
+    results.push(value)?;
+    let Some(caller) = body.below.pop() else {
+        unreachable!()
+    };
+    keep(spare, replace(&mut body.frame, caller));
+    body.frame.results = results;
     Ok(())
 }
 
@@ -236,7 +302,7 @@ fn finish_ending(
 }
 
 /// Does a statement that ends so, with the ports that it lets go. The cost; want of memory where no port
-/// can go.
+/// can go. After want of memory the body is as it was.
 pub(crate) fn let_go_at_ending(
     alloc: Global,
     ending: Ending,
@@ -244,12 +310,13 @@ pub(crate) fn let_go_at_ending(
     body: &mut Body,
 ) -> Result<u64, NoMemory>
     requires { is_stuck_in (action_by body.old (ended ending body.old.frame)) ≡ false }
-    ensures { IfOk result (λ cost. action_by body.old (ended ending body.old.frame) ≡ Own body.new [] (drops_in (action_by body.old (ended ending body.old.frame))) cost) }
+    ensures acts { IfOk result (λ cost. action_by body.old (ended ending body.old.frame) ≡ Own body.new [] (drops_in (action_by body.old (ended ending body.old.frame))) cost) }
+    ensures stays { OnErr result (body.new ≡ body.old) }
 {
     match ending {
-        Ending::Returns => give_back(alloc, spare, body),
+        Ending::Returns => give_back_whole(alloc, spare, body),
         Ending::ReturnsValue(value) => {
-            leave_result(value, spare, body)?;
+            leave_result_whole(alloc, value, spare, body)?;
             Ok(1)
         }
         Ending::Closes(number, to) => {

@@ -130,8 +130,17 @@ record UnitLeads (u : tree.Unit) : Type 0 where
   entries : (k : ℕ) (e : Entry) → slice_get u.body k ≡ Some e → LeadsIn u.body k e
   begins : 0 < length u.body
 
-unit_leads : (us : List tree.Unit) (ns : List UnitNames) → Unbroken us ns → (n : ℕ) (u : tree.Unit) → slice_get us n ≡ Some u → UnitLeads u
-unit_leads us ns h n u at =
+-- the statements from which a unit is laid out
+pub record IsLaidUnit (u : tree.Unit) : Type 0 where
+  pub test : List ℕ → Bool
+  pub statements : List Placed
+  pub source_shaped : AreOfSource statements
+  pub clean : broken_in_unit (laid_out statements) ≡ []
+  pub last : lacks_end statements ≡ false
+  pub is : unit_of test statements ≡ u
+
+laid_unit : (us : List tree.Unit) (ns : List UnitNames) → Unbroken us ns → (n : ℕ) (u : tree.Unit) → slice_get us n ≡ Some u → IsLaidUnit u
+laid_unit us ns h n u at =
     let ps = h.statements in
     let test = is_function_named (titles_of (cut_of ps)) in
     let x = from_map (unit_of test) (cut_of ps) n u (subst (λ (l : List tree.Unit). slice_get l n ≡ Some u) h.units_are at) in
@@ -143,7 +152,16 @@ unit_leads us ns h n u at =
     let missing = right_empty wrong ends (left_empty (wrong ++ ends) titles (left_empty (wrong ++ ends ++ titles) units h.structure)) in
     let of_c = in_all AreOfSource (cut_of ps) n x.0 (cut_source ps (all_of_source ps h.shaped)) x.1 in
     let last = in_all EndsWell (cut_of ps) n x.0 (all_end ps missing) x.1 in
-    subst UnitLeads x.2 (record { entries = leads_in test x.0 of_c clean last; begins = begins test x.0 of_c clean last })
+    record { test = test; statements = x.0; source_shaped = of_c; clean = clean; last = last; is = x.2 }
+
+unit_leads : (us : List tree.Unit) (ns : List UnitNames) → Unbroken us ns → (n : ℕ) (u : tree.Unit) → slice_get us n ≡ Some u → UnitLeads u
+unit_leads us ns h n u at =
+    let l = laid_unit us ns h n u at in
+    subst UnitLeads l.is (record { entries = leads_in l.test l.statements l.source_shaped l.clean l.last; begins = begins l.test l.statements l.source_shaped l.clean l.last })
+
+-- what refutes the layout of a unit of a program
+pub refuted_by_unit : (p : Program) (n : ℕ) (u : ProgramUnit) → unit_at p n ≡ Some u → (IsLaidUnit u.tree → ⊥) → ⊥
+refuted_by_unit p n u is f = from_rules p ⊥ (λ a b. absurd a) (λ h. f (laid_unit p.units.units p.names.units h n u.tree (parts_of p n u is).0))
 
 -- ---- a unit of a program
 

@@ -48,6 +48,7 @@ pub mod Lively
 pub mod EachStep
 pub mod Kids
 pub mod Rests
+pub mod Telling
 pub mod UnitExtents
 pub mod Machines
 pub mod BackWords

@@ -19,6 +19,8 @@ use Rattle.fm_net.proofs.Meeting.{IsSound}
 use Rattle.fm_net.proofs.Parts.{Midway, Part, Run, Discard, Move, end}
 use Rattle.fm_net.proofs.Steps.{state_of, step_keeps, step_keeps_fact}
 use Rattle.fm_rules.specs.declared.program.Program.{Program}
+use Rattle.fm_mean.specs.declared.outcome.At.{At}
+use Rattle.fm_mean.specs.declared.outcome.At.TheVariants as wait
 use Rattle.fm_mean.specs.declared.place.Span.{Span}
 use Rattle.fm_mean.specs.Names.{ProgramUnit, unit_at}
 use Rattle.fm_mean.specs.Process.{Frame, Kid, Phase, Running, Joining, Ended, Faulted, Proc, emptied, has_ended, is_ended}
@@ -27,6 +29,9 @@ use Rattle.fm_mean.specs.Steps.{ask, ask_at, ask_event, ask_for, first, first_pr
 use Rattle.fm_mean.specs.Live.{GoesOn, IsLive}
 use native.Mathlib.Decide.{ℕ_discrete}
 use Rattle.fm_mean.specs.NoStep.{AwaitsMessage, HasFaulted, HasNoStep, JoinsUnended, OthersAct, ReasonsHold, RestingHaveReasons}
+use Rattle.fm_mean.specs.Outcome.{awaited, ended_at, need_in, waits_by}
+use Rattle.fm_mean.specs.Outcome as outcome
+use Rattle.fm_mean.specs.Telling.{WaitsFor}
 use Rattle.fm_mean.proofs.Lawful.{lawful}
 use Rattle.fm_mean.proofs.Laws.{first_owned}
 use Rattle.fm_mean.proofs.MainUnit.{main_there}
@@ -202,7 +207,7 @@ module _ (p : Program) where
 
   -- ---- who asks for children that haven't all ended
 
-  -- a child of the block from this number on that hasn't ended
+  -- the first child of the block from this number on that hasn't ended
   record Unended (m : Procs Proc) (q : Place) (b i n : ℕ) : Type 0 where
     number : ℕ
     low : i ≤ number
@@ -210,6 +215,7 @@ module _ (p : Program) where
     kid : Proc
     there : get m (child q b number) ≡ Some kid
     goes_on : has_ended kid ≡ false
+    is_first : awaited m q b i n ≡ Some (child q b number)
 
   unended : (m : Procs Proc) (q : Place) (b i n : ℕ) → ((k : ℕ) → i ≤ k → k < n + i → (y : Proc) × (get m (child q b k) ≡ Some y)) → gathered has_ended m q b i n ≡ None → Unended m q b i n
   unended m q b i zero there e = absurd (some_none [] e)
@@ -217,12 +223,17 @@ module _ (p : Program) where
       let y = there i (omega arith) (omega arith) in
       go y.0 y.1 (λ h. unended m q b (suc i) n (λ k l r. there k (omega (arith, l)) (omega (arith, r))) h) (has_ended y.0) refl (sym (ap (λ (o : Option Proc). with_child has_ended o (gathered has_ended m q b (suc i) n)) y.1) ∙ e)
     where
-      up : Unended m q b (suc i) n → Unended m q b i (suc n)
-      up r = record { number = r.number; low = omega (arith, r.low); high = omega (arith, r.high); kid = r.kid; there = r.there; goes_on = r.goes_on }
+      first_is : (y : Proc) → get m (child q b i) ≡ Some y → (t : Bool) → has_ended y ≡ t → awaited m q b i (suc n) ≡ cond t (awaited m q b (suc i) n) (Some (child q b i))
+      first_is y is t on =
+          ap (λ (o : Option Proc). cond (ended_at o) (awaited m q b (suc i) n) (Some (child q b i))) is
+          ∙ ap (λ (v : Bool). cond v (awaited m q b (suc i) n) (Some (child q b i))) on
+
+      up : awaited m q b i (suc n) ≡ awaited m q b (suc i) n → Unended m q b (suc i) n → Unended m q b i (suc n)
+      up later r = record { number = r.number; low = omega (arith, r.low); high = omega (arith, r.high); kid = r.kid; there = r.there; goes_on = r.goes_on; is_first = later ∙ r.is_first }
 
       go : (y : Proc) → get m (child q b i) ≡ Some y → (gathered has_ended m q b (suc i) n ≡ None → Unended m q b (suc i) n) → (t : Bool) → has_ended y ≡ t → cond t (option_map (λ ys. y ∷ ys) (gathered has_ended m q b (suc i) n)) None ≡ None → Unended m q b i (suc n)
-      go y is rest false on h = record { number = i; low = omega arith; high = omega arith; kid = y; there = is; goes_on = on }
-      go y is rest true on h = up (rest (none_mapped (λ ys. y ∷ ys) (gathered has_ended m q b (suc i) n) h))
+      go y is rest false on h = record { number = i; low = omega arith; high = omega arith; kid = y; there = is; goes_on = on; is_first = first_is y is false on }
+      go y is rest true on h = up (first_is y is true on) (rest (none_mapped (λ ys. y ∷ ys) (gathered has_ended m q b (suc i) n) h))
 
   -- ---- the law
 
@@ -253,35 +264,48 @@ module _ (p : Program) where
         let ch = event_channel (language p) s owned (lawful p) q x c a f is asks in
         never (sym (ready ch.0) ∙ unready a ch.0 (sym (ap (served_at {Proc = Proc} a) ch.1) ∙ none))
 
-    joins : (b n : ℕ) → WaitsSo x.phase (Children b n) → served has_ended s.procs s.chans q (Children b n) ≡ None → JoinsUnended s q x
+    -- what it waits for that has this need
+    abbrev WaitsIn : Option Need → Type 0
+    WaitsIn need = (w : At) × (waits_by s.procs q need ≡ Some w) × WaitsFor p s q x w
+
+    joins : (b n : ℕ) → WaitsSo x.phase (Children b n) → served has_ended s.procs s.chans q (Children b n) ≡ None → WaitsIn (Some (Children b n))
     joins b n so none =
         let kids = so.0 in
         let counted = so.2 in
         let r = unended s.procs q b 1 n (there kids so.1 counted) (none_mapped net.reply_with (gathered has_ended s.procs q b 1 n) none) in
-        by r.number r.low (omega (arith, r.high, counted)) r.kid r.there r.goes_on
+        by r.number r.low (omega (arith, r.high, counted)) r.kid r.there r.goes_on (ap (option_map wait.Join) r.is_first)
       where
         there : (kids : List Kid) → x.phase ≡ Joining b kids → n ≡ length kids → (k : ℕ) → 1 ≤ k → k < n + 1 → (y : Proc) × (get s.procs (child q b k) ≡ Some y)
         there kids joins counted zero l h = absurd (omega (arith, l))
         there kids joins counted (suc k) l h = live.1 q x is b kids joins k (omega (arith, h, counted))
 
-        by : (k : ℕ) → 1 ≤ k → k < length so.0 + 1 → (y : Proc) → get s.procs (child q b k) ≡ Some y → has_ended y ≡ false → JoinsUnended s q x
-        by zero l h y at on = absurd (omega (arith, l))
-        by (suc k) l h y at on = record { block = b; kids = so.0; joins = so.1; number = k; among = omega (arith, h); kid = y; there = at; goes_on = on }
+        by : (k : ℕ) → 1 ≤ k → k < length so.0 + 1 → (y : Proc) → get s.procs (child q b k) ≡ Some y → has_ended y ≡ false → waits_by s.procs q (Some (Children b n)) ≡ Some (wait.Join (child q b k)) → WaitsIn (Some (Children b n))
+        by zero l h y is_there on first = absurd (omega (arith, l))
+        by (suc k) l h y is_there on first =
+            (wait.Join (child q b (suc k)), first, (record { block = b; kids = so.0; joins = so.1; number = k; among = omega (arith, h); kid = y; there = is_there; goes_on = on }, refl))
 
-    lacks : (need : Need) (f : ChanName → Reply Proc → Onward Proc) → ask p x ≡ Go need f → served has_ended s.procs s.chans q need ≡ None → JoinsUnended s q x ⊎ AwaitsMessage p s x
+    lacks : (need : Need) (f : ChanName → Reply Proc → Onward Proc) → ask p x ≡ Go need f → served has_ended s.procs s.chans q need ≡ None → WaitsIn (Some need)
+    unfolding awaits
     lacks Nothing f asks none = absurd (some_none _ none)
     lacks (New n k) f asks none = absurd (some_none _ none)
-    lacks (net.Event c (Pop l)) f asks none = inr (awaits c l f asks none)
+    lacks (net.Event c (Pop l)) f asks none = (wait.Receive c, refl, (awaits c l f asks none, refl))
     lacks (net.Event c (Push w m)) f asks none = absurd (always_ready c (Push w m) f asks (λ ch. refl) none)
     lacks (net.Event c Look) f asks none = absurd (always_ready c Look f asks (λ ch. refl) none)
-    lacks (Children b n) f asks none = inl (joins b n (live_on x (Children b n) f asks (live.0 q x is)).waits none)
+    lacks (Children b n) f asks none = joins b n (live_on x (Children b n) f asks (live.0 q x is)).waits none
+
+    waits_in : MayGo x.phase → step p s q ≡ None → WaitsIn (outcome.need_of p x)
+    waits_in may none = go (ask p x) refl
+      where
+        go : (a : Ask Proc) → ask p x ≡ a → WaitsIn (outcome.need_of p x)
+        go Stop asks = absurd (subst (IsLiveAsk p x.phase) asks (has_next p (all_lead p) x (live.0 q x is) may))
+        go (Go need f) asks = subst WaitsIn (sym (ap need_in asks)) (lacks need f asks (unserved s q x need f is asks none))
+
+    reason : (w : At) → WaitsFor p s q x w → JoinsUnended s q x ⊎ AwaitsMessage p s x
+    reason (wait.Receive c) h = inr h.0
+    reason (wait.Join path) h = inl h.0
 
     waits : MayGo x.phase → step p s q ≡ None → JoinsUnended s q x ⊎ AwaitsMessage p s x
-    waits may none = go (ask p x) refl
-      where
-        go : (a : Ask Proc) → ask p x ≡ a → JoinsUnended s q x ⊎ AwaitsMessage p s x
-        go Stop asks = absurd (subst (IsLiveAsk p x.phase) asks (has_next p (all_lead p) x (live.0 q x is) may))
-        go (Go need f) asks = lacks need f asks (unserved s q x need f is asks none)
+    waits may none = let w = waits_in may none in reason w.0 w.2
 
     no_step : step p s q ≡ None → HasNoStep p s q x
     no_step none = go x.phase refl
@@ -367,6 +391,13 @@ module _ (p : Program) where
     no_step_so (inr (inl h)) = over_held (Faulted h.0 h.1) h.2 refl
     no_step_so (inr (inr (inl j))) = joins_held j
     no_step_so (inr (inr (inr w))) = awaits_held w
+
+-- what a process waits for that runs or joins and has no step
+abbrev pub WaitsTold : Program → State Proc → Type 0
+WaitsTold p s = (q : Place) (x : Proc) → get s.procs q ≡ Some x → MayGo x.phase → step p s q ≡ None → (w : At) × (waits_by s.procs q (outcome.need_of p x) ≡ Some w) × WaitsFor p s q x w
+
+pub waits_along : (p : Program) → Throughout (step p) (WaitsTold p) (first p)
+waits_along p cs legal q x is may none = let h = live_along p cs legal in waits_in p _ h.0 h.1 q x is may none
 
 -- along every schedule who has no step has ended or faulted, or waits
 pub no_step_along : (p : Program) → Throughout (step p) (RestingHaveReasons p) (first p)

@@ -23,5 +23,6 @@ pub mod Referring
 pub mod Leads
 pub mod Live
 pub mod NoStep
+pub mod Telling
 pub mod Machines
 pub mod Owed

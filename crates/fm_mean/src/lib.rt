@@ -38,6 +38,8 @@ ghost use Rattle.fm_mean.specs.Seats.{AreOnFirstNodes};
 ghost use Rattle.fm_mean.specs.Steps.{first, language, step};
 ghost use Rattle.fm_mean.specs.Leads.{AllLead};
 ghost use Rattle.fm_mean.specs.NoStep.{OthersAct, ReasonsHold, RestingHaveReasons};
+ghost use Rattle.fm_mean.specs.Outcome.{outcome_of};
+ghost use Rattle.fm_mean.specs.Telling.{TellsEach};
 ghost use Rattle.fm_mean.specs.CallsOpen.{OpensWhole, ReferenceOpensWhole};
 
 pub use outcome::{At, FaultAt, Holder, Outcome, OutputLine, Shown, ShownVariable, Wait};
@@ -118,6 +120,12 @@ pub fn who_has_no_step()
     ensures waits { (p : Program) → Throughout (step p) (RestingHaveReasons p) (first p) }
     ensures rests { (p : Program) → Throughout (step p) (ReasonsHold p) (first p) }
     ensures acts { (p : Program) → Throughout (step p) (OthersAct p) (first p) }
+{}
+
+/// Where a schedule has led to an end, the outcome tells of each process that hasn't ended: its fault with the line, or at which
+/// line it waits, and for which channel or child.
+pub fn outcomes_tell_each()
+    ensures { (p : Program) (cs : List Place) → IsEnding (step p) (first p) cs → (used : ℕ) → TellsEach p (play (step p) (first p) cs) (outcome_of p used (play (step p) (first p) cs)) }
 {}
 
 /// Along every schedule each process is on a node of its machine, whose nodes are numbered below 65,536, and the machine has as

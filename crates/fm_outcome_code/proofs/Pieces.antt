@@ -1,5 +1,5 @@
 -- A piece of stack code is a piece of the meaning, and what is new in the meaning is new here.
-use Rattle.std.proofs.Common.{◌≡◌, ◌⊎◌, inl, inr, ℕ, ◌+◌, ◌≤◌, false, Option, Some, None, replicate, refl, sym, ap, subst, ◌∙◌, arith}
+use Rattle.std.proofs.Common.{◌≡◌, ◌⊎◌, inl, inr, ℕ, ◌+◌, ◌≤◌, Bool, true, false, Option, Some, None, replicate, refl, sym, ap, subst, ◌∙◌, arith}
 use Rattle.std.specs.FinMap.{get}
 use Rattle.fm_base.specs.Channels.{Chan}
 use Rattle.fm_finmap.specs.Sums.{value_or_zero}
@@ -28,7 +28,7 @@ use Rattle.fm_outcome_code.proofs.Standing.{back_alike, legal_alike, legal_part,
 module _ (p : Program) (s : State Proc) (t : State CodeProc) (stands : StandsFor (Corresponds p) (IsLive p) t s) (q : Place) where
   -- ---- pieces
 
-  module _ (slice : ℕ) (r : CodePiece) (after : State CodeProc) (piece : code.IsPiece slice t q r after) where
+  module _ (slice : ℕ) (spare : Bool) (r : CodePiece) (after : State CodeProc) (piece : code.IsPiece slice spare t q r after) where
     legal : IsLegal code_step t (replicate r.steps q)
     legal = piece.full.can
 
@@ -36,19 +36,25 @@ module _ (p : Program) (s : State Proc) (t : State CodeProc) (stands : StandsFor
     local_after k low =
         local_at_alike p (run.after_steps p s q k) (code.after_steps t q k) (stands_after p s t stands (replicate k q) (legal_part code_step t q r.steps k low legal)) q
 
-    stops : (r.steps ≡ slice) ⊎ (((k : ℕ) × (r.steps ≡ k + 1) × (code.is_local_at (code.after_steps t q k) q ≡ false)) ⊎ (code_step (code.after_steps t q r.steps) q ≡ None))
-        → (r.steps ≡ slice) ⊎ (((k : ℕ) × (r.steps ≡ k + 1) × (run.is_local_at p (run.after_steps p s q k) q ≡ false)) ⊎ (step p (run.after_steps p s q r.steps) q ≡ None))
-    stops (inl whole) = inl whole
+    within : (b : Bool) → r.steps ≤ code.most_steps slice b → r.steps ≤ run.most_steps slice b
+    within true h = h
+    within false h = h
+
+    stops : ((r.steps ≡ slice) × (spare ≡ true → code.is_local_at (code.after_steps t q r.steps) q ≡ true))
+        ⊎ (((k : ℕ) × (r.steps ≡ k + 1) × (code.is_local_at (code.after_steps t q k) q ≡ false)) ⊎ ((r.steps ≤ slice) × (code_step (code.after_steps t q r.steps) q ≡ None)))
+        → ((r.steps ≡ slice) × (spare ≡ true → run.is_local_at p (run.after_steps p s q r.steps) q ≡ true))
+        ⊎ (((k : ℕ) × (r.steps ≡ k + 1) × (run.is_local_at p (run.after_steps p s q k) q ≡ false)) ⊎ ((r.steps ≤ slice) × (step p (run.after_steps p s q r.steps) q ≡ None)))
+    stops (inl h) = inl (h.0, λ e. local_after r.steps (omega arith) ∙ h.1 e)
     stops (inr (inl h)) = inr (inl (h.0, h.1, local_after h.0 (omega (arith, h.1)) ∙ h.2))
-    stops (inr (inr none)) = inr (inr (waits_alike p (run.after_steps p s q r.steps) (code.after_steps t q r.steps) (stands_after p s t stands (replicate r.steps q) legal) q none))
+    stops (inr (inr h)) = inr (inr (h.0, waits_alike p (run.after_steps p s q r.steps) (code.after_steps t q r.steps) (stands_after p s t stands (replicate r.steps q) legal) q h.1))
 
     -- the state to which it leads stands for that of so many steps of the meaning
     pub piece_stands : StandsFor (Corresponds p) (IsLive p) after (run.after_steps p s q r.steps)
     piece_stands = subst (λ (u : State CodeProc). StandsFor (Corresponds p) (IsLive p) u (run.after_steps p s q r.steps)) piece.makes.leads.there (stands_after p s t stands (replicate r.steps q) legal)
 
-    pub piece_alike : (later : State Proc) → later ≡ run.after_steps p s q r.steps → (w : Piece) → w ≡ record { steps = r.steps; cost = r.cost; block = r.block; started = r.started } → run.IsPiece p slice s q w later
+    pub piece_alike : (later : State Proc) → later ≡ run.after_steps p s q r.steps → (w : Piece) → w ≡ record { steps = r.steps; cost = r.cost; block = r.block; started = r.started } → run.IsPiece p slice spare s q w later
     piece_alike later later_is w w_is =
-        subst (λ (w : Piece). run.IsPiece p slice s q w later) (sym w_is)
+        subst (λ (w : Piece). run.IsPiece p slice spare s q w later) (sym w_is)
         (record {
           makes = record {
             leads = record {
@@ -61,7 +67,7 @@ module _ (p : Program) (s : State Proc) (t : State CodeProc) (stands : StandsFor
           some_steps = piece.some_steps;
           full = record {
             can = legal_alike p s t stands (replicate r.steps q) legal;
-            within = piece.full.within;
+            within = within spare piece.full.within;
             before = λ k low. local_after k (omega (arith, low)) ∙ piece.full.before k low;
             stops = stops piece.full.stops;
           };

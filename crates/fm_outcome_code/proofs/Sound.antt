@@ -1,10 +1,10 @@
 -- A piece of stack code leads from processes that stand for those of the meaning to such.
-use Rattle.std.proofs.Common.{◌≡◌, ℕ, Some, List, [], ◌∷◌, ◌++◌, replicate, refl, sym, subst}
+use Rattle.std.proofs.Common.{◌≡◌, ℕ, Bool, true, false, Some, List, [], ◌++◌, replicate, refl, sym, ap, subst, ◌∙◌}
 use Rattle.std.specs.Prelude.{slice_get}
 use Rattle.fm_base.specs.declared.schedule.Turn.{Turn}
 use Rattle.fm_net.specs.Correspondence.{StandsFor}
 use Rattle.fm_net.specs.Machine.{Place, State}
-use Rattle.fm_net.specs.Starts.{child_places}
+use Rattle.fm_net.specs.Starts.{child_places, choices_of}
 use Rattle.fm_rules.specs.declared.program.Program.{Program}
 use Rattle.fm_mean.specs.Process.{Proc}
 use Rattle.fm_mean.specs.Steps.{first}
@@ -27,7 +27,9 @@ use Rattle.fm_mean.specs.Steps.{first_proc}
 use Rattle.fm_outcome_code.specs.Played.{played}
 use Rattle.fm_outcome_code.specs.Sound.{IsSound}
 use Rattle.fm_outcome_code.proofs.Pieces.{piece_alike, piece_stands}
-use Rattle.fm_outcome_code.proofs.Histories.{named_more, played_more, played_none}
+use Rattle.fm_outcome_code.proofs.Histories.{named_more, played_are, played_more, played_none}
+use Rattle.fm_run.specs.Entries.{EndsWith, with_piece}
+use Rattle.fm_run.proofs.EntryLaws.{choices_joined}
 
 -- ---- main alone
 
@@ -46,24 +48,43 @@ first_sound p stacks is kept = record {
 
 -- ---- a piece more
 
-module _ (p : Program) (stacks : CodeProcs) (hs : List Turn) (sound : IsSound p stacks hs) (number : ℕ) (q : Place) (who : slice_get (order_of stacks.entries) number ≡ Some q) (slice : ℕ) (r : CodePiece)
-    (later : CodeProcs) (kept : AreKept later.entries) (piece : code.IsPiece slice (state_of stacks) q r (state_of later)) (order_is : order_of later.entries ≡ order_of stacks.entries ++ child_places q r.block 1 r.started)
-    (js : List Turn) (js_is : js ≡ hs ++ record { number = number; steps = r.steps } ∷ []) where
+module _ (p : Program) (stacks : CodeProcs) (hs : List Turn) (sound : IsSound p stacks hs) (number : ℕ) (q : Place) (who : slice_get (order_of stacks.entries) number ≡ Some q) (slice : ℕ) (spare : Bool) (r : CodePiece)
+    (later : CodeProcs) (kept : AreKept later.entries) (piece : code.IsPiece slice spare (state_of stacks) q r (state_of later)) (order_is : order_of later.entries ≡ order_of stacks.entries ++ child_places q r.block 1 r.started)
+    (joins : Bool) (ends : joins ≡ true → EndsWith hs number) (js : List Turn) (js_is : js ≡ with_piece joins hs number r.steps) where
   abbrev s : State Proc
   s = played p hs (order_of stacks.entries)
 
+  -- the schedule with the piece as an entry of its own
+  abbrev apart : List Turn
+  apart = with_piece false hs number r.steps
+
+  abbrev more : List Place
+  more = sound.choices ++ replicate r.steps q
+
+  apart_named : choices_of apart (order_of later.entries) ≡ Some more
+  apart_named = named_more p hs (order_of stacks.entries) sound.choices sound.named number r.steps q who apart refl (child_places q r.block 1 r.started) (order_of later.entries) order_is
+
+  all_named : choices_of js (order_of later.entries) ≡ Some more
+  all_named = ap (λ (ts : List Turn). choices_of ts (order_of later.entries)) js_is ∙ go joins ends ∙ apart_named
+    where
+      go : (b : Bool) → (b ≡ true → EndsWith hs number) → choices_of (with_piece b hs number r.steps) (order_of later.entries) ≡ choices_of apart (order_of later.entries)
+      go false e = refl
+      go true e = choices_joined hs number r.steps (order_of later.entries) (e refl)
+
   leads : played p js (order_of later.entries) ≡ run.after_steps p s q r.steps
-  leads = played_more p hs (order_of stacks.entries) sound.choices sound.named number r.steps q who js js_is (child_places q r.block 1 r.started) (order_of later.entries) order_is
+  leads =
+      played_are p js (order_of later.entries) more all_named ∙ sym (played_are p apart (order_of later.entries) more apart_named)
+      ∙ played_more p hs (order_of stacks.entries) sound.choices sound.named number r.steps q who apart refl (child_places q r.block 1 r.started) (order_of later.entries) order_is
 
   pub sound_after : IsSound p later js
   sound_after = record {
     kept = kept;
-    choices = sound.choices ++ replicate r.steps q;
-    named = named_more p hs (order_of stacks.entries) sound.choices sound.named number r.steps q who js js_is (child_places q r.block 1 r.started) (order_of later.entries) order_is;
+    choices = more;
+    named = all_named;
     stands =
         subst (λ (u : State Proc). StandsFor (Corresponds p) (IsLive p) (state_of later) u) (sym leads)
-        (piece_stands p s (state_of stacks) sound.stands q slice r (state_of later) piece);
+        (piece_stands p s (state_of stacks) sound.stands q slice spare r (state_of later) piece);
   }
 
-  pub piece_made : (w : Piece) → w ≡ record { steps = r.steps; cost = r.cost; block = r.block; started = r.started } → run.IsPiece p slice s q w (played p js (order_of later.entries))
-  piece_made w w_is = piece_alike p s (state_of stacks) sound.stands q slice r (state_of later) piece (played p js (order_of later.entries)) leads w w_is
+  pub piece_made : (w : Piece) → w ≡ record { steps = r.steps; cost = r.cost; block = r.block; started = r.started } → run.IsPiece p slice spare s q w (played p js (order_of later.entries))
+  piece_made w w_is = piece_alike p s (state_of stacks) sound.stands q slice spare r (state_of later) piece (played p js (order_of later.entries)) leads w w_is

@@ -7,11 +7,11 @@ ghost use Rattle.fm_outcome_code.specs.Sound.{IsSound};
 
 use crate::first::first_stacks;
 use crate::gathering::outcome;
-use fm_base::{NoMemory, Path, Turn};
+use fm_base::{NoMemory, Path};
 use fm_mean::Outcome;
 use fm_procs::{CodePiece, CodeProcs};
 use fm_rules::Program;
-use fm_run::{Awaited, Net, Piece};
+use fm_run::{Awaited, History, Kind, Net, Piece, put_piece};
 use std::alloc::Global;
 use std::sync::Arc;
 
@@ -20,26 +20,26 @@ use std::sync::Arc;
 pub struct Compiled {
     /// The processes and channels.
     pub stacks: CodeProcs,
-    /// The pieces.
-    pub history: Vec<Turn>,
+    /// The entries.
+    pub history: History,
 }
 
 impl Net for Compiled {
-    ghost state = { λ program net. played program net.history.items (order_of net.stacks.entries) };
+    ghost state = { λ program net. played program net.history (order_of net.stacks.entries) };
 
     ghost order = { λ net. order_of net.stacks.entries };
 
     ghost channels = { λ net. net.stacks.channels };
 
-    ghost history = { λ net. net.history.items };
+    ghost history = { λ net. net.history };
 
-    ghost IsSound = { λ program net. IsSound program net.stacks net.history.items };
+    ghost IsSound = { λ program net. IsSound program net.stacks net.history };
 
     ghost channels_are = { λ program net sound. sound.stands.chans };
 
     fn first(alloc: Global, program: &Program) -> Result<Compiled, NoMemory> {
         let stacks = first_stacks(alloc, program)?;
-        let history = Vec::new(alloc);
+        let history = History::new(alloc);
         Ok(Compiled { stacks, history })
     }
 
@@ -57,13 +57,11 @@ impl Net for Compiled {
         program: &Program,
         number: u32,
         slice: u32,
+        kind: Kind,
     ) -> Result<Piece, NoMemory> {
         let actor = self.stacks.entries.actor(number)?;
-        let piece = self.stacks.make_piece(alloc, &actor, slice)?;
-        self.history.push(Turn {
-            number,
-            steps: piece.steps,
-        })?;
+        let piece = self.stacks.make_piece(alloc, &actor, slice, kind.spare)?;
+        put_piece(alloc, &mut self.history, kind.joins, number, piece.steps)?;
         Ok(as_piece(piece))
     }
 
@@ -96,7 +94,7 @@ impl Net for Compiled {
         outcome(alloc, &self.stacks, program, used)
     }
 
-    fn into_parts(self) -> (Vec<Turn>, Vec<Arc<Path>>) {
+    fn into_parts(self) -> (History, Vec<Arc<Path>>) {
         (self.history, self.stacks.into_paths())
     }
 }

@@ -1,4 +1,5 @@
 pub mod StepLaws
+pub mod UnderWay
 pub mod CallLaws
 pub mod PortLaws
 pub mod FailureLaws
@@ -9,3 +10,4 @@ pub mod StartLaws
 pub mod Free
 pub mod StandingLaws
 pub mod LocalLaws
+pub mod OwnSteps

@@ -1,8 +1,8 @@
 //! Local steps of a process, one after the other.
 
-ghost use Rattle.std.specs.Prelude.{◌≡◌, IfOk, OnErr};
-ghost use Rattle.fm_plain_frame.specs.Frames.{proc_of};
-ghost use Rattle.fm_plain.specs.Advance.{IsAdvanced};
+ghost use Rattle.std.specs.Prelude.{◌≡◌, true, IfOk, OnErr};
+ghost use Rattle.fm_plain_frame.specs.Frames.{is_running, phase_of, proc_of};
+ghost use Rattle.fm_plain.specs.Advance.{IsAdvanced, IsStop, IsUnderWay, StopsAt, has_local};
 
 use crate::event::Event;
 use crate::local::{Acted, act};
@@ -16,8 +16,6 @@ use std::alloc::Global;
 pub enum Stop {
     /// It made as many steps as it was allowed.
     More,
-    /// It does nothing more.
-    Rest,
     /// It is at an event.
     Event(Event),
     /// It made one step more at this cost, which lets these ports go.
@@ -37,8 +35,70 @@ pub struct Advanced {
     pub cost: u64,
 }
 
-/// Makes local steps, as many as `slice` at most, and stops before an event, which it tells with its operands; where the process
-/// does nothing more; or behind a step that lets ports go, which isn't among those that are counted.
+// Whether the next step of a process that runs is one of its own. It is tried on a twin.
+fn is_twin_own(alloc: Global, program: &Program, process: &PlainProc) -> Result<bool, NoMemory>
+    requires { is_running (phase_of process.now.phase) ≡ true }
+    ensures { IfOk result (λ r. r ≡ has_local program.now (proc_of program.now process.now)) }
+{
+    let mut twin = process.twin(alloc, program)?;
+    match act(alloc, program, &mut twin)? {
+        Acted::Done(_) => Ok(true),
+        Acted::Rest => Ok(false),
+        Acted::Event(_) => Ok(false),
+        Acted::LetsGo(_, _) => Ok(false),
+    }
+}
+
+// Whether the next step of a process is one of its own.
+fn is_own(alloc: Global, program: &Program, process: &PlainProc) -> Result<bool, NoMemory>
+    ensures { IfOk result (λ r. r ≡ has_local program.now (proc_of program.now process.now)) }
+{
+    if process.is_running() {
+        return is_twin_own(alloc, program, process);
+    }
+    Ok(false)
+}
+
+// Why a process stops that has made as many steps as it was allowed, and has one to spare for a step that isn't its own: that step.
+fn stop_behind(alloc: Global, program: &Program, process: &mut PlainProc) -> Result<Stop, NoMemory>
+    requires { IsUnderWay program.now (proc_of program.now process.old) }
+    ensures ok { IfOk result (λ stop. IsStop program.now (proc_of program.now process.old) stop (proc_of program.now process.new)) }
+    ensures err { OnErr result (proc_of program.now process.new ≡ proc_of program.now process.old) }
+{
+    if is_own(alloc, program, process)? {
+        return Ok(Stop::More);
+    }
+    match act(alloc, program, process)? {
+        Acted::Done(_) => unreachable!(),
+        Acted::Rest => unreachable!(),
+        Acted::Event(event) => Ok(Stop::Event(event)),
+        Acted::LetsGo(ports, paid) => Ok(Stop::LetsGo(ports, paid as u64)),
+    }
+}
+
+// Why a process stops that has made as many steps as it was allowed. Where memory is wanting, these steps stand.
+fn last_stop(
+    alloc: Global,
+    program: &Program,
+    process: &mut PlainProc,
+    slice: u32,
+    spare: bool,
+) -> Stop
+    requires { IsUnderWay program.now (proc_of program.now process.old) }
+    ensures { StopsAt program.now slice spare slice (proc_of program.now process.old) result (proc_of program.now process.new) }
+{
+    if !spare {
+        return Stop::More;
+    }
+    match stop_behind(alloc, program, process) {
+        Ok(stop) => stop,
+        Err(_) => Stop::Short,
+    }
+}
+
+/// Makes local steps of a process that is under way, as many as `slice` at most, and stops before an event, which it tells with its
+/// operands, or behind a step that lets ports go, which isn't among those that are counted. With a step to `spare`, an event or such
+/// a step may stand behind a whole slice.
 ///
 /// Want of memory leaves the process as it was. Where memory is wanting behind some steps these stand, and it stops as `Short`.
 pub fn advance(
@@ -46,8 +106,10 @@ pub fn advance(
     program: &Program,
     process: &mut PlainProc,
     slice: u32,
+    spare: bool,
 ) -> Result<Advanced, NoMemory>
-    ensures ok { IfOk result (λ a. IsAdvanced program.now slice (proc_of program.now process.old) a (proc_of program.now process.new)) }
+    requires { IsUnderWay program.now (proc_of program.now process.old) }
+    ensures ok { IfOk result (λ a. IsAdvanced program.now slice spare (proc_of program.now process.old) a (proc_of program.now process.new)) }
     ensures err { OnErr result (proc_of program.now process.new ≡ proc_of program.now process.old) }
 {
     let mut cost: u64 = 0;
@@ -57,7 +119,7 @@ pub fn advance(
                 cost += paid as u64;
                 continue;
             }
-            Ok(Acted::Rest) => Stop::Rest,
+            Ok(Acted::Rest) => unreachable!(),
             Ok(Acted::Event(event)) => Stop::Event(event),
             Ok(Acted::LetsGo(ports, paid)) => Stop::LetsGo(ports, paid as u64),
             Err(want) => {
@@ -69,8 +131,9 @@ pub fn advance(
         };
         return Ok(Advanced { stop, steps, cost });
     }
+    let stop = last_stop(alloc, program, process, slice, spare);
     Ok(Advanced {
-        stop: Stop::More,
+        stop,
         steps: slice,
         cost,
     })

@@ -6,3 +6,4 @@ pub mod UnitLaws
 pub mod LeavingLaws
 pub mod ProcessLaws
 pub mod ConstantLaws
+pub mod Copies

@@ -3,6 +3,7 @@
 //! Contracts see memory as the meaning's values (`specs/Memory`), and frames and processes as the meaning's (`specs/Frames`).
 #![tactic(auto)]
 
+mod copying;
 mod emptiness;
 mod frame;
 mod leaving;

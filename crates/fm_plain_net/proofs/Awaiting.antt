@@ -1,14 +1,18 @@
--- Who waits for children of which some haven't ended can't step.
-use Rattle.std.proofs.Common.{◌≡◌, ◌≤◌, ◌<◌, ◌⊎◌, inl, inr, ℕ, true, false, Some, List, [], ◌∷◌, length, refl, sym, ap, ◌∙◌, arith}
+-- Who waits for children of which some haven't ended can't step; and who can step is under way.
+use Rattle.std.proofs.Common.{◌≡◌, ◌≤◌, ◌<◌, ◌⊎◌, inl, inr, ℕ, true, false, Some, List, [], ◌∷◌, length, refl, sym, ap, subst, ◌∙◌, arith}
 use Rattle.std.specs.Prelude.{is_some}
 use Rattle.std.specs.FinMap.{get}
+use Rattle.fm_sched.specs.Schedule.{IsReached}
 use Rattle.fm_net.specs.Machine.{Place, State, gathered}
+use Rattle.fm_net.specs.Owned.{IsOwned}
 use Rattle.fm_rules.specs.declared.program.Program.{Program}
 use Rattle.fm_mean.specs.Actions.{Join, Meets, Rest, action_in, action_of, after_at, joining}
 use Rattle.fm_mean.specs.Names.{unit_at}
 use Rattle.fm_mean.specs.Outcome.{need_in}
 use Rattle.fm_mean.specs.Process.{Ended, Faulted, Frame, Joining, Kid, Phase, Proc, Running, has_ended}
-use Rattle.fm_mean.specs.Steps.{ask_for, step}
+use Rattle.fm_mean.specs.Steps.{ask_for, first, language, step}
+use Rattle.fm_mean.proofs.Rests.{AreLive, live_along}
+use Rattle.fm_plain.specs.Advance.{IsUnderWay}
 use Rattle.fm_plain_replies.specs.Joins.{kids_in}
 use Rattle.fm_plain_net.specs.Held.{AreChildren, HasFamily}
 use Rattle.fm_run.proofs.Able.{rests}
@@ -19,6 +23,15 @@ module _ (program : Program) (s : State Proc) (p : Place) (x : Proc) (is : get s
   -- who can step doesn't rest
   not_resting : action_of program x ≡ Rest → ⊥
   not_resting does = cc (sym (rests program s p x is (ap (λ a. need_in (ask_for program x a)) does)) ∙ can)
+
+  pub under_way : IsReached (step program) (first program) s → IsUnderWay program x
+  under_way reached =
+      let along : IsOwned (language program) s × AreLive program s = subst (λ (t : State Proc). IsOwned (language program) t × AreLive program t) reached.2 (live_along program reached.0 reached.1) in
+      record {
+        live = along.1.0 p x is;
+        unended = λ ended. not_resting (ap (action_in program x.execution) ended);
+        unfaulted = λ fault. not_resting (ap (action_in program x.execution) fault.2);
+      }
 
   module _ (ps : List Place) (first count counted : ℕ) (family : HasFamily ps p x.phase first) (count_is : count ≡ length (kids_in x.phase))
       (not_all : (b : ℕ) → AreChildren ps first p b count → counted < count → is_some (gathered has_ended s.procs p b 1 count) ≡ false) where

@@ -1,5 +1,5 @@
 -- Pieces of a run: local steps, and an event.
-use Rattle.std.proofs.Common.{◌≡◌, ℕ, zero, suc, Some, [], sym, ap, ◌∙◌, subst, arith}
+use Rattle.std.proofs.Common.{◌≡◌, ℕ, Bool, zero, suc, Some, [], sym, ap, ◌∙◌, subst, arith}
 use Rattle.std.specs.FinMap.{get, insert}
 use Rattle.fm_finmap.specs.Sums.{value_or_zero}
 use Rattle.fm_finmap.proofs.Inserts.{insert_here, insert_same}
@@ -31,18 +31,18 @@ use Rattle.fm_plain_net.proofs.Steps.{locals_hold, makes_local}
 use Rattle.fm_run.proofs.Steps.{reached_makes, owned_reached}
 
 -- the process at a place advanced, and it alone changed
-pub advances_at : (program : Program) (slice : ℕ) (p : Place) (x w : Proc) → Some w ≡ Some x → (a : Advanced) (old new : Processes) (y : Slot) → Puts old new p y
-    → IsAdvanced program slice w a (proc_in program y) → AdvancesAt program slice p x a (procs_of program old) (procs_of program new)
-advances_at program slice p x w same a old new y puts made =
+pub advances_at : (program : Program) (slice : ℕ) (spare : Bool) (p : Place) (x w : Proc) → Some w ≡ Some x → (a : Advanced) (old new : Processes) (y : Slot) → Puts old new p y
+    → IsAdvanced program slice spare w a (proc_in program y) → AdvancesAt program slice spare p x a (procs_of program old) (procs_of program new)
+advances_at program slice spare p x w same a old new y puts made =
     let one : w ≡ x = cc same in
-    record { after = proc_in program y; advanced = subst (λ (v : Proc). IsAdvanced program slice v a (proc_in program y)) one made; procs_are = puts_one program old new p y puts }
+    record { after = proc_in program y; advanced = subst (λ (v : Proc). IsAdvanced program slice spare v a (proc_in program y)) one made; procs_are = puts_one program old new p y puts }
 
 no_steps : (program : Program) (steps : ℕ) (x : Proc) (r : Proc × ℕ) → steps ≡ 0 → local_steps program steps x ≡ Some r → x ≡ r.0
 no_steps program zero x r none e = let same : (x, 0) ≡ r = cc e in ap (λ (q : Proc × ℕ). q.0) same
 no_steps program (suc n) x r none e = absurd (omega arith)
 
 -- the process at a place made local steps, from a state that is reached
-module _ (program : Program) (slice : ℕ) (s : State Proc) (p : Place) (x : Proc) (is : get s.procs p ≡ Some x) (a : Advanced) (m : Procs Proc) (at : AdvancesAt program slice p x a s.procs m) where
+module _ (program : Program) (slice : ℕ) (spare : Bool) (s : State Proc) (p : Place) (x : Proc) (is : get s.procs p ≡ Some x) (a : Advanced) (m : Procs Proc) (at : AdvancesAt program slice spare p x a s.procs m) where
   -- where it stopped
   abbrev pub behind : State Proc
   behind = record { procs = insert s.procs p at.advanced.stopped; chans = s.chans }
@@ -75,6 +75,6 @@ module _ (program : Program) (slice : ℕ) (s : State Proc) (p : Place) (x : Pro
   -- its event is that of who stands there then
   pub event_told : (e : Event) → a.stop ≡ stop.Event e → (y : Proc) → get m p ≡ Some y → IsEvent y.phase (action_of program y) e
   event_told e stops y there =
-      let told : StopsAt program slice a.steps at.advanced.stopped (stop.Event e) at.after = subst (λ (z : Stop). StopsAt program slice a.steps at.advanced.stopped z at.after) stops at.advanced.stops in
+      let told : StopsAt program slice spare a.steps at.advanced.stopped (stop.Event e) at.after = subst (λ (z : Stop). StopsAt program slice spare a.steps at.advanced.stopped z at.after) stops at.advanced.stops in
       let same : at.advanced.stopped ≡ y = cc (sym there_behind ∙ ap (λ n. get n p) (sym (same_behind told.2)) ∙ there) in
       subst (λ (z : Proc). IsEvent z.phase (action_of program z) e) same told.1

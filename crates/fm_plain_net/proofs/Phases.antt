@@ -1,5 +1,5 @@
 -- Local steps leave a process in its phase.
-use Rattle.std.proofs.Common.{◌≡◌, ℕ, zero, suc, ◌+◌, Option, Some, None, List, [], ◌∷◌, refl, sym, ap, ◌∙◌}
+use Rattle.std.proofs.Common.{◌≡◌, ℕ, Bool, zero, suc, ◌+◌, Option, Some, None, List, [], ◌∷◌, refl, sym, ap, ◌∙◌}
 use Rattle.std.specs.Prelude.{option_and_then}
 use Rattle.fm_base.specs.declared.port.PortValue.{PortValue}
 use Rattle.fm_plain_frame.specs.LetGo.{let_go_ports}
@@ -11,7 +11,6 @@ use Rattle.fm_plain.specs.Steps.{own_in}
 use Rattle.fm_plain.specs.declared.advancing.Advanced.{Advanced}
 use Rattle.fm_plain.specs.declared.advancing.Stop.{Stop}
 use Rattle.fm_plain.specs.declared.advancing.Stop.TheVariants.{More, Event, LetsGo, Short}
-use Rattle.fm_plain.specs.declared.advancing.Stop.TheVariants as stop
 
 first_of : (a b : Proc × ℕ) → Some a ≡ Some b → a.0 ≡ b.0
 first_of a b e = let same : a ≡ b = cc e in ap (λ (r : Proc × ℕ). r.0) same
@@ -50,12 +49,11 @@ module _ (program : Program) where
       behind None same e = absurd (cc e)
       behind (Some q) same e = costed q (local_step program q.0) (λ t is. one_step q.0 t is) e ∙ same q refl
 
-  stopped_phase : (slice steps : ℕ) (y : Proc) (why : Stop) (z : Proc) → StopsAt program slice steps y why z → z.phase ≡ y.phase
-  stopped_phase slice steps y More z stops = ap (λ (v : Proc). v.phase) stops.1
-  stopped_phase slice steps y stop.Rest z stops = ap (λ (v : Proc). v.phase) stops.2
-  stopped_phase slice steps y (Event e) z stops = ap (λ (v : Proc). v.phase) stops.2
-  stopped_phase slice steps y (LetsGo l cost) z stops = own_phase y (action_of program y) z (let_go_ports program l) cost stops.1
-  stopped_phase slice steps y Short z stops = ap (λ (v : Proc). v.phase) stops.2
+  stopped_phase : (slice : ℕ) (spare : Bool) (steps : ℕ) (y : Proc) (why : Stop) (z : Proc) → StopsAt program slice spare steps y why z → z.phase ≡ y.phase
+  stopped_phase slice spare steps y More z stops = ap (λ (v : Proc). v.phase) stops.2
+  stopped_phase slice spare steps y (Event e) z stops = ap (λ (v : Proc). v.phase) stops.2
+  stopped_phase slice spare steps y (LetsGo l cost) z stops = own_phase y (action_of program y) z (let_go_ports program l) cost stops.1
+  stopped_phase slice spare steps y Short z stops = ap (λ (v : Proc). v.phase) stops.2
 
-  pub advanced_phase : (slice : ℕ) (x : Proc) (a : Advanced) (z : Proc) → IsAdvanced program slice x a z → z.phase ≡ x.phase
-  advanced_phase slice x a z made = stopped_phase slice a.steps made.stopped a.stop z made.stops ∙ locals_phase a.steps x (made.stopped, a.cost) made.made
+  pub advanced_phase : (slice : ℕ) (spare : Bool) (x : Proc) (a : Advanced) (z : Proc) → IsAdvanced program slice spare x a z → z.phase ≡ x.phase
+  advanced_phase slice spare x a z made = stopped_phase slice spare a.steps made.stopped a.stop z made.stops ∙ locals_phase a.steps x (made.stopped, a.cost) made.made

@@ -1,5 +1,5 @@
 -- Pieces are full.
-use Rattle.std.proofs.Common.{◌≡◌, ◌⊎◌, inl, inr, ℕ, zero, suc, ◌+◌, ◌<◌, ◌≤◌, true, false, Option, Some, None, List, replicate, refl, sym, ap, ap₂, ◌∙◌, subst, arith}
+use Rattle.std.proofs.Common.{◌≡◌, ◌⊎◌, inl, inr, ℕ, zero, suc, ◌+◌, ◌<◌, ◌≤◌, Bool, true, false, Option, Some, None, List, [], replicate, refl, sym, ap, ap₂, ◌∙◌, subst, arith}
 use Rattle.std.specs.Prelude.{is_some, option_and_then}
 use Rattle.std.specs.FinMap.{get}
 use Rattle.fm_finmap.proofs.Inserts.{insert_here}
@@ -9,15 +9,13 @@ use Rattle.fm_net.proofs.Keys.{path_order}
 use Rattle.fm_net.specs.Starts.{child_places, starts_at}
 use Rattle.fm_rules.specs.declared.program.Program.{Program}
 use Rattle.fm_mean.specs.Process.{Proc}
-use Rattle.fm_mean.specs.Actions.{Rest, action_of, local_step}
-use Rattle.fm_mean.specs.Outcome.{need_in}
-use Rattle.fm_mean.specs.Steps.{ask_for, language, step}
+use Rattle.fm_mean.specs.Actions.{local_step}
+use Rattle.fm_mean.specs.Steps.{language, step}
 use Rattle.fm_plain.specs.declared.advancing.Advanced.{Advanced}
-use Rattle.fm_plain.specs.Advance.{local_steps, with_cost}
+use Rattle.fm_plain.specs.Advance.{HasRoom, has_local, local_steps, with_cost}
 use Rattle.fm_run.specs.declared.net.Piece.{Piece}
 use Rattle.fm_plain_net.specs.Advances.{AdvancesAt}
-use Rattle.fm_run.specs.Pieces.{StepsOrWaits, Makes, IsPiece, is_local_in, is_local_at, after_steps, IsFull}
-use Rattle.fm_run.proofs.Able.{rests}
+use Rattle.fm_run.specs.Pieces.{StepsOrWaits, Makes, IsPiece, is_local_in, is_local_at, after_steps, IsFull, most_steps}
 use Rattle.fm_plain_net.proofs.Parts.{behind, there_behind, local_steps_make, unchanged}
 use Rattle.fm_plain_net.proofs.Steps.{with_process, makes_local}
 use Rattle.fm_run.proofs.Steps.{makes_more, makes_none}
@@ -54,88 +52,99 @@ module _ (program : Program) where
       go last rest (inl same) = subst (λ (i : ℕ). (q : Proc × ℕ) × (local_steps program i x ≡ Some q) × (is_some (local_step program q.0) ≡ true)) (sym same) last
       go last rest (inr h) = rest h
 
-module _ (program : Program) (slice : ℕ) (s : State Proc) (p : Place) (x : Proc) (is : get s.procs p ≡ Some x) (a : Advanced) (m : Procs Proc) (at : AdvancesAt program slice p x a s.procs m) where
+-- room for one step more
+pub room_for : (slice : ℕ) (spare : Bool) (steps : ℕ) → HasRoom slice spare steps → steps + 1 ≤ most_steps slice spare
+room_for slice true steps room = omega (arith, room.0)
+room_for slice false steps room = let low = room.1 refl in omega (arith, low)
+
+slice_within : (slice : ℕ) (spare : Bool) → slice ≤ most_steps slice spare
+slice_within slice true = omega arith
+slice_within slice false = omega arith
+
+module _ (program : Program) (slice : ℕ) (spare : Bool) (s : State Proc) (p : Place) (x : Proc) (is : get s.procs p ≡ Some x) (a : Advanced) (m : Procs Proc) (at : AdvancesAt program slice spare p x a s.procs m) where
   abbrev pub stood : State Proc
-  stood = behind program slice s p x is a m at
+  stood = behind program slice spare s p x is a m at
+
+  made_there : Makes program s p a.steps stood a.cost []
+  made_there = local_steps_make program slice spare s p x is a m at
+
+  there : get stood.procs p ≡ Some at.advanced.stopped
+  there = there_behind program slice spare s p x is a m at
 
   -- each of its local steps is one
   each_local : (k : ℕ) → k < a.steps → is_local_at program (after_steps program s p k) p ≡ true
   each_local k low =
       let q = local_along program a.steps x (at.advanced.stopped, a.cost) at.advanced.made k low in
-      let there : after_steps program s p k ≡ with_process program s p q.0.0 = (makes_local program k s p x q.0 is q.1).leads.there in
-      ap (λ (t : State Proc). is_local_at program t p) there ∙ ap (is_local_in program) (insert_here path_order s.procs p q.0.0) ∙ q.2
+      let led : after_steps program s p k ≡ with_process program s p q.0.0 = (makes_local program k s p x q.0 is q.1).leads.there in
+      ap (λ (t : State Proc). is_local_at program t p) led ∙ ap (is_local_in program) (insert_here path_order s.procs p q.0.0) ∙ q.2
 
   they_lead : after_steps program s p a.steps ≡ stood
-  they_lead = (local_steps_make program slice s p x is a m at).leads.there
+  they_lead = made_there.leads.there
 
-  local_piece : 1 ≤ a.steps → IsFull program slice s p a.steps → IsPiece program slice s p (record { steps = a.steps; cost = a.cost; block = 0; started = 0 }) stood
-  local_piece some full = record { makes = local_steps_make program slice s p x is a m at; some_steps = some; full = full }
+  -- what stands behind them
+  local_there : is_local_at program (after_steps program s p a.steps) p ≡ has_local program at.advanced.stopped
+  local_there = ap (λ (t : State Proc). is_local_at program t p) they_lead ∙ ap (is_local_in program) there
+
+  local_piece : 1 ≤ a.steps → IsFull program slice spare s p a.steps → IsPiece program slice spare s p (record { steps = a.steps; cost = a.cost; block = 0; started = 0 }) stood
+  local_piece some full = record { makes = made_there; some_steps = some; full = full }
 
   -- all its steps
-  pub whole_piece : a.steps ≡ slice → 1 ≤ slice → IsPiece program slice s p (record { steps = a.steps; cost = a.cost; block = 0; started = 0 }) stood
-  whole_piece whole some = local_piece (omega arith) (record {
-    can = (local_steps_make program slice s p x is a m at).leads.legal;
-    within = omega arith;
+  pub whole_piece : a.steps ≡ slice → 1 ≤ slice → (spare ≡ true → has_local program at.advanced.stopped ≡ true) → IsPiece program slice spare s p (record { steps = a.steps; cost = a.cost; block = 0; started = 0 }) stood
+  whole_piece whole some own = local_piece (omega arith) (record {
+    can = made_there.leads.legal;
+    within = omega (arith, whole, slice_within slice spare);
     before = λ k low. each_local k (omega arith);
-    stops = inl whole;
+    stops = inl (whole, λ e. local_there ∙ own e);
   })
 
   -- it waits
-  pub waiting_piece : a.steps < slice → is_some (step program s p) ≡ true → is_some (step program stood p) ≡ false → IsPiece program slice s p (record { steps = a.steps; cost = a.cost; block = 0; started = 0 }) stood
+  pub waiting_piece : a.steps ≤ slice → is_some (step program s p) ≡ true → is_some (step program stood p) ≡ false → IsPiece program slice spare s p (record { steps = a.steps; cost = a.cost; block = 0; started = 0 }) stood
   waiting_piece few can waits = local_piece (go a.steps refl) (record {
-    can = (local_steps_make program slice s p x is a m at).leads.legal;
-    within = omega arith;
+    can = made_there.leads.legal;
+    within = omega (arith, few, slice_within slice spare);
     before = λ k low. each_local k (omega arith);
-    stops = inr (inr (ap (λ (t : State Proc). step program t p) they_lead ∙ none_from (step program stood p) waits));
+    stops = inr (inr (few, ap (λ (t : State Proc). step program t p) they_lead ∙ none_from (step program stood p) waits));
   })
     where
       go : (n : ℕ) → a.steps ≡ n → 1 ≤ n
-      go zero none = absurd (cc (sym waits ∙ ap (λ t. is_some (step program t p)) (unchanged program slice s p x is a m at none) ∙ can))
+      go zero none = absurd (cc (sym waits ∙ ap (λ t. is_some (step program t p)) (unchanged program slice spare s p x is a m at none) ∙ can))
       go (suc n) some = omega arith
 
-  -- it does nothing more
-  pub resting_piece : a.steps < slice → is_some (step program s p) ≡ true → action_of program at.advanced.stopped ≡ Rest → IsPiece program slice s p (record { steps = a.steps; cost = a.cost; block = 0; started = 0 }) stood
-  resting_piece few can rest = waiting_piece few can (rests program stood p at.advanced.stopped (there_behind program slice s p x is a m at) (ap (λ b. need_in (ask_for program at.advanced.stopped b)) rest))
-
-  step_full : a.steps < slice → local_step program at.advanced.stopped ≡ None → IsLegal (step program) s (replicate (a.steps + 1) p) → IsFull program slice s p (a.steps + 1)
-  step_full few none can =
-      let shared : is_local_at program (after_steps program s p a.steps) p ≡ false =
-      ap (λ (t : State Proc). is_local_at program t p) they_lead ∙ ap (is_local_in program) (there_behind program slice s p x is a m at)
-      ∙ ap is_some none in
-      record {
-        can = can;
-        within = omega arith;
-        before = λ k low. each_local k (omega arith);
-        stops = inr (inl (a.steps, refl, shared));
-      }
+  step_full : HasRoom slice spare a.steps → local_step program at.advanced.stopped ≡ None → IsLegal (step program) s (replicate (a.steps + 1) p) → IsFull program slice spare s p (a.steps + 1)
+  step_full room none can = record {
+    can = can;
+    within = room_for slice spare a.steps room;
+    before = λ k low. each_local k (omega arith);
+    stops = inr (inl (a.steps, refl, local_there ∙ ap is_some none));
+  }
 
   -- a step behind the local ones that isn't local
-  pub step_piece : a.steps < slice → local_step program at.advanced.stopped ≡ None → (t : State Proc) (cost block started : ℕ) → step program stood p ≡ Some (t, cost) → starts_at (language program) stood p ≡ child_places p block 1 started
-      → IsPiece program slice s p (record { steps = a.steps + 1; cost = a.cost + cost; block = block; started = started }) t
-  step_piece few none t cost block started goes starts =
-      let made = makes_more program s stood p a.steps a.cost (t, cost) (local_steps_make program slice s p x is a m at) goes in
+  pub step_piece : HasRoom slice spare a.steps → local_step program at.advanced.stopped ≡ None → (t : State Proc) (cost block started : ℕ) → step program stood p ≡ Some (t, cost) → starts_at (language program) stood p ≡ child_places p block 1 started
+      → IsPiece program slice spare s p (record { steps = a.steps + 1; cost = a.cost + cost; block = block; started = started }) t
+  step_piece room none t cost block started goes starts =
+      let made = makes_more program s stood p a.steps a.cost (t, cost) made_there goes in
       record {
         makes = subst (λ (ps : List Place). Makes program s p (a.steps + 1) t (a.cost + cost) ps) starts made;
         some_steps = omega arith;
-        full = step_full few none made.leads.legal;
+        full = step_full room none made.leads.legal;
       }
 
   -- an event behind the local steps, or a wait for it
-  pub event_or_wait_piece : a.steps < slice → local_step program at.advanced.stopped ≡ None → is_some (step program s p) ≡ true → (here : State Proc) → here ≡ stood → (r : Piece) (t : State Proc) → StepsOrWaits program here p a.steps a.cost r t → IsPiece program slice s p r t
-  event_or_wait_piece few none can here same r t (inl steps) =
+  pub event_or_wait_piece : HasRoom slice spare a.steps → local_step program at.advanced.stopped ≡ None → is_some (step program s p) ≡ true → (here : State Proc) → here ≡ stood → (r : Piece) (t : State Proc) → StepsOrWaits program here p a.steps a.cost r t → IsPiece program slice spare s p r t
+  event_or_wait_piece room none can here same r t (inl steps) =
       let is : r ≡ record { steps = a.steps + 1; cost = a.cost + steps.paid; block = r.block; started = r.started } =
       ap₂ (λ (n k : ℕ). record { steps = n; cost = k; block = r.block; started = r.started }) steps.steps_are steps.cost_is in
-      subst (λ (q : Piece). IsPiece program slice s p q t) (sym is)
-      (step_piece few none t steps.paid r.block r.started (ap (λ (u : State Proc). step program u p) (sym same) ∙ steps.leads) (ap (λ (u : State Proc). starts_at (language program) u p) (sym same) ∙ steps.starts))
-  event_or_wait_piece few none can here same r t (inr waits) =
-      subst (λ (q : Piece). IsPiece program slice s p q t) (sym waits.piece)
-      (subst (λ (u : State Proc). IsPiece program slice s p (record { steps = a.steps; cost = a.cost; block = 0; started = 0 }) u) (sym (waits.stays ∙ same))
-      (waiting_piece few can (ap (λ (u : State Proc). is_some (step program u p)) (sym same) ∙ waits.waits)))
+      subst (λ (q : Piece). IsPiece program slice spare s p q t) (sym is)
+      (step_piece room none t steps.paid r.block r.started (ap (λ (u : State Proc). step program u p) (sym same) ∙ steps.leads) (ap (λ (u : State Proc). starts_at (language program) u p) (sym same) ∙ steps.starts))
+  event_or_wait_piece room none can here same r t (inr waits) =
+      subst (λ (q : Piece). IsPiece program slice spare s p q t) (sym waits.piece)
+      (subst (λ (u : State Proc). IsPiece program slice spare s p (record { steps = a.steps; cost = a.cost; block = 0; started = 0 }) u) (sym (waits.stays ∙ same))
+      (waiting_piece room.0 can (ap (λ (u : State Proc). is_some (step program u p)) (sym same) ∙ waits.waits)))
 
 -- a piece of one step that isn't local
-pub one_piece : (program : Program) (slice : ℕ) (s t : State Proc) (p : Place) (x : Proc) → get s.procs p ≡ Some x → 1 ≤ slice → local_step program x ≡ None → (cost block started : ℕ) → step program s p ≡ Some (t, cost) → starts_at (language program) s p ≡ child_places p block 1 started
-    → IsPiece program slice s p (record { steps = 1; cost = cost; block = block; started = started }) t
-one_piece program slice s t p x is some none cost block started goes starts =
+pub one_piece : (program : Program) (slice : ℕ) (spare : Bool) (s t : State Proc) (p : Place) (x : Proc) → get s.procs p ≡ Some x → 1 ≤ slice → local_step program x ≡ None → (cost block started : ℕ) → step program s p ≡ Some (t, cost) → starts_at (language program) s p ≡ child_places p block 1 started
+    → IsPiece program slice spare s p (record { steps = 1; cost = cost; block = block; started = started }) t
+one_piece program slice spare s t p x is some none cost block started goes starts =
     let one : 0 + 1 ≡ 1 = omega arith in
     let paid : 0 + cost ≡ cost = omega arith in
     let made : Makes program s p 1 t cost (starts_at (language program) s p) =
@@ -146,7 +155,7 @@ one_piece program slice s t p x is some none cost block started goes starts =
       some_steps = omega arith;
       full = record {
         can = made.leads.legal;
-        within = omega arith;
+        within = omega (arith, some, slice_within slice spare);
         before = λ k low. absurd (omega arith);
         stops = inr (inl (0, refl, ap (is_local_in program) is ∙ ap is_some none));
       };

@@ -9,10 +9,10 @@ use crate::outcome::outcome;
 use crate::pieces::make_piece;
 use crate::processes::Trees;
 use crate::ready::can_step;
-use fm_base::{NoMemory, Path, Turn};
+use fm_base::{NoMemory, Path};
 use fm_mean::Outcome;
 use fm_rules::Program;
-use fm_run::{Awaited, Net, Piece};
+use fm_run::{Awaited, History, Kind, Net, Piece, put_piece};
 use std::alloc::Global;
 use std::sync::Arc;
 
@@ -20,8 +20,8 @@ use std::sync::Arc;
 pub struct TreeNet {
     /// The processes, channels and ports.
     pub trees: Trees,
-    /// The pieces.
-    pub history: Vec<Turn>,
+    /// The entries.
+    pub history: History,
 }
 
 impl Drop for TreeNet {
@@ -40,7 +40,7 @@ impl Net for TreeNet {
 
     ghost channels = { λ net. net.trees.channels };
 
-    ghost history = { λ net. net.history.items };
+    ghost history = { λ net. net.history };
 
     ghost IsSound = { λ program net. held.IsSound program net.trees };
 
@@ -48,7 +48,7 @@ impl Net for TreeNet {
 
     fn first(alloc: Global, program: &Program) -> Result<TreeNet, NoMemory> {
         let trees = first_net(alloc, program)?;
-        let history = Vec::new(alloc);
+        let history = History::new(alloc);
         Ok(TreeNet { trees, history })
     }
 
@@ -66,13 +66,11 @@ impl Net for TreeNet {
         program: &Program,
         number: u32,
         slice: u32,
+        kind: Kind,
     ) -> Result<Piece, NoMemory> {
         let actor = self.trees.processes.actor(number)?;
-        let piece = make_piece(alloc, &mut self.trees, program, &actor, slice)?;
-        self.history.push(Turn {
-            number,
-            steps: piece.steps,
-        })?;
+        let piece = make_piece(alloc, &mut self.trees, program, &actor, slice, kind.spare)?;
+        put_piece(alloc, &mut self.history, kind.joins, number, piece.steps)?;
         Ok(piece)
     }
 
@@ -105,7 +103,7 @@ impl Net for TreeNet {
         outcome(alloc, &self.trees, program, used)
     }
 
-    fn into_parts(self) -> (Vec<Turn>, Vec<Arc<Path>>) {
+    fn into_parts(self) -> (History, Vec<Arc<Path>>) {
         let TreeNet { trees, history } = self;
         (history, trees.processes.slots.into_paths())
     }

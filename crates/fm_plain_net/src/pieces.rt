@@ -13,6 +13,7 @@ ghost use Rattle.fm_mean.specs.Actions.{action_of};
 ghost use Rattle.fm_mean.specs.Process.{Proc};
 ghost use Rattle.fm_mean.specs.Steps.{step, first, language};
 ghost use Rattle.fm_plain_frame.specs.LetGo.{let_go_ports};
+ghost use Rattle.fm_plain.specs.Advance.{IsUnderWay};
 ghost use Rattle.fm_plain.specs.Events.{IsEvent, event_by};
 ghost use Rattle.fm_plain_net.specs.Held.{AreFamilies, AreKept, AreLookedAt, AreLookedAtBut, AreOnce, HeldAreKept, IsSound, StayBut};
 ghost use Rattle.fm_plain_net.specs.Readings.{IsActor, actor_place, order_of, procs_of, state_of};
@@ -30,22 +31,24 @@ use fm_run::Piece;
 use std::alloc::Global;
 
 impl Processes {
-    // Local steps of a process, as many as `slice` at most.
+    // Local steps of a process that is under way, as many as `slice` at most; with a step to spare also one that lets ports go.
     fn advance(
         &mut self,
         alloc: Global,
         program: &Program,
         actor: &Actor,
         slice: u32,
+        spare: bool,
     ) -> Result<Advanced, NoMemory>
-        requires { IsActor self.old actor.now }
+        requires actor { IsActor self.old actor.now }
+        requires under_way { (x : Proc) → get (procs_of program.now self.old) (actor_place actor.now) ≡ Some x → IsUnderWay program.now x }
         ensures order { OnOk result (order_of self.new ≡ order_of self.old) }
         ensures families { OnOk result (AreFamilies program.now self.old → AreFamilies program.now self.new) }
         ensures next { OnOk result (AreLookedAtBut program.now (actor_place actor.now) self.old → AreLookedAtBut program.now (actor_place actor.now) self.new) }
-        ensures advances { IfOk result (λ a. (x : Proc) → get (procs_of program.now self.old) (actor_place actor.now) ≡ Some x → AdvancesAt program.now slice (actor_place actor.now) x a (procs_of program.now self.old) (procs_of program.now self.new)) }
+        ensures advances { IfOk result (λ a. (x : Proc) → get (procs_of program.now self.old) (actor_place actor.now) ≡ Some x → AdvancesAt program.now slice spare (actor_place actor.now) x a (procs_of program.now self.old) (procs_of program.now self.new)) }
     {
         match self.slots.get_mut(actor.number) {
-            Some(slot) => advance(alloc, program, &mut slot.process, slice),
+            Some(slot) => advance(alloc, program, &mut slot.process, slice, spare),
             None => unreachable!(),
         }
     }
@@ -175,6 +178,7 @@ impl Trees {
         program: &Program,
         actor: &Actor,
         slice: u32,
+        spare: bool,
     ) -> Result<Piece, NoMemory>
         requires some { 1 ≤ slice }
         requires reached { IsReached (step program.now) (first program.now) (state_of program.now self.old) }
@@ -185,16 +189,14 @@ impl Trees {
         requires next { AreLookedAtBut program.now (actor_place actor.now) self.old.processes }
         ensures sound { OnOk result (IsSound program.now self.new) }
         ensures order { IfOk result (λ r. order_of self.new.processes ≡ order_of self.old.processes ++ child_places (actor_place actor.now) r.block 1 r.started) }
-        ensures piece { IfOk result (λ r. IsPiece program.now slice (state_of program.now self.old) (actor_place actor.now) r (state_of program.now self.new)) }
+        ensures piece { IfOk result (λ r. IsPiece program.now slice spare (state_of program.now self.old) (actor_place actor.now) r (state_of program.now self.new)) }
         ensures waking { OnOk result (WakesAll self.old.channels self.new.channels) }
     {
-        let Advanced { stop, steps, cost } = self.processes.advance(alloc, program, actor, slice)?;
+        let Advanced { stop, steps, cost } = self
+            .processes
+            .advance(alloc, program, actor, slice, spare)?;
         match stop {
             Stop::More => {
-                self.processes.look(alloc, program, actor)?;
-                Ok(local_piece(steps, cost))
-            }
-            Stop::Rest => {
                 self.processes.look(alloc, program, actor)?;
                 Ok(local_piece(steps, cost))
             }
@@ -207,8 +209,8 @@ impl Trees {
     }
 }
 
-/// Makes a piece of a process, which can step: local steps, as many as `slice` at most, and
-/// then, where an event stopped it before, that event, if it can do it; or a step that lets ports go.
+/// Makes a piece of a process, which can step: local steps, as many as `slice` at most, and then a step that isn't local,
+/// where it comes to one that it can make. With a step to `spare` this may be one more than the slice.
 ///
 /// After want of memory the net isn't to be used any more.
 pub fn make_piece(
@@ -217,6 +219,7 @@ pub fn make_piece(
     program: &Program,
     actor: &Actor,
     slice: u32,
+    spare: bool,
 ) -> Result<Piece, NoMemory>
     requires some { 1 ≤ slice }
     requires reached { IsReached (step program.now) (first program.now) (state_of program.now net.old) }
@@ -225,12 +228,12 @@ pub fn make_piece(
     requires can { is_some (step program.now (state_of program.now net.old) (actor_place actor.now)) ≡ true }
     ensures sound { OnOk result (IsSound program.now net.new) }
     ensures order { IfOk result (λ r. order_of net.new.processes ≡ order_of net.old.processes ++ child_places (actor_place actor.now) r.block 1 r.started) }
-    ensures piece { IfOk result (λ r. IsPiece program.now slice (state_of program.now net.old) (actor_place actor.now) r (state_of program.now net.new)) }
+    ensures piece { IfOk result (λ r. IsPiece program.now slice spare (state_of program.now net.old) (actor_place actor.now) r (state_of program.now net.new)) }
     ensures waking { OnOk result (WakesAll net.old.channels net.new.channels) }
 {
     match net.processes.take_next(actor) {
         Next::Meets(event) => net.event_piece(alloc, program, actor, 0, 0, event),
-        Next::Steps => net.local_piece(alloc, program, actor, slice),
-        Next::Rests => net.local_piece(alloc, program, actor, slice),
+        Next::Steps => net.local_piece(alloc, program, actor, slice, spare),
+        Next::Rests => unreachable!(),
     }
 }

@@ -1,6 +1,6 @@
 //! A process does its event.
 
-ghost use Rattle.std.specs.Prelude.{◌≡◌, [], map, true, IfOk, IsOk, OnErr, OnOk};
+ghost use Rattle.std.specs.Prelude.{◌≡◌, [], map, true, IfOk, OnErr, OnOk};
 ghost use Rattle.fm_machine_calls.specs.declared.looking.Look.TheVariants.{Asks};
 ghost use Rattle.fm_chan.specs.Bodies.{chans_of};
 ghost use Rattle.fm_chan.specs.Woken.{WakesAll};
@@ -48,7 +48,8 @@ fn at_port(
     requires look { look_of (proc_of process.old) ≡ Asks ask }
     requires can { CanPerform (proc_of process.old) (chans_of channels.old) }
     ensures performs { IfOk result (λ cost. Performs path.now (proc_of process.old) (chans_of channels.old) (proc_of process.new) [] (chans_of channels.new) cost) }
-    ensures stays { StaysOnWant ask → IsOk result }
+    ensures stays { StaysOnWant ask → OnErr result (proc_of process.new ≡ proc_of process.old) }
+    ensures channels { StaysOnWant ask → OnErr result (chans_of channels.new ≡ chans_of channels.old) }
     ensures waking { OnOk result (WakesAll channels.old channels.new) }
 {
     match ask {
@@ -79,7 +80,8 @@ fn at_port(
 }
 
 /// Does the event of a process that its next statement asks for. After want of memory the process and the channels are as they were
-/// for some events, the start of a block and the end among them (`StaysOnWant`); for the others the process may have lost its body.
+/// for all events but a send and a receive (`StaysOnWant`): after those the process may have lost ports or its body, and the channel a
+/// message.
 pub fn perform(
     alloc: Global,
     work: &mut Work,

@@ -10,6 +10,7 @@ use Rattle.fm_code.specs.Statements as code
 use Rattle.fm_code.specs.Statements.{Action, action_of}
 use Rattle.fm_machine_calls.specs.declared.looking.Look.TheVariants as look
 use Rattle.fm_machine_calls.specs.Looks.{look_in, look_by as drops_told}
+use Rattle.fm_proc_language.specs.Slots.{Slots}
 use Rattle.fm_proc_language.specs.Processes.{CodeProc, Phase, Running, Joining, Ended, Faulted, Kid, asks, asks_by, running_by, runs_by, joining_by, joins_by}
 use Rattle.fm_proc_language.specs.Needs.{need_in}
 use Rattle.fm_proc_events.specs.Performs.{CanPerform, reply_to}
@@ -93,3 +94,7 @@ module _ (y : CodeProc) (cs : Chans) (k : Ask) (event : is_event k ≡ true) (to
 pub joining_looks : (block : ℕ) (kids : List Kid) (b : Option Body) → look_by (Joining block kids) b ≡ look_by Running b
 joining_looks block kids None = refl
 joining_looks block kids (Some b) = refl
+
+-- a process whose body and slots are as they were
+pub as_before : (y : CodeProc) (b : Body) (slots : Slots) → y.body ≡ Some b → slots ≡ y.slots → record y { body = Some b; slots = slots } ≡ y
+as_before y b slots is same = λ i. record y { body = sym is i; slots = same i }

@@ -1,10 +1,12 @@
 -- A channel that is made is what the process asked for.
-use Rattle.std.proofs.Common.{◌≡◌, ℕ, suc, Some, None, List, [], refl, sym, ap, ◌∙◌, append-nil}
+use Rattle.std.proofs.Common.{◌≡◌, ◌+◌, ◌*◌, ◌≤◌, ℕ, zero, suc, Some, None, List, [], length, refl, sym, ap, subst, ◌∙◌, append-nil, arith}
+use Rattle.std.proofs.lemmas.List.{length-map}
 use Rattle.std.specs.FinMap.{get, insert}
 use Rattle.fm_base.specs.declared.path.ChanName.{ChanName}
 use Rattle.fm_base.specs.declared.port.PortValue.{PortValue}
 use Rattle.fm_base.specs.declared.port.PortValue.TheVariants.{Writer}
-use Rattle.fm_base.specs.Channels.{Chans, discarded, fresh, shut, all_shed}
+use Rattle.fm_base.specs.Channels.{Chans, discarded, fresh, numbers_from, shut, all_shed}
+use Rattle.fm_chan.specs.Events.{outports}
 use Rattle.fm_finmap.proofs.Adjusts.{adjust-insert}
 use Rattle.fm_finmap.proofs.Inserts.{insert_again, insert_here}
 use Rattle.fm_net.proofs.Counts.{shut-closed}
@@ -18,6 +20,8 @@ use Rattle.fm_proc_language.specs.Frames.{all_placed}
 use Rattle.fm_proc_language.specs.Processes.{CodeProc, made}
 use Rattle.fm_proc_language.specs.Needs.{need_in}
 use Rattle.fm_proc_slots.specs.Helds.{held}
+use Rattle.fm_proc_slots.specs.Rooms.{HasRoom}
+use Rattle.fm_proc_slots.specs.declared.open.OpenSlots.{OpenSlots}
 use Rattle.fm_proc_events.specs.Makes.{Makes}
 use Rattle.fm_proc_events.specs.Performs.{MakesNew, Performs}
 
@@ -71,3 +75,25 @@ module _ (p : Place) (y : CodeProc) (cs : Chans) (next : ℕ) (words : List ℕ)
           cost_is = refl;
         };
       }
+
+-- a channel with so many writers has a port for each, and one to receive by
+numbers_length : (i n : ℕ) → length (numbers_from i n) ≡ n
+numbers_length i zero = refl
+numbers_length i (suc n) = ap suc (numbers_length (suc i) n)
+
+pub outports_length : (c : ChanName) (n : ℕ) → length (outports c n) ≡ n
+outports_length c n = length-map (numbers_from 0 n) (λ w. Writer c w) ∙ numbers_length 0 n
+
+pub ports_length : (c : ChanName) (n : ℕ) → length (ports_from c n) ≡ suc n
+ports_length c n = ap suc (outports_length c n)
+
+-- room for twice as many as the ports of a new channel is room for these
+pub room_for_ports : (o : OpenSlots) (c : ChanName) (n : ℕ) (ports : List PortValue) → ports ≡ ports_from c n → HasRoom o (2 * (n + 1)) → HasRoom o (2 * length ports)
+room_for_ports o c n ports is = subst (HasRoom o) (omega (arith, ap length is, ports_length c n))
+
+pub empty_for_ports : (len capacity : ℕ) (c : ChanName) (n : ℕ) (ports : List PortValue) → ports ≡ ports_from c n → len ≡ 0 → n + 1 ≤ capacity → len + length ports ≤ capacity
+empty_for_ports len capacity c n ports is none room = omega (arith, ap length is, ports_length c n, none, room)
+
+-- one port is there, and the outports come to it
+pub empty_for_outports : (len capacity : ℕ) (c : ChanName) (n : ℕ) (ports : List PortValue) → ports ≡ outports c n → len ≡ 1 → n + 1 ≤ capacity → len + length ports ≤ capacity
+empty_for_outports len capacity c n ports is one room = omega (arith, ap length is, outports_length c n, one, room)

@@ -67,15 +67,17 @@ is_at_port (ask.Begin next) = false
 is_at_port (ask.Join next) = false
 is_at_port ask.End = false
 
--- what leaves the process as it was where there is no memory for it
+-- What leaves the process and the channels as they were where there is no memory for it. Of the others: a send has taken its message
+-- out of the frame, with the ports in it, before the channel has room for it; and a receive takes the message out of its channel
+-- before it is stored, and may have stored a part of it. A join isn't done here.
 abbrev pub StaysOnWant : Ask → Type 0
 StaysOnWant (ask.Fail line fault) = Unit {0}
-StaysOnWant (ask.LetGo slots) = ⊥
-StaysOnWant (ask.Channel inport outport next) = ⊥
-StaysOnWant (ask.Merger inport outports next) = ⊥
+StaysOnWant (ask.LetGo slots) = Unit {0}
+StaysOnWant (ask.Channel inport outport next) = Unit {0}
+StaysOnWant (ask.Merger inport outports next) = Unit {0}
 StaysOnWant (ask.Send slot items next) = ⊥
 StaysOnWant (ask.Receive slot items status at_end next) = ⊥
 StaysOnWant (ask.Probe slot empty next) = Unit {0}
 StaysOnWant (ask.Begin next) = Unit {0}
-StaysOnWant (ask.Join next) = ⊥
+StaysOnWant (ask.Join next) = Unit {0}
 StaysOnWant ask.End = Unit {0}

@@ -1,6 +1,6 @@
 //! A statement that lets ports go.
 
-ghost use Rattle.std.specs.Prelude.{◌≡◌, [], IfOk, OnOk};
+ghost use Rattle.std.specs.Prelude.{◌≡◌, [], IfOk, OnErr, OnOk};
 ghost use Rattle.fm_chan.specs.Bodies.{chans_of};
 ghost use Rattle.fm_chan.specs.Woken.{WakesAll};
 ghost use Rattle.fm_code.specs.declared.ask.Ask.TheVariants as ask;
@@ -18,7 +18,8 @@ use fm_machine_instr::Work;
 use fm_proc_slots::Slots;
 use std::alloc::Global;
 
-/// Does the next statement, after which these ports are let go. The cost.
+/// Does the next statement, after which these ports are let go. The cost. After want of memory the process and the channels are as
+/// they were.
 pub fn let_go(
     alloc: Global,
     work: &mut Work,
@@ -30,6 +31,8 @@ pub fn let_go(
     requires look { look_of (proc_of process.old) ≡ Asks (ask.LetGo slots) }
     requires can { CanPerform (proc_of process.old) (chans_of channels.old) }
     ensures performs { IfOk result (λ cost. Performs path.now (proc_of process.old) (chans_of channels.old) (proc_of process.new) [] (chans_of channels.new) cost) }
+    ensures stays { OnErr result (proc_of process.new ≡ proc_of process.old) }
+    ensures channels { OnErr result (chans_of channels.new ≡ chans_of channels.old) }
     ensures waking { OnOk result (WakesAll channels.old channels.new) }
 {
     let Some(body) = &mut process.body else {

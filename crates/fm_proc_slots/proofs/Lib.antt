@@ -1,8 +1,10 @@
 pub mod Alike
 pub mod Backs
+pub mod Copied
 pub mod Kept
 pub mod Moved
 pub mod Numbers
+pub mod Placements
 pub mod RoomLaws
 pub mod Roomy
 pub mod Stored

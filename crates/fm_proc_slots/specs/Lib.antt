@@ -1,3 +1,4 @@
+pub mod Copies
 pub mod Helds
 pub mod Stores
 pub mod Joins

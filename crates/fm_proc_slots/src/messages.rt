@@ -1,12 +1,13 @@
 //! Messages: ports leave their slots with a message, and come to slots with one.
 
-ghost use Rattle.std.specs.Prelude.{◌≡◌, ◌++◌, IfOk, OnOk, take};
+ghost use Rattle.std.specs.Prelude.{◌≡◌, ◌++◌, false, not, is_some, IfOk, IfSome, OnOk, take};
 ghost use Rattle.fm_base.specs.Channels as base;
 ghost use Rattle.fm_base.specs.Channels.{item_length, item_ports};
 ghost use Rattle.fm_chan.specs.Items.{plain_item};
 ghost use Rattle.fm_code.specs.declared.ask.Operand.TheVariants as operand;
 ghost use Rattle.fm_proc_language.specs.Frames.{all_stored, item_from, message_from, stored};
 ghost use Rattle.fm_proc_language.specs.Processes.{message_words};
+ghost use Rattle.fm_proc_slots.specs.Copies.{carries_ports, copied_words, has_ports, words_message};
 ghost use Rattle.fm_proc_slots.specs.Helds.{held};
 ghost use Rattle.fm_proc_slots.specs.Stores.{PlacesMessage, words_stored};
 
@@ -55,8 +56,44 @@ fn item_from(
     }
 }
 
-/// A message of these items, from left to right; ports leave NULL.
-pub fn message_from(
+/// An item of words; none where it has ports.
+fn words_item(alloc: Global, words: &[i64], operand: Operand) -> Result<Option<Item>, NoMemory>
+    ensures item { IfOk result (λ r. IfSome r (λ i. plain_item i ≡ base.Words (copied_words words.now operand))) }
+    ensures some { IfOk result (λ r. is_some r ≡ not (has_ports operand)) }
+{
+    match operand {
+        Operand::Value(word) => Ok(Some(Item::Words(Seq::from_slice(alloc, &[word])?))),
+        Operand::Words(span) => {
+            let there = Seq::from_slice(alloc, words_of(words, span))?;
+            Ok(Some(Item::Words(there)))
+        }
+        Operand::Ports(_) => Ok(None),
+    }
+}
+
+/// A message of these items, which have no ports; none where one has.
+fn words_message(
+    alloc: Global,
+    words: &[i64],
+    items: &[Operand],
+) -> Result<Option<Message>, NoMemory>
+    ensures message { IfOk result (λ r. IfSome r (λ m. m ≡ words_message words.now items.now)) }
+    ensures some { IfOk result (λ r. is_some r ≡ not (carries_ports items.now)) }
+{
+    let mut all = Vec::with_capacity(alloc, items.len())?;
+    'items: for item in items {
+        match words_item(alloc, words, *item)? {
+            Some(item) => all.push(item)?,
+            None => return Ok(None),
+        }
+    }
+    Ok(Some(Message {
+        items: Seq::from_vec(all),
+    }))
+}
+
+/// A message of these items, from left to right; ports leave NULL. After want of memory ports may have left.
+fn ports_message(
     alloc: Global,
     words: &mut Seq<i64>,
     slots: &mut Slots,
@@ -71,6 +108,23 @@ pub fn message_from(
     Ok(Message {
         items: Seq::from_vec(all),
     })
+}
+
+/// A message of these items, from left to right; ports leave NULL. A message without ports is a copy: words and slots stay, also
+/// after want of memory.
+pub fn message_from(
+    alloc: Global,
+    words: &mut Seq<i64>,
+    slots: &mut Slots,
+    items: &[Operand],
+) -> Result<Message, NoMemory>
+    ensures message { IfOk result (λ m. (held words.new slots.new, m) ≡ message_from (held words.old slots.old) items.now) }
+    ensures stays { carries_ports items.now ≡ false → held words.new slots.new ≡ held words.old slots.old }
+{
+    match words_message(alloc, words.as_slice(), items)? {
+        Some(message) => Ok(message),
+        None => ports_message(alloc, words, slots, items),
+    }
 }
 
 /// Adds all ports of an item.

@@ -1,13 +1,15 @@
 //! Ports of new channels come to words.
 
-ghost use Rattle.std.specs.Prelude.{◌≡◌, ◌++◌, ◌∷◌, [], IfOk, OnOk};
+ghost use Rattle.std.specs.Prelude.{◌≡◌, ◌≤◌, ◌<◌, ◌+◌, ◌*◌, ◌++◌, ◌∷◌, [], length, IfOk, OnOk, vec_len, vec_capacity};
 ghost use Rattle.fm_proc_language.specs.Frames.{all_placed, port_words, words_from};
 ghost use Rattle.fm_proc_slots.specs.Helds.{held};
+ghost use Rattle.fm_proc_slots.specs.Rooms.{HasRoom, LeavesRoom, slots_in};
 ghost use Rattle.fm_proc_slots.specs.Stores.{PlacesPort};
 
-use crate::exchanging::exchange;
-use crate::slots::{Slots, push_some};
-use fm_base::{NoMemory, Seq};
+use crate::exchanging::exchange_open;
+use crate::open::OpenSlots;
+use crate::slots::keep_some;
+use fm_base::NoMemory;
 use fm_chan::Port;
 use fm_code::{Operand, Span, front};
 use std::alloc::Global;
@@ -44,43 +46,50 @@ pub fn port_words(alloc: Global, operands: &[Operand]) -> Result<Vec<u32>, NoMem
     Ok(numbers)
 }
 
-/// A port goes to the first word, or is let go: the words that are left.
+/// A port goes to the first word, or is let go: the words that are left. Takes no memory.
 fn place_next<'a>(
-    words: &mut Seq<i64>,
-    slots: &mut Slots,
+    words: &mut Vec<i64>,
+    slots: &mut OpenSlots,
     numbers: &'a [u32],
     port: Port,
     out: &mut Vec<Port>,
-) -> Result<&'a [u32], NoMemory>
-    ensures { IfOk result (λ left. PlacesPort (held words.old slots.old) numbers.now out.old.items port (held words.new slots.new) left.now out.new.items) }
+) -> &'a [u32]
+    requires slots { HasRoom slots.old 2 }
+    requires out { vec_len out.old < vec_capacity out.old }
+    ensures placed { PlacesPort (held words.old.items (slots_in slots.old)) numbers.now out.old.items port (held words.new.items (slots_in slots.new)) result.now out.new.items }
+    ensures room { LeavesRoom 2 slots.old slots.new }
+    ensures len { vec_len out.new ≤ vec_len out.old + 1 }
+    ensures capacity { vec_capacity out.old ≤ vec_capacity out.new }
 {
     match front(numbers) {
         Some((number, left)) => {
-            push_some(out, exchange(words, slots, number as usize, Some(port))?)?;
-            Ok(left)
+            let there = exchange_open(words, slots, number as usize, port);
+            keep_some(out, there);
+            left
         }
         None => {
-            out.push(port)?;
-            Ok(numbers)
+            out.push_reserved(port);
+            numbers
         }
     }
 }
 
-/// Ports go to words one after the other: what is let go, which is what was there and what finds no word.
+/// Ports go to words one after the other; what is let go is added, which is what was there and what finds no word. Takes no memory.
 pub fn place_all(
-    alloc: Global,
-    words: &mut Seq<i64>,
-    slots: &mut Slots,
+    words: &mut Vec<i64>,
+    slots: &mut OpenSlots,
     numbers: &[u32],
     ports: Vec<Port>,
-) -> Result<Vec<Port>, NoMemory>
-    ensures { IfOk result (λ v. (held words.new slots.new, v.items) ≡ all_placed (held words.old slots.old) numbers.now ports.items) }
+    out: &mut Vec<Port>,
+)
+    requires slots { HasRoom slots.old (2 * length ports.items) }
+    requires out { vec_len out.old + length ports.items ≤ vec_capacity out.old }
+    ensures held { held words.new.items (slots_in slots.new) ≡ (all_placed (held words.old.items (slots_in slots.old)) numbers.now ports.items).0 }
+    ensures out { out.new.items ≡ out.old.items ++ (all_placed (held words.old.items (slots_in slots.old)) numbers.now ports.items).1 }
 {
-    let mut out = Vec::new(alloc);
     let mut numbers = numbers;
     let mut rest = VecDeque::from_vec(ports);
     'ports: while let Some(port) = rest.pop_front() {
-        numbers = place_next(words, slots, numbers, port, &mut out)?;
+        numbers = place_next(words, slots, numbers, port, out);
     }
-    Ok(out)
 }

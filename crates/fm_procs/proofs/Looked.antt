@@ -13,6 +13,7 @@ use Rattle.fm_machine_calls.specs.Looks.{look_in}
 use Rattle.fm_proc_language.specs.Needs.{is_empty, is_local, is_local_action, is_local_by}
 use Rattle.fm_proc_language.specs.Processes.{CodeProc, Phase, Running, Joining, Ended, Faulted}
 use Rattle.fm_proc_events.specs.Told.{is_running, look_by, look_of, runs_by}
+use Rattle.fm_procs.specs.Pieces.{is_local_at, is_local_in}
 use Rattle.fm_procs.specs.Readings.{code_step}
 use Rattle.fm_procs.proofs.Served.{goes_served, steps_not, steps_served, stuck_served}
 
@@ -80,6 +81,14 @@ module _ (s : State CodeProc) (p : Place) where
       go : (o : Option CodeProc) → get s.procs p ≡ o → is_some (code_step s p) ≡ false
       go None e = steps_not s p e
       go (Some y) e = steps_served s p y e ∙ stuck_served s.procs s.chans p y (told y e)
+
+  -- who asks for something, if he's there, makes no step of his own
+  pub asks_at : (k : Ask) → ((y : CodeProc) → get s.procs p ≡ Some y → look_of y ≡ look.Asks k) → is_local_at s p ≡ false
+  asks_at k told = go (get s.procs p) refl
+    where
+      go : (o : Option CodeProc) → get s.procs p ≡ o → is_local_in o ≡ false
+      go None e = refl
+      go (Some y) e = asks_shared y k (told y e)
 
   -- who can step by a statement that asks for nothing runs
   pub goes_running : (y : CodeProc) → get s.procs p ≡ Some y → look_of y ≡ look.Goes → is_some (code_step s p) ≡ true → is_running y ≡ true

@@ -1,6 +1,6 @@
 -- Pieces of a run of stack code: several steps of one process.
 -- Source: this profile.
-use Rattle.std.specs.Prelude.{◌≡◌, ◌⊎◌, ℕ, ◌+◌, ◌<◌, ◌≤◌, Bool, true, false, Option, Some, None, List, replicate}
+use Rattle.std.specs.Prelude.{◌≡◌, ◌⊎◌, ℕ, ◌+◌, ◌<◌, ◌≤◌, Bool, true, false, ◌==◌, ◌&&◌, not, Option, Some, None, List, replicate}
 use Rattle.std.specs.FinMap.{get}
 use Rattle.fm_sched.specs.Schedule.{play, IsLegal, Leads}
 use Rattle.fm_net.specs.Machine.{Place, State, child}
@@ -37,18 +37,30 @@ is_local_in (Some y) = is_local y
 abbrev pub is_local_at : State CodeProc → Place → Bool
 is_local_at s p = is_local_in (get s.procs p)
 
--- so many steps are all that a slice lets the process do: the whole slice, or up to a step that concerns others, or to where it can't step
-pub record IsFull (slice : ℕ) (s : State CodeProc) (p : Place) (steps : ℕ) : Type 0 where
+-- the most steps of a piece: the slice's, and where it has one to spare, one more
+abbrev pub most_steps : (slice : ℕ) → (spare : Bool) → ℕ
+most_steps slice true = slice + 1
+most_steps slice false = slice
+
+-- the slice is used up, with no step to spare
+abbrev pub is_used_up : (steps slice : ℕ) → (spare : Bool) → Bool
+is_used_up steps slice spare = (steps == slice) && not spare
+
+-- so many steps are all that a slice lets the process do: the whole slice, where with a step to spare the next one is its own; or up to
+-- a step that concerns others, be it the spare one; or within the slice to where it can't step
+pub record IsFull (slice : ℕ) (spare : Bool) (s : State CodeProc) (p : Place) (steps : ℕ) : Type 0 where
   pub can : IsLegal code_step s (replicate steps p)
-  pub within : steps ≤ slice
+  pub within : steps ≤ most_steps slice spare
   pub before : (k : ℕ) → k + 1 < steps → is_local_at (after_steps s p k) p ≡ true
-  pub stops : (steps ≡ slice) ⊎ (((k : ℕ) × (steps ≡ k + 1) × (is_local_at (after_steps s p k) p ≡ false)) ⊎ (code_step (after_steps s p steps) p ≡ None))
+  pub stops : ((steps ≡ slice) × (spare ≡ true → is_local_at (after_steps s p steps) p ≡ true))
+      ⊎ (((k : ℕ) × (steps ≡ k + 1) × (is_local_at (after_steps s p k) p ≡ false))
+      ⊎ ((steps ≤ slice) × (code_step (after_steps s p steps) p ≡ None)))
 
 -- a full piece of one step or more
-pub record IsPiece (slice : ℕ) (s : State CodeProc) (p : Place) (r : CodePiece) (t : State CodeProc) : Type 0 where
+pub record IsPiece (slice : ℕ) (spare : Bool) (s : State CodeProc) (p : Place) (r : CodePiece) (t : State CodeProc) : Type 0 where
   pub makes : Makes s p r.steps t r.cost (child_places p r.block 1 r.started)
   pub some_steps : 1 ≤ r.steps
-  pub full : IsFull slice s p r.steps
+  pub full : IsFull slice spare s p r.steps
 
 -- one step more behind so many, and whom it starts
 pub record Steps (s : State CodeProc) (p : Place) (steps cost : ℕ) (r : CodePiece) (t : State CodeProc) : Type 0 where
@@ -66,3 +78,13 @@ pub record Waits (s : State CodeProc) (p : Place) (steps cost : ℕ) (r : CodePi
 
 abbrev pub StepsOrWaits : State CodeProc → Place → (steps cost : ℕ) → CodePiece → State CodeProc → Type 0
 StepsOrWaits s p steps cost r t = Steps s p steps cost r t ⊎ Waits s p steps cost r t
+
+-- or none, where the next one is the process's own
+pub record Pauses (s : State CodeProc) (p : Place) (steps cost : ℕ) (r : CodePiece) (t : State CodeProc) : Type 0 where
+  pub own : is_local_at s p ≡ true
+  pub stays : t ≡ s
+  pub piece : r ≡ record { steps = steps; cost = cost; block = 0; started = 0 }
+
+-- what comes behind statements of a process's own: a step that concerns others, or none
+abbrev pub Finishes : State CodeProc → Place → (steps cost : ℕ) → CodePiece → State CodeProc → Type 0
+Finishes s p steps cost r t = ((is_local_at s p ≡ false) × Steps s p steps cost r t) ⊎ (Waits s p steps cost r t ⊎ Pauses s p steps cost r t)

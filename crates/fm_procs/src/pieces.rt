@@ -6,9 +6,9 @@ ghost use Rattle.fm_chan.specs.Woken.{WakesAll};
 ghost use Rattle.fm_net.specs.Starts.{child_places};
 ghost use Rattle.fm_proc_language.specs.Processes.{CodeProc};
 ghost use Rattle.fm_machine_calls.specs.declared.looking.Look.TheVariants as look;
-ghost use Rattle.fm_proc_events.specs.Told.{is_running, look_of};
+ghost use Rattle.fm_proc_events.specs.Told.{look_of};
 ghost use Rattle.fm_procs.specs.Kept.{AreFamilies, AreKept, AreToldBut};
-ghost use Rattle.fm_procs.specs.Pieces.{IsNewAlong, IsNewAt, IsPiece, Steps, StepsOrWaits};
+ghost use Rattle.fm_procs.specs.Pieces.{Finishes, IsNewAlong, IsNewAt, IsPiece, Steps, StepsOrWaits, is_local_at, is_used_up};
 ghost use Rattle.fm_procs.specs.Readings.{IsActor, actor_place, code_step, order_of, procs_of, state_of};
 
 use crate::code_procs::CodeProcs;
@@ -55,6 +55,13 @@ fn with_step(steps: u32, cost: u64, stepped: Stepped) -> Result<CodePiece, NoMem
         block: stepped.block,
         started: stepped.started,
     })
+}
+
+// Whether a slice is used up, with no step to spare.
+fn is_used_up(steps: u32, slice: u32, spare: bool) -> bool
+    ensures { result ≡ is_used_up steps slice spare }
+{
+    steps == slice && !spare
 }
 
 impl CodeProcs {
@@ -109,7 +116,7 @@ impl CodeProcs {
         Ok(local_piece(steps, cost))
     }
 
-    // What a process does behind statements of its own, where a slice leaves room for one more step: its event, if it can do it.
+    // What a process does behind statements of its own, where there is room for one more step: its event, if it can do it.
     fn finish_piece(
         &mut self,
         alloc: Global,
@@ -122,11 +129,11 @@ impl CodeProcs {
         requires actor { IsActor self.old.entries actor.now }
         requires new { IsNewAt (state_of self.old) (actor_place actor.now) }
         requires look { (y : CodeProc) → get (procs_of self.old.entries) (actor_place actor.now) ≡ Some y → look_of y ≡ next }
-        requires waits { next ≡ look.Goes → code_step (state_of self.old) (actor_place actor.now) ≡ None }
+        requires own { next ≡ look.Goes → is_local_at (state_of self.old) (actor_place actor.now) ≡ true }
         requires told { AreToldBut (actor_place actor.now) self.old.entries }
         ensures kept { OnOk result (AreKept self.new.entries) }
         ensures order { IfOk result (λ r. order_of self.new.entries ≡ order_of self.old.entries ++ child_places (actor_place actor.now) r.block 1 r.started) }
-        ensures steps { IfOk result (λ r. StepsOrWaits (state_of self.old) (actor_place actor.now) steps cost r (state_of self.new)) }
+        ensures steps { IfOk result (λ r. Finishes (state_of self.old) (actor_place actor.now) steps cost r (state_of self.new)) }
         ensures waking { OnOk result (WakesAll self.old.channels self.new.channels) }
     {
         match next {
@@ -148,6 +155,7 @@ impl CodeProcs {
         alloc: Global,
         actor: &Actor,
         slice: u32,
+        spare: bool,
     ) -> Result<CodePiece, NoMemory>
         requires some { 1 ≤ slice }
         requires families { AreFamilies self.old.entries }
@@ -158,13 +166,13 @@ impl CodeProcs {
         requires told { AreToldBut (actor_place actor.now) self.old.entries }
         ensures kept { OnOk result (AreKept self.new.entries) }
         ensures order { IfOk result (λ r. order_of self.new.entries ≡ order_of self.old.entries ++ child_places (actor_place actor.now) r.block 1 r.started) }
-        ensures piece { IfOk result (λ r. IsPiece slice (state_of self.old) (actor_place actor.now) r (state_of self.new)) }
+        ensures piece { IfOk result (λ r. IsPiece slice spare (state_of self.old) (actor_place actor.now) r (state_of self.new)) }
         ensures waking { OnOk result (WakesAll self.old.channels self.new.channels) }
     {
         let Advanced { steps, cost, next } = self
             .entries
             .advance(alloc, &mut self.work, actor, slice)?;
-        if steps == slice {
+        if is_used_up(steps, slice, spare) {
             self.entries.keep_next(actor, next);
             return Ok(local_piece(steps, cost));
         }
@@ -172,7 +180,7 @@ impl CodeProcs {
     }
 
     /// Makes a piece of a process, which can step: statements of its own, as many as `slice` at most, and then, where there is room for
-    /// one more step, its event, if it can do it.
+    /// one more step, its event, if it can do it. With a step to `spare` there is room for it behind a whole slice too.
     ///
     /// After want of memory these aren't to be used any more.
     pub fn make_piece(
@@ -180,6 +188,7 @@ impl CodeProcs {
         alloc: Global,
         actor: &Actor,
         slice: u32,
+        spare: bool,
     ) -> Result<CodePiece, NoMemory>
         requires some { 1 ≤ slice }
         requires kept { AreKept self.old.entries }
@@ -188,11 +197,11 @@ impl CodeProcs {
         requires can { is_some (code_step (state_of self.old) (actor_place actor.now)) ≡ true }
         ensures kept { OnOk result (AreKept self.new.entries) }
         ensures order { IfOk result (λ r. order_of self.new.entries ≡ order_of self.old.entries ++ child_places (actor_place actor.now) r.block 1 r.started) }
-        ensures piece { IfOk result (λ r. IsPiece slice (state_of self.old) (actor_place actor.now) r (state_of self.new)) }
+        ensures piece { IfOk result (λ r. IsPiece slice spare (state_of self.old) (actor_place actor.now) r (state_of self.new)) }
         ensures waking { OnOk result (WakesAll self.old.channels self.new.channels) }
     {
         match self.entries.take_next(actor) {
-            Look::Goes => self.running_piece(alloc, actor, slice),
+            Look::Goes => self.running_piece(alloc, actor, slice, spare),
             Look::Asks(ask) => self.event_piece(alloc, actor, 0, 0, ask),
             Look::Stuck => unreachable!(),
         }

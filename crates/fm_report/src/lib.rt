@@ -5,4 +5,4 @@ mod line;
 mod several;
 mod text;
 
-pub use text::{report, spent_text};
+pub use text::{report, reports_name_each, spent_text};

@@ -1,7 +1,13 @@
 //! The whole text of a run.
 
-ghost use Rattle.std.specs.Prelude.{◌≡◌, ◌++◌, IfOk, OnOk, map};
+ghost use Rattle.std.specs.Prelude.{◌≡◌, ◌++◌, Bool, IfOk, OnOk, map};
 ghost use Rattle.std.specs.List.{flat_map};
+ghost use Rattle.fm_net.specs.Machine.{State};
+ghost use Rattle.fm_rules.specs.declared.program.Program.{Program};
+ghost use Rattle.fm_mean.specs.Process.{Proc};
+ghost use Rattle.fm_mean.specs.Telling.{TellsEach};
+ghost use Rattle.fm_mean.specs.declared.outcome.Outcome as shown;
+ghost use Rattle.fm_report.specs.Lines.{NamesEach};
 ghost use Rattle.fm_report.specs.Report.{report_text, spent_text, wait_line};
 ghost use Rattle.fm_wait.specs.Waits.{waits_for};
 
@@ -49,6 +55,11 @@ pub fn report(alloc: Global, outcome: &Outcome, vars: bool) -> Result<Vec<u8>, N
     }
     Ok(out)
 }
+
+/// Where an outcome tells of each process of a state that hasn't ended, its report has a line for each of them.
+pub fn reports_name_each()
+    ensures { (p : Program) (s : State Proc) (o : shown.Outcome) (vars : Bool) → TellsEach p s o → NamesEach p s o (report_text vars o) }
+{}
 
 /// The text of a run that was spent.
 pub fn spent_text(alloc: Global, turns: u64) -> Result<Vec<u8>, NoMemory>

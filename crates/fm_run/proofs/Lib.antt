@@ -12,3 +12,5 @@ pub mod Becomes
 pub mod Serving
 pub mod Taking
 pub mod Holding
+pub mod EntryLaws
+pub mod Joined

@@ -1,5 +1,5 @@
 -- Runs between two pieces, and their ends.
-use Rattle.std.proofs.Common.{◌≡◌, ℕ, ◌+◌, ◌<◌, ◌≤◌, true, Option, Some, None, List, [], ◌∷◌, ◌++◌, length, filter, replicate, refl, sym, ap, ap₂, ◌∙◌, subst, arith}
+use Rattle.std.proofs.Common.{◌≡◌, ℕ, ◌+◌, ◌<◌, ◌≤◌, Bool, true, Option, Some, None, List, [], ◌∷◌, ◌++◌, length, filter, replicate, refl, sym, ap, ap₂, ◌∙◌, subst, arith}
 use Rattle.std.specs.Prelude.{is_some, slice_get, slice_index_or}
 use Rattle.std.specs.FinMap.{get}
 use Rattle.std.proofs.lemmas.List.{length-replicate}
@@ -71,14 +71,14 @@ module _ (program : Program) where
   each_costs s p can = omega (arith, step_costs program s p can.0 can.1, cost-Some (step program) s p can.0 can.1)
 
   -- a piece costs one turn at least
-  pub piece_costs : (slice : ℕ) (s t : State Proc) (p : Place) (r : Piece) → IsPiece program slice s p r t → 1 ≤ r.cost
-  piece_costs slice s t p r piece =
+  pub piece_costs : (slice : ℕ) (spare : Bool) (s t : State Proc) (p : Place) (r : Piece) → IsPiece program slice spare s p r t → 1 ≤ r.cost
+  piece_costs slice spare s t p r piece =
       omega (arith, length-le-used (step program) each_costs s (replicate r.steps p) piece.makes.leads.legal, length-replicate r.steps p, piece.makes.leads.price_is, piece.some_steps)
 
   module _ (hs : List Turn) (ps : List Place) (s : State Proc) (paid : ℕ) (kept : IsPlayedBy program hs ps s paid) where
-    pub kept_more : (number : ℕ) (p : Place) → slice_get ps number ≡ Some p → (slice : ℕ) (r : Piece) (t : State Proc) → IsPiece program slice s p r t
+    pub kept_more : (number : ℕ) (p : Place) → slice_get ps number ≡ Some p → (slice : ℕ) (spare : Bool) (r : Piece) (t : State Proc) → IsPiece program slice spare s p r t
         → (js : List Turn) → js ≡ hs ++ record { number = number; steps = r.steps } ∷ [] → (qs : List Place) → qs ≡ ps ++ child_places p r.block 1 r.started → (sum : ℕ) → sum ≡ paid + r.cost → IsPlayedBy program js qs t sum
-    kept_more number p who slice r t piece js js_is qs qs_is sum sum_is =
+    kept_more number p who slice spare r t piece js js_is qs qs_is sum sum_is =
         let cs = kept.choices in
         let ds = replicate r.steps p in
         let turn : Turn = record { number = number; steps = r.steps } in
@@ -154,7 +154,7 @@ module _ (program : Program) where
 
   -- ---- the end
 
-  started_all : (hs : List Turn) (ps : List Place) (s : State Proc) (paid : ℕ) → IsPlayedBy program hs ps s paid → (p : Place) (x : Proc) → get s.procs p ≡ Some x → (n : ℕ) × (slice_get ps n ≡ Some p)
+  pub started_all : (hs : List Turn) (ps : List Place) (s : State Proc) (paid : ℕ) → IsPlayedBy program hs ps s paid → (p : Place) (x : Proc) → get s.procs p ≡ Some x → (n : ℕ) × (slice_get ps n ≡ Some p)
   started_all hs ps s paid kept p x is =
       let at = everybody (language program) (first_proc program) kept.choices kept.legal p x (ap (λ (u : State Proc). get u.procs p) kept.there ∙ is) in
       (at.0, ap (λ qs. slice_get qs at.0) kept.places_are ∙ at.1)

@@ -1,5 +1,5 @@
 -- Several facts of one result.
-use Rattle.std.specs.Prelude.{Result, Ok, Err, IfOk, OnOk}
+use Rattle.std.specs.Prelude.{Result, Ok, Err, IfOk, OnErr, OnOk}
 
 pub on_ok_both : {T E : Type 0} {A B C D : Type 0} (r : Result T E) → OnOk r A → OnOk r B → OnOk r C → (A → B → C → D) → OnOk r D
 on_ok_both (Ok x) a b c f = f a b c
@@ -8,6 +8,10 @@ on_ok_both (Err e) a b c f = tt
 pub if_ok_both : {T E : Type 0} {A B : Type 0} {C D : T → Type 0} (r : Result T E) → OnOk r A → OnOk r B → IfOk r C → ((x : T) → A → B → C x → D x) → IfOk r D
 if_ok_both (Ok x) a b c f = f x a b c
 if_ok_both (Err e) a b c f = tt
+
+pub on_ok_one : {T E : Type 0} {A B : Type 0} (r : Result T E) → OnOk r A → (A → B) → OnOk r B
+on_ok_one (Ok x) a f = f a
+on_ok_one (Err e) a f = tt
 
 pub on_ok_two : {T E : Type 0} {A B D : Type 0} (r : Result T E) → OnOk r A → OnOk r B → (A → B → D) → OnOk r D
 on_ok_two (Ok x) a b f = f a b
@@ -32,3 +36,15 @@ on_ok_seven (Err e) a b c d f g h i = tt
 pub on_ok_six : {T E : Type 0} {A B C D F G H : Type 0} (r : Result T E) → OnOk r A → OnOk r B → OnOk r C → OnOk r D → OnOk r F → OnOk r G → (A → B → C → D → F → G → H) → OnOk r H
 on_ok_six (Ok x) a b c d f g h = h a b c d f g
 on_ok_six (Err e) a b c d f g h = tt
+
+pub if_ok_all : {T E : Type 0} {A B C D : T → Type 0} (r : Result T E) → IfOk r A → IfOk r B → IfOk r C → ((x : T) → A x → B x → C x → D x) → IfOk r D
+if_ok_all (Ok x) a b c f = f x a b c
+if_ok_all (Err e) a b c f = tt
+
+pub on_err_one : {T E : Type 0} {A B : Type 0} (r : Result T E) → OnErr r A → (A → B) → OnErr r B
+on_err_one (Ok x) a f = tt
+on_err_one (Err e) a f = f a
+
+pub on_err : {T E P : Type 0} (r : Result T E) → P → OnErr r P
+on_err (Ok x) p = tt
+on_err (Err e) p = p

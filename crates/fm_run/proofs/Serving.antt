@@ -21,6 +21,7 @@ use Rattle.fm_mean.specs.Process.{Proc}
 use Rattle.fm_mean.specs.Steps.{language, step}
 use Rattle.fm_run.specs.Noted.{AreNoted, AreNotedBut, AreParents, IsNoted, OwnOrLeft}
 use Rattle.fm_run.specs.Orders.{Among, AreMarked, can_at, can_in, newly, others_in, ready_after}
+use Rattle.fm_run.specs.Entries.{turn_of}
 use Rattle.fm_run.specs.Runs.{AreAble, IsEntry, IsPlayedBy, place_of, steps_of}
 use Rattle.fm_run.proofs.Becomes.{all_candidates, all_there, noted_after, one_number, others_can}
 use Rattle.fm_run.proofs.Playing.{kept_owned}
@@ -131,8 +132,8 @@ module _ (program : Program) (s : State Proc) (places : List Place) (own : ℕ) 
 
 -- ---- a piece
 
-module _ (program : Program) (slice number : ℕ) (s t : State Proc) (places later_places : List Place) (hs later_hs : List Turn) (paid : ℕ) (kept : IsPlayedBy program hs places s paid)
-    (entry : IsEntry program slice number s places hs t later_places later_hs) (able : List ℕ) (exact : AreAble program s places able) (among : Among number able)
+module _ (program : Program) (number steps : ℕ) (s t : State Proc) (places later_places : List Place) (hs later_hs : List Turn) (paid : ℕ) (kept : IsPlayedBy program hs places s paid)
+    (entry : IsEntry program (turn_of number steps) s places hs t later_places later_hs) (able : List ℕ) (exact : AreAble program s places able) (among : Among number able)
     (old new : Channels) (of_old : chans_of old ≡ s.chans) (of_new : chans_of new ≡ t.chans) (waking : WakesAll old new) (noted : AreNoted program s old places) where
   there_at : (o : Option Place) → slice_get places number ≡ o → can_in program s o ≡ true → (p : Place) × (slice_get places number ≡ Some p)
   there_at None e can = absurd (cc can)
@@ -144,14 +145,11 @@ module _ (program : Program) (slice number : ℕ) (s t : State Proc) (places lat
   abbrev own_place : Place
   own_place = own_at.0
 
-  abbrev steps : ℕ
-  steps = entry.entry.steps
-
-  placed : place_of places entry.entry ≡ own_place
-  placed = get_or_from_slice_get places entry.entry.number own_place [] (ap (slice_get places) entry.number_is ∙ own_at.1)
+  placed : place_of places (turn_of number steps) ≡ own_place
+  placed = get_or_from_slice_get places number own_place [] own_at.1
 
   legal : IsLegal (step program) s (replicate steps own_place)
-  legal = subst (λ (p : Place). IsLegal (step program) s (replicate steps p)) placed entry.full.can
+  legal = subst (λ (p : Place). IsLegal (step program) s (replicate steps p)) placed entry.can
 
   played_to : play (step program) s (replicate steps own_place) ≡ t
   played_to = ap (λ (p : Place). play (step program) s (replicate steps p)) (sym placed) ∙ sym entry.state_is
@@ -160,7 +158,7 @@ module _ (program : Program) (slice number : ℕ) (s t : State Proc) (places lat
   owned = kept_owned program hs places s paid kept
 
   abbrev more : List Place
-  more = starts_along (language program) s (steps_of places entry.entry)
+  more = starts_along (language program) s (steps_of places (turn_of number steps))
 
   -- it has the same number still
   pub stands_later : (q : Place) → slice_get places number ≡ Some q → slice_get later_places number ≡ Some q

@@ -45,17 +45,24 @@ is_local_at program s p = is_local_in program (get s.procs p)
 abbrev pub after_steps : Program → State Proc → Place → (steps : ℕ) → State Proc
 after_steps program s p n = play (step program) s (replicate n p)
 
--- so many steps of one process are all that a slice lets it do: it can make them, there are no more than
--- the slice, and all before the last one are local; and they are the whole slice, or the last one isn't
--- local (an event, an end or a fault), or the process can't step behind them
-pub record IsFull (program : Program) (slice : ℕ) (s : State Proc) (p : Place) (steps : ℕ) : Type 0 where
+-- the most steps of a piece: the slice's, and where it has one to spare, one more
+abbrev pub most_steps : (slice : ℕ) → (spare : Bool) → ℕ
+most_steps slice true = slice + 1
+most_steps slice false = slice
+
+-- so many steps of one process are all that a slice lets it do: it can make them, and all before the last one
+-- are local. It made the whole slice, and with a step to spare the next one is local; or the last one isn't local
+-- (an event, an end or a fault), be it the spare one; or within the slice it came to where it can't step
+pub record IsFull (program : Program) (slice : ℕ) (spare : Bool) (s : State Proc) (p : Place) (steps : ℕ) : Type 0 where
   pub can : IsLegal (step program) s (replicate steps p)
-  pub within : steps ≤ slice
+  pub within : steps ≤ most_steps slice spare
   pub before : (k : ℕ) → k + 1 < steps → is_local_at program (after_steps program s p k) p ≡ true
-  pub stops : (steps ≡ slice) ⊎ (((k : ℕ) × (steps ≡ k + 1) × (is_local_at program (after_steps program s p k) p ≡ false)) ⊎ (step program (after_steps program s p steps) p ≡ None))
+  pub stops : ((steps ≡ slice) × (spare ≡ true → is_local_at program (after_steps program s p steps) p ≡ true))
+      ⊎ (((k : ℕ) × (steps ≡ k + 1) × (is_local_at program (after_steps program s p k) p ≡ false))
+      ⊎ ((steps ≤ slice) × (step program (after_steps program s p steps) p ≡ None)))
 
 -- a full piece of one step or more
-pub record IsPiece (program : Program) (slice : ℕ) (s : State Proc) (p : Place) (r : Piece) (t : State Proc) : Type 0 where
+pub record IsPiece (program : Program) (slice : ℕ) (spare : Bool) (s : State Proc) (p : Place) (r : Piece) (t : State Proc) : Type 0 where
   pub makes : Makes program s p r.steps t r.cost (child_places p r.block 1 r.started)
   pub some_steps : 1 ≤ r.steps
-  pub full : IsFull program slice s p r.steps
+  pub full : IsFull program slice spare s p r.steps

@@ -3,6 +3,8 @@
 use Rattle.std.specs.Prelude.{◌≡◌, ℕ, suc, ◌<◌, ◌≤◌, Bool, true, Option, Some, List, [], ◌∷◌, ◌++◌, length, replicate, slice_get, slice_index_or}
 use Rattle.fm_base.specs.declared.schedule.Turn.{Turn}
 use Rattle.fm_chan.specs.declared.channels.Channels.{Channels}
+use Rattle.fm_chan.specs.Bodies.{chans_of}
+use Rattle.fm_chan.specs.Woken.{WakesAll}
 use Rattle.fm_sched.specs.Schedule.{play, used, IsLegal, IsFinal}
 use Rattle.fm_net.specs.Machine.{Place, State}
 use Rattle.fm_rules.specs.declared.program.Program.{Program}
@@ -13,6 +15,7 @@ use Rattle.fm_mean.specs.Outcome.{outcome_of}
 use Rattle.fm_run.specs.declared.run.Ending.{Ending}
 use Rattle.fm_run.specs.declared.run.Ending.TheVariants.{Ended, Spent}
 use Rattle.fm_run.specs.declared.run.Run.{Run}
+use Rattle.fm_run.specs.Entries.{turn_of}
 use Rattle.fm_run.specs.Noted.{AreNoted, AreParents}
 use Rattle.fm_run.specs.Orders.{Among, AreMarked, EachOnce, places_of, can_at, chosen, ready_first, ready_after}
 use Rattle.fm_run.specs.Pieces.{IsFull}
@@ -93,10 +96,10 @@ after_entries program a [] = a
 after_entries program a (t ∷ ts) = after_entries program (after_entry program a t) ts
 
 -- the entry is of the process that the choice tells among those that can step, or without a choice of
--- the first one, and its piece is full
+-- the first one, and its piece is full: the slice's local steps, and one more where that isn't local
 pub record IsNext (program : Program) (slice : ℕ) (choice : Option ℕ) (a : Stand) (t : Turn) : Type 0 where
   pub who : chosen choice a.able ≡ Some t.number
-  pub full : IsFull program slice a.state (place_of a.places t) t.steps
+  pub full : IsFull program slice true a.state (place_of a.places t) t.steps
 
 -- each entry from the n-th on, from 0, is the one that the n-th choice tells
 abbrev pub FollowsFrom : Program → (slice : ℕ) → (choices : List ℕ) → (n : ℕ) → Stand → List Turn → Type 0
@@ -108,14 +111,38 @@ FollowsFrom program slice choices n a (t ∷ ts) = IsNext program slice (slice_g
 abbrev pub Follows : Program → (slice : ℕ) → (choices : List ℕ) → List Turn → Type 0
 Follows program slice choices history = FollowsFrom program slice choices 0 (first_stand program) history
 
--- an entry more, of this process
-pub record IsEntry (program : Program) (slice number : ℕ) (s : State Proc) (places : List Place) (history : List Turn) (later : State Proc) (later_places : List Place) (later_history : List Turn) : Type 0 where
-  pub entry : Turn
-  pub history_is : later_history ≡ history ++ entry ∷ []
-  pub number_is : entry.number ≡ number
-  pub full : IsFull program slice s (place_of places entry) entry.steps
-  pub state_is : later ≡ play (step program) s (steps_of places entry)
-  pub places_are : later_places ≡ places ++ starts_along (language program) s (steps_of places entry)
+-- an entry more: its process can make its steps, and they lead there
+pub record IsEntry (program : Program) (t : Turn) (s : State Proc) (places : List Place) (history : List Turn) (later : State Proc) (later_places : List Place) (later_history : List Turn) : Type 0 where
+  pub history_is : later_history ≡ history ++ t ∷ []
+  pub can : IsLegal (step program) s (steps_of places t)
+  pub state_is : later ≡ play (step program) s (steps_of places t)
+  pub places_are : later_places ≡ places ++ starts_along (language program) s (steps_of places t)
+
+-- so many steps of a process that it can make, and they lead there
+pub record AreMade (program : Program) (number steps : ℕ) (s : State Proc) (places : List Place) (later : State Proc) (later_places : List Place) : Type 0 where
+  pub can : IsLegal (step program) s (steps_of places (turn_of number steps))
+  pub state_is : later ≡ play (step program) s (steps_of places (turn_of number steps))
+  pub places_are : later_places ≡ places ++ starts_along (language program) s (steps_of places (turn_of number steps))
+
+-- behind an entry of this process, before it was looked who can step: where the run came from, which was told whole, and the entry;
+-- so many processes were there before it
+pub record IsMoved (program : Program) (number before : ℕ) (later : State Proc) (later_places : List Place) (channels : Channels) (later_history : List Turn) (parents : List ℕ) (marks : List Bool) (able : List ℕ) (paid : ℕ) : Type 0 where
+  pub state : State Proc
+  pub places : List Place
+  pub history : List Turn
+  pub spent : ℕ
+  pub old : Channels
+  pub steps : ℕ
+  pub kept : IsPlayedBy program history places state spent
+  pub exact : AreAble program state places able
+  pub among : Among number able
+  pub noted : AreNoted program state old places
+  pub old_chans : chans_of old ≡ state.chans
+  pub entry : IsEntry program (turn_of number steps) state places history later later_places later_history
+  pub kept_later : IsPlayedBy program later_history later_places later paid
+  pub waking : WakesAll old channels
+  pub counted : before ≡ length places
+  pub numbered : AreNumbered later_places parents marks able
 
 -- the choices end the program within its turns and with this outcome, or cost more than these
 abbrev pub EndsSo : Program → (turns : ℕ) → (choices : List Place) → Ending → Type 0

@@ -24,7 +24,7 @@ use std::alloc::Global;
 // All who were woken. Nobody is then any more.
 fn take_woken<N: Net>(alloc: Global, net: &mut N) -> Result<Vec<u32>, NoMemory>
     ensures order { OnOk result (N.order net.new ≡ N.order net.old) }
-    ensures history { OnOk result (N.history net.new ≡ N.history net.old) }
+    ensures history { N.history net.new ≡ N.history net.old }
     ensures state { OnOk result ((p : declared.Program) → N.state p net.new ≡ N.state p net.old) }
     ensures sound { OnOk result ((p : declared.Program) → N.IsSound p net.old → N.IsSound p net.new) }
     ensures readers { OnOk result ((c : declared_channel.ChanName) → waiting_reader (N.channels net.new) c ≡ waiting_reader (N.channels net.old) c) }
@@ -126,7 +126,7 @@ pub(crate) fn candidates<N: Net>(
     before: usize,
 ) -> Result<Vec<u32>, NoMemory>
     ensures order { OnOk result (N.order net.new ≡ N.order net.old) }
-    ensures history { OnOk result (N.history net.new ≡ N.history net.old) }
+    ensures history { N.history net.new ≡ N.history net.old }
     ensures state { OnOk result ((p : declared.Program) → N.state p net.new ≡ N.state p net.old) }
     ensures sound { OnOk result ((p : declared.Program) → N.IsSound p net.old → N.IsSound p net.new) }
     ensures readers { OnOk result ((c : declared_channel.ChanName) → waiting_reader (N.channels net.new) c ≡ waiting_reader (N.channels net.old) c) }
@@ -156,7 +156,7 @@ pub(crate) fn settle<N: Net>(
     ensures queue { OnOk result (able.new.numbers.items ≡ able.old.numbers.items ++ cond (can_at program.now (N.state program.now net.old) (N.order net.old) number) (number ∷ []) []) }
     ensures marks { OnOk result ((count : ℕ) → AreMarked count able.old.marks.items able.old.numbers.items → AreMarked count able.new.marks.items able.new.numbers.items) }
     ensures order { OnOk result (N.order net.new ≡ N.order net.old) }
-    ensures history { OnOk result (N.history net.new ≡ N.history net.old) }
+    ensures history { N.history net.new ≡ N.history net.old }
     ensures state { OnOk result (N.state program.now net.new ≡ N.state program.now net.old) }
     ensures sound { OnOk result (N.IsSound program.now net.new) }
     ensures waking { OnOk result (WakesAll (N.channels net.old) (N.channels net.new)) }
@@ -181,7 +181,7 @@ fn ask<N: Net>(
     ensures queue { OnOk result (able.new.numbers.items ≡ able.old.numbers.items ++ cond ((not (number == own) && not (slice_index_or able.old.marks.items number false)) && can_at program.now (N.state program.now net.old) (N.order net.old) number) (number ∷ []) []) }
     ensures marks { OnOk result ((count : ℕ) → AreMarked count able.old.marks.items able.old.numbers.items → AreMarked count able.new.marks.items able.new.numbers.items) }
     ensures order { OnOk result (N.order net.new ≡ N.order net.old) }
-    ensures history { OnOk result (N.history net.new ≡ N.history net.old) }
+    ensures history { N.history net.new ≡ N.history net.old }
     ensures state { OnOk result (N.state program.now net.new ≡ N.state program.now net.old) }
     ensures sound { OnOk result (N.IsSound program.now net.new) }
     ensures waking { OnOk result (WakesAll (N.channels net.old) (N.channels net.new)) }
@@ -212,7 +212,7 @@ pub(crate) fn settle_all<N: Net>(
         → able.new.numbers.items ≡ others_in own old ++ filter (newly (can_at program.now (N.state program.now net.old) (N.order net.old)) own old) (range_with_len 0 (length (N.order net.old)))) }
     ensures marks { OnOk result (AreMarked (length (N.order net.old)) able.new.marks.items able.new.numbers.items) }
     ensures order { OnOk result (N.order net.new ≡ N.order net.old) }
-    ensures history { OnOk result (N.history net.new ≡ N.history net.old) }
+    ensures history { N.history net.new ≡ N.history net.old }
     ensures state { OnOk result (N.state program.now net.new ≡ N.state program.now net.old) }
     ensures sound { OnOk result (N.IsSound program.now net.new) }
     ensures noted { OnOk result (((n : ℕ) → Among n able.old.numbers.items → can_at program.now (N.state program.now net.old) (N.order net.old) n ≡ true)

@@ -1,6 +1,6 @@
 //! A net: processes and their channels in memory, whose steps are those of a program.
 
-ghost use Rattle.std.specs.Prelude.{◌≡◌, ◌≤◌, ◌++◌, ◌∷◌, ℕ, true, false, [], List, Some, length, slice_get, slice_index_or, option_to_list, IfNone, IfOk, OnOk};
+ghost use Rattle.std.specs.Prelude.{◌≡◌, ◌≤◌, ◌++◌, ◌∷◌, true, false, [], List, Some, length, slice_get, slice_index_or, option_to_list, IfNone, IfOk, OnErr, OnOk};
 ghost use Rattle.std.specs.FinMap.{get};
 ghost use Rattle.fm_base.specs.declared.path.ChanName as declared_channel;
 ghost use Rattle.fm_base.specs.declared.schedule.Turn as declared_turn;
@@ -15,11 +15,13 @@ ghost use Rattle.fm_rules.specs.declared.program.Program as declared;
 ghost use Rattle.fm_mean.specs.Outcome.{ended_at, outcome_of};
 ghost use Rattle.fm_mean.specs.Process.{Proc};
 ghost use Rattle.fm_mean.specs.Steps.{first, language, step};
+ghost use Rattle.fm_run.specs.Entries.{EndsWith, with_piece};
 ghost use Rattle.fm_run.specs.Noted.{IsNoted};
 ghost use Rattle.fm_run.specs.Orders.{can_at, places_of};
 ghost use Rattle.fm_run.specs.Pieces.{IsPiece};
 
-use fm_base::{NoMemory, Path, Turn};
+use crate::history::History;
+use fm_base::{NoMemory, Path};
 use fm_mean::Outcome;
 use fm_rules::Program;
 use std::alloc::Global;
@@ -36,6 +38,15 @@ pub struct Piece {
     pub block: u32,
     /// How many children started.
     pub started: usize,
+}
+
+/// What a piece is for.
+#[derive(Clone, Copy)]
+pub struct Kind {
+    /// Whether a step that isn't local may stand behind a slice that is used up.
+    pub spare: bool,
+    /// Whether it joins the last entry, which is of its process.
+    pub joins: bool,
 }
 
 /// What is known of the children that a process waits for.
@@ -61,7 +72,7 @@ pub trait Net: Drop {
     /// The channels, who waits at them, and who was woken.
     ghost channels: { Self → Channels };
 
-    /// The pieces, from the first on.
+    /// The entries, from the first on: each one or more pieces of a process.
     ghost history: { Self → List declared_turn.Turn };
 
     /// What holds between two pieces.
@@ -78,27 +89,31 @@ pub trait Net: Drop {
     fn count(&self) -> usize
         ensures { result ≡ length (order self.now) };
 
-    /// The number of pieces.
+    /// The number of entries.
     fn pieces(&self) -> usize
         ensures { result ≡ length (history self.now) };
 
-    /// Makes a piece of a process, which can step: local steps, as many as `slice` at most, and then, where
-    /// an event stopped it before, that event, if it can do it; or a step that lets ports go.
+    /// Makes a piece of a process, which can step: local steps, as many as `slice` at most, and then a step that
+    /// isn't local, where it comes to one that it can make. With a step to spare this may be one more than the
+    /// slice, and without it is counted among the slice's. The piece is an entry, or joins the last one.
     fn make_piece(
         &mut self,
         alloc: Global,
         program: &Program,
         number: u32,
         slice: u32,
+        kind: Kind,
     ) -> Result<Piece, NoMemory>
         requires some { 1 ≤ slice }
+        requires joins { kind.joins ≡ true → EndsWith (history self.old) number }
         requires reached { IsReached (step program.now) (first program.now) (state program.now self.old) }
         requires sound { IsSound program.now self.old }
         requires able { can_at program.now (state program.now self.old) (order self.old) number ≡ true }
         ensures sound { OnOk result (IsSound program.now self.new) }
         ensures order { IfOk result (λ r. order self.new ≡ order self.old ++ child_places (slice_index_or (order self.old) number []) r.block 1 r.started) }
-        ensures piece { IfOk result (λ r. IsPiece program.now slice (state program.now self.old) (slice_index_or (order self.old) number []) r (state program.now self.new)) }
-        ensures history { IfOk result (λ r. history self.new ≡ history self.old ++ record { number = number; steps = r.steps } ∷ []) }
+        ensures piece { IfOk result (λ r. IsPiece program.now slice kind.spare (state program.now self.old) (slice_index_or (order self.old) number []) r (state program.now self.new)) }
+        ensures history { IfOk result (λ r. history self.new ≡ with_piece kind.joins (history self.old) number r.steps) }
+        ensures stays { OnErr result (history self.new ≡ history self.old) }
         ensures waking { OnOk result (WakesAll (channels self.old) (channels self.new)) };
 
     /// Whether the process of a number can step.
@@ -113,7 +128,7 @@ pub trait Net: Drop {
         requires sound { IsSound program.now self.old }
         requires waits { can_at program.now (state program.now self.old) (order self.old) number ≡ false }
         ensures order { OnOk result (order self.new ≡ order self.old) }
-        ensures history { OnOk result (history self.new ≡ history self.old) }
+        ensures history { history self.new ≡ history self.old }
         ensures state { OnOk result (state program.now self.new ≡ state program.now self.old) }
         ensures sound { OnOk result (IsSound program.now self.new) }
         ensures noted { OnOk result ((q : Place) (x : Proc) → slice_get (order self.old) number ≡ Some q → get (state program.now self.old).procs q ≡ Some x → IsNoted program.now (channels self.new) number x) }
@@ -144,9 +159,9 @@ pub trait Net: Drop {
         requires main { slice_get (order self.now) 0 ≡ Some [] }
         ensures { IfOk result (λ o. o ≡ outcome_of program.now used (state program.now self.now)) };
 
-    /// The pieces, and the paths of the processes.
-    fn into_parts(self) -> (Vec<Turn>, Vec<Arc<Path>>)
-        ensures history { result.0.items ≡ history self }
+    /// The entries, and the paths of the processes.
+    fn into_parts(self) -> (History, Vec<Arc<Path>>)
+        ensures history { result.0 ≡ history self }
         ensures paths { places_of result.1.items ≡ order self };
 
     /// The state has these channels.

@@ -1,6 +1,6 @@
 //! Who can step, and in which order they are served.
 
-ghost use Rattle.std.specs.Prelude.{◌≡◌, ◌<◌, ◌≤◌, ◌++◌, ◌∷◌, ◌==◌, ◌&&◌, ◌||◌, ℕ, not, false, [], length, slice_index_or, IfOk, OnOk};
+ghost use Rattle.std.specs.Prelude.{◌≡◌, ◌<◌, ◌≤◌, ◌++◌, ◌∷◌, ◌==◌, ◌&&◌, ◌||◌, ℕ, not, false, [], length, slice_index_or, OnOk};
 ghost use Rattle.fm_run.specs.Orders.{Among, AreMarked, EachOnce, IsPlaceOf, chosen, others_in};
 
 use fm_base::NoMemory;
@@ -10,7 +10,7 @@ use std::collections::VecDeque;
 /// The numbers of those that can step, in the order in which they are served, and a mark for each process
 /// that is among them.
 #[derive(Drop)]
-pub(crate) struct Queue {
+pub struct Queue {
     /// Who can step.
     pub numbers: VecDeque<u32>,
     /// For each process whether it's among them.

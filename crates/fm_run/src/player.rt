@@ -1,20 +1,40 @@
 //! A run as it stands between two pieces.
 
-ghost use Rattle.std.specs.Prelude.{◌≡◌, ◌∷◌, ◌+◌, ℕ, ◌<◌, ◌≤◌, true, [], length, slice_get, IfOk, OnOk};
-ghost use Rattle.fm_run.specs.Orders.{Among, can_at, chosen, ready_after};
-ghost use Rattle.fm_run.specs.Runs.{AreNumbered, IsFrontWithin, IsPlayedBy, IsPlayed, IsEntry, first_stand, stand_at};
+ghost use Rattle.std.specs.Prelude.{◌≡◌, ◌+◌, ℕ, ◌<◌, ◌≤◌, true, false, [], length, slice_get, slice_index_or, IfOk, OnErr, OnOk};
+ghost use Rattle.fm_run.specs.Orders.{Among, AreMarked, can_at, chosen, is_among, ready_after};
+ghost use Rattle.fm_run.specs.Pieces.{IsFull};
+ghost use Rattle.fm_run.specs.Entries.{EndsWith, MayHaveEntry, MayHavePiece, turn_of, with_piece};
+ghost use Rattle.fm_run.specs.Runs.{AreMade, AreNumbered, IsFrontWithin, IsMoved, IsPlayedBy, IsPlayed, IsEntry, first_stand, stand_at};
 ghost use Rattle.fm_chan.specs.Woken.{WakesAll};
 
 use crate::becoming::{candidates, keep_count, settle, settle_all};
-use crate::net::Net;
+use crate::net::{Kind, Net};
 use crate::orders::{Queue, chosen};
 use fm_base::NoMemory;
 use fm_rules::Program;
 use std::alloc::Global;
 
+/// A piece with a step to spare, an entry of its own.
+const WHOLE: Kind = Kind {
+    spare: true,
+    joins: false,
+};
+
+/// A piece of so many steps at most, an entry of its own.
+const PART: Kind = Kind {
+    spare: false,
+    joins: false,
+};
+
+/// A piece of so many steps at most, which joins the last entry.
+const JOINED: Kind = Kind {
+    spare: false,
+    joins: true,
+};
+
 /// A run between two pieces.
 #[derive(Drop)]
-pub(crate) struct Player<N> {
+pub struct Player<N> {
     /// The processes, channels and pieces.
     pub net: N,
     /// For each process the number of the one that started it, and for main its own.
@@ -60,6 +80,22 @@ impl<N: Net> Player<N> {
         })
     }
 
+    /// The number of the process at the place of a choice among those that can step, modulo their number, and
+    /// without a choice that of the first one. None where no process can step.
+    pub fn choose(&self, choice: Option<u64>) -> Option<u32>
+        ensures { result ≡ chosen choice self.now.able.numbers.items }
+    {
+        chosen(&self.able.numbers, choice)
+    }
+
+    /// Whether the process of a number can step.
+    pub fn is_able(&self, number: u32) -> bool
+        requires { (count : ℕ) × AreMarked count self.now.able.marks.items self.now.able.numbers.items × ((n : ℕ) → Among n self.now.able.numbers.items → n < count) }
+        ensures { result ≡ is_among self.now.able.numbers.items number }
+    {
+        self.able.contains(number)
+    }
+
     /// The number of the process that makes the next piece: the one that the next choice tells, or the
     /// first one when the choices are used up. None where no process can step.
     pub fn next(&self, choices: &[u64]) -> Option<u32>
@@ -69,15 +105,53 @@ impl<N: Net> Player<N> {
         chosen(&self.able.numbers, choice)
     }
 
-    // Makes a piece of a process, which the net keeps.
+    // Makes a piece of a process, which the net keeps: how many steps it has.
     fn keep_piece(
         &mut self,
         alloc: Global,
         program: &Program,
         number: u32,
         slice: u32,
-    ) -> Result<(), NoMemory>
+        kind: Kind,
+    ) -> Result<u32, NoMemory>
         requires some { 1 ≤ slice }
+        requires sound { N.IsSound program.now self.old.net }
+        requires kept { IsPlayedBy program.now (N.history self.old.net) (N.order self.old.net) (N.state program.now self.old.net) self.old.used }
+        requires able { can_at program.now (N.state program.now self.old.net) (N.order self.old.net) number ≡ true }
+        requires within { (n : ℕ) → Among n self.old.able.numbers.items → n < length (N.order self.old.net) }
+        requires numbered { AreNumbered (N.order self.old.net) self.old.parents.items self.old.able.marks.items self.old.able.numbers.items }
+        requires joins { kind.joins ≡ true → EndsWith (N.history self.old.net) number }
+        ensures sound { OnOk result (N.IsSound program.now self.new.net) }
+        ensures kept { OnOk result (IsPlayedBy program.now (N.history self.new.net) (N.order self.new.net) (N.state program.now self.new.net) self.new.used) }
+        ensures used { OnOk result (self.old.used < self.new.used) }
+        ensures history { IfOk result (λ steps. N.history self.new.net ≡ with_piece kind.joins (N.history self.old.net) number steps) }
+        ensures made { IfOk result (λ steps. AreMade program.now number steps (N.state program.now self.old.net) (N.order self.old.net) (N.state program.now self.new.net) (N.order self.new.net)) }
+        ensures full { IfOk result (λ steps. IsFull program.now slice kind.spare (N.state program.now self.old.net) (slice_index_or (N.order self.old.net) number []) steps) }
+        ensures some_steps { IfOk result (λ steps. 1 ≤ steps) }
+        ensures able { OnOk result (self.new.able.numbers.items ≡ self.old.able.numbers.items) }
+        ensures numbered { OnOk result (AreNumbered (N.order self.new.net) self.new.parents.items self.new.able.marks.items self.new.able.numbers.items) }
+        ensures waking { OnOk result (WakesAll (N.channels self.old.net) (N.channels self.new.net)) }
+        ensures stays { OnErr result (MayHavePiece kind.joins number (N.history self.old.net) (N.history self.new.net)) }
+    {
+        let piece = self.net.make_piece(alloc, program, number, slice, kind)?;
+        let count = self.net.count();
+        self.parents.resize(count, number)?;
+        self.ended.resize(count, 0)?;
+        keep_count(&mut self.ended, number, 0);
+        self.able.grow(count)?;
+        self.used = both(self.used, piece.cost)?;
+        Ok(piece.steps)
+    }
+
+    // Makes steps of a process that can step, as many as asked for at most, as one entry: how many there were.
+    fn keep_steps(
+        &mut self,
+        alloc: Global,
+        program: &Program,
+        number: u32,
+        steps: u32,
+    ) -> Result<u32, NoMemory>
+        requires some { 1 ≤ steps }
         requires sound { N.IsSound program.now self.old.net }
         requires kept { IsPlayedBy program.now (N.history self.old.net) (N.order self.old.net) (N.state program.now self.old.net) self.old.used }
         requires able { can_at program.now (N.state program.now self.old.net) (N.order self.old.net) number ≡ true }
@@ -86,45 +160,44 @@ impl<N: Net> Player<N> {
         ensures sound { OnOk result (N.IsSound program.now self.new.net) }
         ensures kept { OnOk result (IsPlayedBy program.now (N.history self.new.net) (N.order self.new.net) (N.state program.now self.new.net) self.new.used) }
         ensures used { OnOk result (self.old.used < self.new.used) }
-        ensures front { OnOk result ((turns : ℕ) → self.old.used ≤ turns → IsFrontWithin program.now turns (N.history self.new.net) (N.order self.new.net)) }
-        ensures entry { OnOk result (IsEntry program.now slice number (N.state program.now self.old.net) (N.order self.old.net) (N.history self.old.net) (N.state program.now self.new.net) (N.order self.new.net) (N.history self.new.net)) }
+        ensures entry { IfOk result (λ done. IsEntry program.now (turn_of number done) (N.state program.now self.old.net) (N.order self.old.net) (N.history self.old.net) (N.state program.now self.new.net) (N.order self.new.net) (N.history self.new.net)) }
+        ensures some_steps { IfOk result (λ done. 1 ≤ done) }
+        ensures few { IfOk result (λ done. done ≤ steps) }
+        ensures stops { IfOk result (λ done. done < steps → can_at program.now (N.state program.now self.new.net) (N.order self.new.net) number ≡ false) }
         ensures able { OnOk result (self.new.able.numbers.items ≡ self.old.able.numbers.items) }
         ensures numbered { OnOk result (AreNumbered (N.order self.new.net) self.new.parents.items self.new.able.marks.items self.new.able.numbers.items) }
         ensures waking { OnOk result (WakesAll (N.channels self.old.net) (N.channels self.new.net)) }
+        ensures stays { OnErr result (MayHaveEntry (N.history self.old.net) (N.history self.new.net)) }
     {
-        let piece = self.net.make_piece(alloc, program, number, slice)?;
-        let count = self.net.count();
-        self.parents.resize(count, number)?;
-        self.ended.resize(count, 0)?;
-        keep_count(&mut self.ended, number, 0);
-        self.able.grow(count)?;
-        self.used = both(self.used, piece.cost)?;
-        Ok(())
+        let mut done = self.keep_piece(alloc, program, number, steps, PART)?;
+        'pieces: while done < steps {
+            if !self.net.can_step(program, number)? {
+                return Ok(done);
+            }
+            let more = self.keep_piece(alloc, program, number, steps - done, JOINED)?;
+            done += more;
+        }
+        Ok(done)
     }
 
-    /// Makes a piece of a process that can step, of `slice` steps at most, and looks who can step then.
-    ///
-    /// After want of memory the run isn't to be used any more.
-    pub fn play(
+    // Looks who can step, behind an entry of a process: `before` tells how many processes there were before it.
+    fn serve(
         &mut self,
         alloc: Global,
         program: &Program,
         number: u32,
-        slice: u32,
+        before: usize,
     ) -> Result<(), NoMemory>
-        requires some { 1 ≤ slice }
         requires sound { N.IsSound program.now self.old.net }
-        requires played { IsPlayed program.now (stand_at (N.state program.now self.old.net) (N.order self.old.net) self.old.able.numbers.items) (N.channels self.old.net) (N.history self.old.net) self.old.parents.items self.old.able.marks.items self.old.used }
-        requires able { Among number self.old.able.numbers.items }
+        requires moved { IsMoved program.now number before (N.state program.now self.old.net) (N.order self.old.net) (N.channels self.old.net) (N.history self.old.net) self.old.parents.items self.old.able.marks.items self.old.able.numbers.items self.old.used }
         ensures sound { OnOk result (N.IsSound program.now self.new.net) }
         ensures played { OnOk result (IsPlayed program.now (stand_at (N.state program.now self.new.net) (N.order self.new.net) self.new.able.numbers.items) (N.channels self.new.net) (N.history self.new.net) self.new.parents.items self.new.able.marks.items self.new.used) }
-        ensures used { OnOk result (self.old.used < self.new.used) }
-        ensures front { OnOk result ((turns : ℕ) → self.old.used ≤ turns → IsFrontWithin program.now turns (N.history self.new.net) (N.order self.new.net)) }
-        ensures entry { OnOk result (IsEntry program.now slice number (N.state program.now self.old.net) (N.order self.old.net) (N.history self.old.net) (N.state program.now self.new.net) (N.order self.new.net) (N.history self.new.net)) }
-        ensures able { OnOk result (self.new.able.numbers.items ≡ ready_after program.now (N.state program.now self.new.net) (N.order self.new.net) self.old.able.numbers.items number) }
+        ensures used { self.new.used ≡ self.old.used }
+        ensures state { OnOk result (N.state program.now self.new.net ≡ N.state program.now self.old.net) }
+        ensures order { OnOk result (N.order self.new.net ≡ N.order self.old.net) }
+        ensures history { N.history self.new.net ≡ N.history self.old.net }
+        ensures able { OnOk result (self.new.able.numbers.items ≡ ready_after program.now (N.state program.now self.old.net) (N.order self.old.net) self.old.able.numbers.items number) }
     {
-        let before = self.net.count();
-        self.keep_piece(alloc, program, number, slice)?;
         self.able.leave(number);
         let parents = self.parents.as_slice();
         let asked = candidates(
@@ -143,5 +216,68 @@ impl<N: Net> Player<N> {
             asked.as_slice(),
         )?;
         settle(&mut self.net, program, &mut self.able, number)
+    }
+
+    /// Makes a piece of a process that can step: `slice` local steps at most, and one step more where that isn't
+    /// local and the process can make it. Looks who can step then. Answers how many steps the piece has.
+    ///
+    /// After want of memory the run isn't to be used any more.
+    pub fn play(
+        &mut self,
+        alloc: Global,
+        program: &Program,
+        number: u32,
+        slice: u32,
+    ) -> Result<u32, NoMemory>
+        requires some { 1 ≤ slice }
+        requires sound { N.IsSound program.now self.old.net }
+        requires played { IsPlayed program.now (stand_at (N.state program.now self.old.net) (N.order self.old.net) self.old.able.numbers.items) (N.channels self.old.net) (N.history self.old.net) self.old.parents.items self.old.able.marks.items self.old.used }
+        requires able { Among number self.old.able.numbers.items }
+        ensures sound { OnOk result (N.IsSound program.now self.new.net) }
+        ensures played { OnOk result (IsPlayed program.now (stand_at (N.state program.now self.new.net) (N.order self.new.net) self.new.able.numbers.items) (N.channels self.new.net) (N.history self.new.net) self.new.parents.items self.new.able.marks.items self.new.used) }
+        ensures used { OnOk result (self.old.used < self.new.used) }
+        ensures front { OnOk result ((turns : ℕ) → self.old.used ≤ turns → IsFrontWithin program.now turns (N.history self.new.net) (N.order self.new.net)) }
+        ensures entry { IfOk result (λ steps. IsEntry program.now (turn_of number steps) (N.state program.now self.old.net) (N.order self.old.net) (N.history self.old.net) (N.state program.now self.new.net) (N.order self.new.net) (N.history self.new.net)) }
+        ensures full { IfOk result (λ steps. IsFull program.now slice true (N.state program.now self.old.net) (slice_index_or (N.order self.old.net) number []) steps) }
+        ensures some_steps { IfOk result (λ steps. 1 ≤ steps) }
+        ensures stays { OnErr result (MayHaveEntry (N.history self.old.net) (N.history self.new.net)) }
+        ensures able { OnOk result (self.new.able.numbers.items ≡ ready_after program.now (N.state program.now self.new.net) (N.order self.new.net) self.old.able.numbers.items number) }
+    {
+        let before = self.net.count();
+        let steps = self.keep_piece(alloc, program, number, slice, WHOLE)?;
+        self.serve(alloc, program, number, before)?;
+        Ok(steps)
+    }
+
+    /// Makes steps of a process that can step, as many as asked for at most, as one entry, and looks who can step then.
+    /// Answers how many there were. They are fewer only where the process can't step behind them.
+    ///
+    /// After want of memory the run isn't to be used any more.
+    pub fn play_steps(
+        &mut self,
+        alloc: Global,
+        program: &Program,
+        number: u32,
+        steps: u32,
+    ) -> Result<u32, NoMemory>
+        requires some { 1 ≤ steps }
+        requires sound { N.IsSound program.now self.old.net }
+        requires played { IsPlayed program.now (stand_at (N.state program.now self.old.net) (N.order self.old.net) self.old.able.numbers.items) (N.channels self.old.net) (N.history self.old.net) self.old.parents.items self.old.able.marks.items self.old.used }
+        requires able { Among number self.old.able.numbers.items }
+        ensures sound { OnOk result (N.IsSound program.now self.new.net) }
+        ensures played { OnOk result (IsPlayed program.now (stand_at (N.state program.now self.new.net) (N.order self.new.net) self.new.able.numbers.items) (N.channels self.new.net) (N.history self.new.net) self.new.parents.items self.new.able.marks.items self.new.used) }
+        ensures used { OnOk result (self.old.used < self.new.used) }
+        ensures front { OnOk result ((turns : ℕ) → self.old.used ≤ turns → IsFrontWithin program.now turns (N.history self.new.net) (N.order self.new.net)) }
+        ensures entry { IfOk result (λ done. IsEntry program.now (turn_of number done) (N.state program.now self.old.net) (N.order self.old.net) (N.history self.old.net) (N.state program.now self.new.net) (N.order self.new.net) (N.history self.new.net)) }
+        ensures some_steps { IfOk result (λ done. 1 ≤ done) }
+        ensures few { IfOk result (λ done. done ≤ steps) }
+        ensures stops { IfOk result (λ done. done < steps → can_at program.now (N.state program.now self.new.net) (N.order self.new.net) number ≡ false) }
+        ensures stays { OnErr result (MayHaveEntry (N.history self.old.net) (N.history self.new.net)) }
+        ensures able { OnOk result (self.new.able.numbers.items ≡ ready_after program.now (N.state program.now self.new.net) (N.order self.new.net) self.old.able.numbers.items number) }
+    {
+        let before = self.net.count();
+        let done = self.keep_steps(alloc, program, number, steps)?;
+        self.serve(alloc, program, number, before)?;
+        Ok(done)
     }
 }

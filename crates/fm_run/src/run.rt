@@ -1,6 +1,6 @@
 //! Runs a program.
 
-ghost use Rattle.std.specs.Prelude.{◌≡◌, ◌≤◌, ◌<◌, [], IfOk};
+ghost use Rattle.std.specs.Prelude.{◌≡◌, ◌≤◌, ◌<◌, IfOk};
 ghost use Rattle.fm_run.specs.Orders.{places_of};
 ghost use Rattle.fm_run.specs.Runs.{Follows, IsRun};
 
@@ -33,30 +33,19 @@ pub struct Run {
 }
 
 impl<N: Net> Player<N> {
-    fn spent(self) -> Run
-        ensures history { result.history.items ≡ N.history self.net }
-        ensures paths { places_of result.paths.items ≡ N.order self.net }
-        ensures ending { result.ending ≡ Ending.Spent }
+    // The run, which ended so.
+    fn ended(self, alloc: Global, ending: Ending) -> Result<Run, NoMemory>
+        ensures history { IfOk result (λ r. r.history.items ≡ N.history self.net) }
+        ensures paths { IfOk result (λ r. places_of r.paths.items ≡ N.order self.net) }
+        ensures ending { IfOk result (λ r. r.ending ≡ ending) }
     {
         let (history, paths) = self.net.into_parts();
-        Run {
+        let history = history.into_vec(alloc)?;
+        Ok(Run {
             history,
             paths,
-            ending: Ending::Spent,
-        }
-    }
-
-    fn ended(self, outcome: Outcome) -> Run
-        ensures history { result.history.items ≡ N.history self.net }
-        ensures paths { places_of result.paths.items ≡ N.order self.net }
-        ensures ending { result.ending ≡ Ending.Ended outcome }
-    {
-        let (history, paths) = self.net.into_parts();
-        Run {
-            history,
-            paths,
-            ending: Ending::Ended(outcome),
-        }
+            ending,
+        })
     }
 }
 
@@ -66,8 +55,9 @@ impl<N: Net> Player<N> {
 ///
 /// Those that can step stand in a queue. The one that makes its piece leaves its place; others that have
 /// become able come behind, in the order of starting, and behind them the one itself, where it can step
-/// still. A piece ends where it has `slice` steps, with an event, with the process's end or a fault, or
-/// where the process can't step. Who waits isn't asked again before it's woken.
+/// still. A piece has at most `slice` local steps, and behind them one step more where that isn't local: an event,
+/// the process's end or a fault. It ends there, or where the process can't step, or where the slice is used up and
+/// the next step is local. Who waits isn't asked again before it's woken.
 pub fn run_program<N: Net>(
     alloc: Global,
     program: &Program,
@@ -83,9 +73,9 @@ pub fn run_program<N: Net>(
     'pieces: while let Some(number) = player.next(choices) {
         player.play(alloc, program, number, slice)?;
         if player.used > turns {
-            return Ok(player.spent());
+            return player.ended(alloc, Ending::Spent);
         }
     }
     let outcome = player.net.outcome(alloc, program, player.used)?;
-    Ok(player.ended(outcome))
+    player.ended(alloc, Ending::Ended(outcome))
 }

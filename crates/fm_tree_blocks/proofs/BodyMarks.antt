@@ -15,16 +15,7 @@ use Rattle.fm_tree.specs.Blocks.{behind, counted, head_of, innermost, open_block
 use Rattle.fm_tree.specs.Layout.{closing, is_closed_by, marks_of, put_end}
 use Rattle.fm_tree.specs.Units.{body_of}
 use Rattle.fm_tree_blocks.proofs.Counts.{open_blocks-cons}
-use Rattle.fm_tree_blocks.proofs.LaidMarks.{IsFinished, IsNoWrap, onto, onto_none, onto_twice}
-
-never : true ≡ false → ⊥
-never e = absurd (cc)
-
-the_mark : (a b : EntryMark) → Some a ≡ Some b → a ≡ b
-the_mark a b e = cc
-
-the_block : (a b : Open) → Some a ≡ Some b → a ≡ b
-the_block a b e = cc
+use Rattle.fm_tree_blocks.proofs.LaidMarks.{IsFinished, IsNoWrap, onto, onto_none, onto_twice, the_block, the_mark}
 
 -- ---- what stands before the body
 

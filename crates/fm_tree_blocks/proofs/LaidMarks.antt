@@ -272,10 +272,10 @@ record IsWhole (statements : List Placed) (before : List EntryMark) : Type 0 whe
   test : IsNoTest before
   wrap : IsNoWrap (open_blocks before zero)
 
-the_mark : (a b : EntryMark) → Some a ≡ Some b → a ≡ b
+pub the_mark : (a b : EntryMark) → Some a ≡ Some b → a ≡ b
 the_mark a b e = cc
 
-the_block : (a b : Open) → Some a ≡ Some b → a ≡ b
+pub the_block : (a b : Open) → Some a ≡ Some b → a ≡ b
 the_block a b e = cc
 
 never : true ≡ false → ⊥

@@ -1,6 +1,6 @@
 -- The command set: which words are a command, and which command.
 -- Source: this profile.
-use Rattle.std.specs.Prelude.{ℕ, Bool, true, false, ◌&&◌, ◌≤◌, cond, nat_le, nat_lt, Option, Some, None, option_map, option_and_then, unwrap_or, List, [], ◌∷◌, length, take, drop, filter, slice_get, codes}
+use Rattle.std.specs.Prelude.{ℕ, Bool, true, false, ◌&&◌, ◌≤◌, cond, nat_le, nat_lt, Option, Some, None, is_none, option_map, option_and_then, unwrap_or, List, [], ◌∷◌, length, take, drop, filter, slice_get, codes}
 use Rattle.std.specs.Char.{is_ascii_digit}
 use Rattle.std.specs.List.{list_all, filter_map}
 use Rattle.std.specs.Option.{option_map_or}
@@ -187,6 +187,18 @@ setup_of s = setup_with (unwrap_or s.turns 10000000) (unwrap_or s.workers 4) (un
 abbrev pub run_with : Settings → Option Command
 run_with s = option_map (λ u. command.Run u s.vars) (setup_of s)
 
+-- a trace is the same whether the variables are asked for or not
+abbrev pub trace_with : Settings → Option Command
+trace_with s = option_map command.Trace (setup_of s)
+
+-- nothing is asked for but the variables, or nothing at all
+abbrev pub has_vars_only : Settings → Bool
+has_vars_only s = is_none s.turns && is_none s.workers && is_none s.slice && is_none s.plan
+
+-- the setup of a replay is that of its trace
+abbrev pub replay_with : Settings → Option Command
+replay_with s = cond (has_vars_only s) (Some (command.Replay s.vars)) None
+
 -- `demo` has no variables to show
 abbrev pub demo_with : ℕ → Settings → Option Command
 demo_with n s = cond s.vars None (option_map (command.Demo n) (setup_of s))
@@ -199,6 +211,14 @@ alone c (w ∷ ws) = None
 -- `run` and its options
 abbrev pub run_of : List (List ℕ) → Option Command
 run_of ws = option_and_then run_with (options_of ws)
+
+-- `trace` and its options
+abbrev pub trace_of : List (List ℕ) → Option Command
+trace_of ws = option_and_then trace_with (options_of ws)
+
+-- `replay` and its option
+abbrev pub replay_of : List (List ℕ) → Option Command
+replay_of ws = option_and_then replay_with (options_of ws)
 
 -- `make` and its number
 abbrev pub make_of : List (List ℕ) → Option Command
@@ -215,7 +235,9 @@ abbrev pub command_of : List (List ℕ) → Option Command
 command_of [] = None
 command_of (w ∷ ws) =
     cond (bytes_eq w (codes "run")) (run_of ws)
+    (cond (bytes_eq w (codes "trace")) (trace_of ws)
+    (cond (bytes_eq w (codes "replay")) (replay_of ws)
     (cond (bytes_eq w (codes "check")) (alone command.Check ws)
     (cond (bytes_eq w (codes "list")) (alone command.List ws)
     (cond (bytes_eq w (codes "make")) (make_of ws)
-    (cond (bytes_eq w (codes "demo")) (demo_of ws) None))))
+    (cond (bytes_eq w (codes "demo")) (demo_of ws) None))))))

@@ -1,7 +1,7 @@
 //! The command that words are.
 
 ghost use Rattle.std.specs.Prelude.{◌≡◌, Some, map, is_none, MatchResult};
-ghost use Rattle.fm_words.specs.Words.{run_with, demo_with, alone, run_of, make_of, demo_of, command_of};
+ghost use Rattle.fm_words.specs.Words.{run_with, trace_with, replay_with, has_vars_only, demo_with, alone, run_of, trace_of, replay_of, make_of, demo_of, command_of};
 ghost use Rattle.fm_words.specs.Fails.{is_usage, IsCause};
 
 use crate::option::number;
@@ -19,6 +19,16 @@ pub enum Command {
     Run {
         /// How the run is set up.
         setup: Setup,
+        /// Whether the report has the variables of main, and the cost.
+        vars: bool,
+    },
+    /// Checks a program, runs it and writes the trace of its run.
+    Trace {
+        /// How the run is set up.
+        setup: Setup,
+    },
+    /// Reads a trace, plays its entries and writes the report.
+    Replay {
         /// Whether the report has the variables of main, and the cost.
         vars: bool,
     },
@@ -83,6 +93,37 @@ fn run_with(settings: Settings) -> Option<Command>
     })
 }
 
+// A trace is the same whether the variables are asked for or not.
+fn trace_with(settings: Settings) -> Option<Command>
+    ensures { result ≡ trace_with settings }
+{
+    Some(Command::Trace {
+        setup: setup_of(settings)?,
+    })
+}
+
+// Whether nothing is asked for but the variables, or nothing at all.
+fn has_vars_only(settings: Settings) -> bool
+    ensures { result ≡ has_vars_only settings }
+{
+    settings.turns.is_none()
+        && settings.workers.is_none()
+        && settings.slice.is_none()
+        && settings.plan.is_none()
+}
+
+fn replay_with(settings: Settings) -> Option<Command>
+    ensures { result ≡ replay_with settings }
+{
+    if has_vars_only(settings) {
+        Some(Command::Replay {
+            vars: settings.vars,
+        })
+    } else {
+        None
+    }
+}
+
 fn demo_with(number: u64, settings: Settings) -> Option<Command>
     ensures { result ≡ demo_with number settings }
 {
@@ -132,6 +173,18 @@ fn run_of(words: &[&str]) -> Option<Command>
     run_with(options_of(words)?)
 }
 
+fn trace_of(words: &[&str]) -> Option<Command>
+    ensures { result ≡ trace_of (map (λ w. w.now) words.now) }
+{
+    trace_with(options_of(words)?)
+}
+
+fn replay_of(words: &[&str]) -> Option<Command>
+    ensures { result ≡ replay_of (map (λ w. w.now) words.now) }
+{
+    replay_with(options_of(words)?)
+}
+
 fn run(alloc: Global, words: &[&str]) -> Result<Command, WordsFail>
     ensures { MatchResult result (λ c. run_of (map (λ w. w.now) words.now) ≡ Some c) (λ e. is_usage e ≡ is_none (run_of (map (λ w. w.now) words.now))) }
 {
@@ -139,6 +192,30 @@ fn run(alloc: Global, words: &[&str]) -> Result<Command, WordsFail>
         return Err(WordsFail::Usage);
     }
     match run_with(run_values(alloc, words)?) {
+        Some(command) => Ok(command),
+        None => unreachable!(),
+    }
+}
+
+fn trace(alloc: Global, words: &[&str]) -> Result<Command, WordsFail>
+    ensures { MatchResult result (λ c. trace_of (map (λ w. w.now) words.now) ≡ Some c) (λ e. is_usage e ≡ is_none (trace_of (map (λ w. w.now) words.now))) }
+{
+    if trace_of(words).is_none() {
+        return Err(WordsFail::Usage);
+    }
+    match trace_with(run_values(alloc, words)?) {
+        Some(command) => Ok(command),
+        None => unreachable!(),
+    }
+}
+
+fn replay(alloc: Global, words: &[&str]) -> Result<Command, WordsFail>
+    ensures { MatchResult result (λ c. replay_of (map (λ w. w.now) words.now) ≡ Some c) (λ e. is_usage e ≡ is_none (replay_of (map (λ w. w.now) words.now))) }
+{
+    if replay_of(words).is_none() {
+        return Err(WordsFail::Usage);
+    }
+    match replay_with(run_values(alloc, words)?) {
         Some(command) => Ok(command),
         None => unreachable!(),
     }
@@ -178,6 +255,10 @@ pub fn words(alloc: Global, words: &[&str]) -> Result<Command, WordsFail>
     };
     if *first == "run" {
         run(alloc, behind)
+    } else if *first == "trace" {
+        trace(alloc, behind)
+    } else if *first == "replay" {
+        replay(alloc, behind)
     } else if *first == "check" {
         alone(Command::Check, behind)
     } else if *first == "list" {

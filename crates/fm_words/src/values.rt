@@ -115,7 +115,7 @@ fn settings_in(matches: &ArgMatches<'_>) -> Settings
     }
 }
 
-/// What the options of an accepted `run` ask for.
+/// What the options of an accepted `run`, `trace` or `replay` ask for. `replay` takes fewer than the parser that they share.
 pub fn run_values(alloc: Global, words: &[&str]) -> Result<Settings, WordsFail>
     requires { is_some (options_of (map (λ w. w.now) words.now)) ≡ true }
     ensures values { IfOk result (λ s. options_of (map (λ w. w.now) words.now) ≡ Some s) }

@@ -4,8 +4,10 @@ use Rattle.std.specs.Prelude.{◌≢◌, Option, Some, None, is_none, IfOk, IfEr
 use Rattle.std.specs.Io.KnownBytes.{Appends}
 use Rattle.std.proofs.lemmas.Bool.{false≢true}
 use Rattle.std.proofs.lemmas.List.{length-replicate}
+use Rattle.fm_base.specs.declared.schedule.Setup.{Setup}
 use Rattle.fm_base.specs.declared.schedule.Turn.{Turn}
 use Rattle.fm_base.specs.declared.rule.Refusal.{Refusal}
+use Rattle.fm_base.specs.Rules.{refusal_text}
 use Rattle.fm_base.specs.Verdict.{IsClean, IsRefusal}
 use Rattle.fm_base.specs.declared.rule.CheckFail.{CheckFail}
 use Rattle.fm_base.specs.declared.name.Line.{Line}
@@ -24,13 +26,19 @@ use Rattle.fm_mean.specs.declared.outcome.FaultAt.{FaultAt}
 use Rattle.fm_mean.specs.Steps.{step, first}
 use Rattle.fm_make.specs.Made.{made_text}
 use Rattle.fm_mean.proofs.Laws.{settles}
+use Rattle.fm_mean.proofs.Telling.{each_told}
 use Rattle.fm_rules.specs.declared.program.Program.{Program}
 use Rattle.fm_front.specs.Verdict.{IsBroken, IsBrokenForm, AreStatementsOf}
 use Rattle.fm_run.specs.Orders.{places_of}
-use Rattle.fm_run.specs.Runs.{EndsSo}
+use Rattle.fm_run.specs.Runs.{EndsSo, Follows}
 use Rattle.fm_run.specs.declared.run.Ending.{Ending}
 use Rattle.fm_run.specs.declared.run.Ending.TheVariants as ending
 use Rattle.fm_run.specs.declared.run.Run as run
+use Rattle.fm_table.specs.Fair.{IsFair}
+use Rattle.fm_table.proofs.SamePlaces.{run_is_fair}
+use Rattle.fm_trace.specs.Texts.{IsFirstMalformed, IsTraceText, trace_of_history, trace_text}
+use Rattle.fm_trace.specs.declared.trace.Trace.{Trace}
+use Rattle.fm_trace.proofs.MalformedLaws.{no_line_of_a_trace, one_trace_text}
 use Rattle.fm_words.specs.Words.{command_of}
 use Rattle.fm_words.specs.declared.command.Command.{Command}
 use Rattle.fm_words.specs.declared.command.Command.TheVariants as command
@@ -39,7 +47,9 @@ use Rattle.fmc.specs.declared.answer.Exit.TheVariants.{Done, Faulted, Deadlocked
 use Rattle.fmc.specs.declared.answer.Reply.{Reply}
 use Rattle.fmc.specs.Exits.{is_end, is_decided, is_of_reading}
 use Rattle.fmc.specs.Listing.{listed_text}
-use Rattle.fmc.specs.Answer.{Answers, HasGround, Says, SaysRun, SaysMade, IsListOf, SaysTold, Tells, TellsList, TellsDeterminism, IsFirstRaceOf, determinism_text, SaysOf, IsHistoryIn, IsHistoryOf, IsEnded, IsUnplayed, IsNoHistory, HasHistory, IsAccepted, IsReady, IsRefusedBy, IsRefusedFor, IsCompleted, IsRefusedExit, IsTooLongExit, IsPlayedExit, are_reading, is_reading, report_by, source_limit, summary_by, usage_text, exit_by, exit_of, cost_of}
+use Rattle.fmc.specs.Outcomes.{IsAccepted, IsRefusedFor, IsUnplayed, cost_of, exit_by, exit_of, source_limit, usage_text}
+use Rattle.fmc.specs.Replay.{IsTooLongTrace, IsTraceOf, SaysReplay, trace_limit}
+use Rattle.fmc.specs.Answer.{Answers, Asked, HasGround, Says, SaysRun, SaysMade, SaysTrace, IsListOf, SaysTold, TellsList, TellsDeterminism, IsFirstRaceOf, determinism_text, SaysOf, IsHistoryIn, IsHistoryOf, IsEnded, IsNoHistory, HasHistory, IsReady, IsRefusedBy, IsCompleted, IsMalformedBy, IsMalformedExit, IsRefusedExit, IsTooLongBy, IsTooLongExit, IsPlayedExit, are_reading, is_reading, limit_of, report_asked, summary_asked, trace_asked}
 use Rattle.fmc.specs.Reply.{bytes_of, places_in, IsReply, IsReplyFor, IsReplyOf, IsRunOf, exit_in, text_in}
 
 -- Replies from what the parts give.
@@ -71,35 +81,35 @@ pub list_refused : {V : Type 0} (b : List ℕ) (ss : List Placed) (r : Result V 
 list_refused b ss (Ok v) form read h = tt
 list_refused b ss (Err e) form read h = h b read form
 
-end_by : (fs : List FaultAt) (b : Bool) → is_end (exit_by fs b) ≡ true
+pub end_by : (fs : List FaultAt) (b : Bool) → is_end (exit_by fs b) ≡ true
 end_by [] true = refl
 end_by [] false = refl
 end_by (f ∷ fs) b = refl
 
-ended_says : (b : List ℕ) (turns : ℕ) (tells : Tells) (exit : Exit) (h : List Turn) (ps : List Place) (t : List ℕ) → is_end exit ≡ true → IsEnded b turns tells exit h ps t → SaysRun turns tells b exit h ps t
-ended_says b turns tells Done h ps t e k = k
-ended_says b turns tells Faulted h ps t e k = k
-ended_says b turns tells Deadlocked h ps t e k = k
-ended_says b turns tells Refused h ps t e k = absurd (false≢true e)
-ended_says b turns tells Spent h ps t e k = absurd (false≢true e)
-ended_says b turns tells Usage h ps t e k = absurd (false≢true e)
-ended_says b turns tells ReadFault h ps t e k = absurd (false≢true e)
-ended_says b turns tells WriteFault h ps t e k = absurd (false≢true e)
-ended_says b turns tells NoMemory h ps t e k = absurd (false≢true e)
-ended_says b turns tells TooLong h ps t e k = absurd (false≢true e)
-ended_says b turns tells Malformed h ps t e k = absurd (false≢true e)
-ended_says b turns tells Illegal h ps t e k = absurd (false≢true e)
-ended_says b turns tells Unfinished h ps t e k = absurd (false≢true e)
+ended_says : (b : List ℕ) (asked : Asked) (exit : Exit) (h : List Turn) (ps : List Place) (t : List ℕ) → is_end exit ≡ true → IsEnded b asked exit h ps t → SaysRun asked b exit h ps t
+ended_says b asked Done h ps t e k = k
+ended_says b asked Faulted h ps t e k = k
+ended_says b asked Deadlocked h ps t e k = k
+ended_says b asked Refused h ps t e k = absurd (false≢true e)
+ended_says b asked Spent h ps t e k = absurd (false≢true e)
+ended_says b asked Usage h ps t e k = absurd (false≢true e)
+ended_says b asked ReadFault h ps t e k = absurd (false≢true e)
+ended_says b asked WriteFault h ps t e k = absurd (false≢true e)
+ended_says b asked NoMemory h ps t e k = absurd (false≢true e)
+ended_says b asked TooLong h ps t e k = absurd (false≢true e)
+ended_says b asked Malformed h ps t e k = absurd (false≢true e)
+ended_says b asked Illegal h ps t e k = absurd (false≢true e)
+ended_says b asked Unfinished h ps t e k = absurd (false≢true e)
 
 -- a schedule that costs more than the turns: each one that ends costs as much or more
 spent_too : (program : Program) (turns : ℕ) (cs others : List Place) → IsLegal (step program) (first program) cs → turns < cost_of program cs → Settles (step program) (first program) others → turns < cost_of program others
 spent_too program turns cs others legal over all = omega (arith, over, all.dearest cs legal)
 
 -- what a run says, by how it ended
-run_by : (b : List ℕ) (program : Program) (turns : ℕ) (tells : Tells) (history : List Turn) (places cs : List Place) (e : Ending) → length b ≤ source_limit → IsHistoryOf b program turns history places cs → EndsSo program turns cs e
-    → SaysRun turns tells b (exit_in e) history places (text_in turns tells places e)
-run_by b program turns tells history places cs (ending.Ended o) le kept h =
-    ended_says b turns tells (exit_of o) history places (tells places o) (end_by o.faults o.main_ended)
+run_by : (b : List ℕ) (program : Program) (asked : Asked) (history : List Turn) (places cs : List Place) (e : Ending) → length b ≤ source_limit → IsHistoryOf b program asked.turns history places cs → EndsSo program asked.turns cs e
+    → (asked.chosen ≡ [] → IsFair program history places) → SaysRun asked b (exit_in e) history places (text_in asked history places e)
+run_by b program asked history places cs (ending.Ended o) le kept h fair =
+    ended_says b asked (exit_of o) history places (asked.tells history places o) (end_by o.faults o.main_ended)
     (record {
       within = le;
       program = program;
@@ -108,10 +118,11 @@ run_by b program turns tells history places cs (ending.Ended o) le kept h =
       ends = (kept.legal, h.0);
       in_turns = h.1;
       exit_is = ap exit_of h.2;
-      text_is = ap (tells places) h.2;
+      text_is = ap (asked.tells history places) h.2;
+      tells_each = each_told program cs (kept.legal, h.0) (cost_of program cs);
       one_outcome = λ det. settles program det cs (kept.legal, h.0);
     })
-run_by b program turns tells history places cs ending.Spent le kept h =
+run_by b program asked history places cs ending.Spent le kept h fair =
     record {
       within = le;
       program = program;
@@ -119,15 +130,42 @@ run_by b program turns tells history places cs ending.Spent le kept h =
       kept = kept;
       over = h;
       text_is = refl;
-      spent_for_all = λ det others ends. spent_too program turns cs others kept.legal h (settles program det others ends);
+      fair = fair;
+      spent_for_all = λ det others ends. spent_too program asked.turns cs others kept.legal h (settles program det others ends);
     }
 
-history_of : (b : List ℕ) (turns : ℕ) (r : run.Run) → (k : IsRunOf b turns r) → IsHistoryOf b k.program turns r.history.items (places_of r.paths.items) k.runs.choices
-history_of b turns r k = record { lawful = k.lawful; kept = k.runs.kept; starts = k.runs.places; legal = k.runs.legal; some_steps = k.runs.some_steps; front_within = k.runs.front_within }
+history_of : (b : List ℕ) (turns slice : ℕ) (chosen : List ℕ) (r : run.Run) → (k : IsRunOf b turns slice chosen r) → IsHistoryOf b k.program turns r.history.items (places_of r.paths.items) k.runs.choices
+history_of b turns slice chosen r k = record { lawful = k.lawful; kept = k.runs.kept; starts = k.runs.places; legal = k.runs.legal; some_steps = k.runs.some_steps; front_within = k.runs.front_within }
 
-pub run_says : (b : List ℕ) (turns : ℕ) (tells : Tells) (r : run.Run) → length b ≤ source_limit → IsRunOf b turns r
-    → SaysRun turns tells b (exit_in r.ending) r.history.items (places_of r.paths.items) (text_in turns tells (places_of r.paths.items) r.ending)
-run_says b turns tells r le k = run_by b k.program turns tells r.history.items (places_of r.paths.items) k.runs.choices r.ending le (history_of b turns r k) k.runs.ends
+pub run_says : (b : List ℕ) (asked : Asked) (slice : ℕ) (r : run.Run) → length b ≤ source_limit → IsRunOf b asked.turns slice asked.chosen r
+    → SaysRun asked b (exit_in r.ending) r.history.items (places_of r.paths.items) (text_in asked r.history.items (places_of r.paths.items) r.ending)
+run_says b asked slice r le k =
+    run_by b k.program asked r.history.items (places_of r.paths.items) k.runs.choices r.ending le (history_of b asked.turns slice asked.chosen r k) k.runs.ends
+    (λ none. run_is_fair k.program slice asked.turns r k.runs (subst (λ (cs : List ℕ). Follows k.program slice cs r.history.items) none k.follows))
+
+-- what `run` and `play_choices` say: the report doesn't depend on the choices
+pub told_of_choices : (b : List ℕ) (turns slice : ℕ) (vars : Bool) (chosen : List ℕ) (r : run.Run) → length b ≤ source_limit → IsRunOf b turns slice chosen r
+    → SaysRun (report_asked turns vars chosen) b (exit_in r.ending) r.history.items (places_of r.paths.items) (text_in (report_asked turns vars []) r.history.items (places_of r.paths.items) r.ending)
+told_of_choices b turns slice vars chosen r le k =
+    subst (λ (t : List ℕ). SaysRun (report_asked turns vars chosen) b (exit_in r.ending) r.history.items (places_of r.paths.items) t) (same_report turns vars chosen r.history.items (places_of r.paths.items) r.ending)
+    (run_says b (report_asked turns vars chosen) slice r le k)
+  where
+    same_report : (turns : ℕ) (vars : Bool) (chosen : List ℕ) (h : List Turn) (ps : List Place) (e : Ending) → text_in (report_asked turns vars chosen) h ps e ≡ text_in (report_asked turns vars []) h ps e
+    same_report turns vars chosen h ps (ending.Ended o) = refl
+    same_report turns vars chosen h ps ending.Spent = refl
+
+-- what `trace` says: its text is the same however the run ended
+pub told_by_trace : (b : List ℕ) (turns slice : ℕ) (r : run.Run) (text : List ℕ) → length b ≤ source_limit → IsRunOf b turns slice [] r → text ≡ trace_text (trace_of_history turns r.history.items b)
+    → IsTraceText text (trace_of_history turns r.history.items b) → SaysTrace turns b (exit_in r.ending) r.history.items (places_of r.paths.items) text
+told_by_trace b turns slice r text le k e readable = (
+  subst (λ (t : List ℕ). SaysRun (trace_asked turns b) b (exit_in r.ending) r.history.items (places_of r.paths.items) t) (one_text turns b r.history.items (places_of r.paths.items) r.ending ∙ sym e)
+      (run_says b (trace_asked turns b) slice r le k),
+  λ played. readable,
+)
+  where
+    one_text : (turns : ℕ) (b : List ℕ) (h : List Turn) (ps : List Place) (e : Ending) → text_in (trace_asked turns b) h ps e ≡ trace_text (trace_of_history turns h b)
+    one_text turns b h ps (ending.Ended o) = refl
+    one_text turns b h ps ending.Spent = refl
 
 played_by : (fs : List FaultAt) (b : Bool) → IsPlayedExit (exit_by fs b)
 played_by [] true = inl (inl refl)
@@ -137,6 +175,28 @@ played_by (f ∷ fs) b = inl (inr (inl refl))
 pub run_played : (e : Ending) → IsPlayedExit (exit_in e)
 run_played (ending.Ended o) = played_by o.faults o.main_ended
 run_played ending.Spent = inr refl
+
+-- an exit that isn't one of a run that was played
+abbrev IsApart : Exit → Type 0
+IsApart x = (x ≢ Done) × (x ≢ Faulted) × (x ≢ Deadlocked) × (x ≢ Spent)
+
+pub not_played : (x exit : Exit) → exit ≡ x → IsApart x → IsPlayedExit exit → ⊥
+not_played x exit e apart (inl (inl h)) = apart.0 (sym e ∙ h)
+not_played x exit e apart (inl (inr (inl h))) = apart.1 (sym e ∙ h)
+not_played x exit e apart (inl (inr (inr h))) = apart.2 (sym e ∙ h)
+not_played x exit e apart (inr h) = apart.3 (sym e ∙ h)
+
+no_memory_apart : IsApart NoMemory
+no_memory_apart = (λ e. cc e, λ e. cc e, λ e. cc e, λ e. cc e)
+
+read_fault_apart : IsApart ReadFault
+read_fault_apart = (λ e. cc e, λ e. cc e, λ e. cc e, λ e. cc e)
+
+too_long_apart : IsApart TooLong
+too_long_apart = (λ e. cc e, λ e. cc e, λ e. cc e, λ e. cc e)
+
+refused_apart : IsApart Refused
+refused_apart = (λ e. cc e, λ e. cc e, λ e. cc e, λ e. cc e)
 
 pub played_decided : (e : Exit) → IsPlayedExit e → is_decided e ≡ true
 played_decided e (inl (inl h)) = ap is_decided h
@@ -150,25 +210,33 @@ played_unread e (inl (inr (inl h))) = ap is_of_reading h
 played_unread e (inl (inr (inr h))) = ap is_of_reading h
 played_unread e (inr h) = ap is_of_reading h
 
+-- a source that is refused
+pub refused_by_trace : (b : List ℕ) (setup : Setup) (v : Refusal) (r : Reply) → length b ≤ source_limit → IsRefusedFor b v → r.ran.exit ≡ Refused → IsUnplayed r.ran.history.items (places_in r.ran) (bytes_of r.text) (refusal_text v)
+    → IsReply (command.Trace setup) b r
+refused_by_trace b setup v r le h e u = (
+  subst (λ (x : Exit). SaysRun (trace_asked setup.turns b) b x r.ran.history.items (places_in r.ran) (bytes_of r.text)) (sym e) (record { within = le; refusal = v; refused = h; unplayed = u }),
+  λ p. absurd (not_played Refused r.ran.exit e refused_apart p),
+)
+
 -- What follows from what is said.
 
 no_history : (h : List Turn) (ps : List Place) (t u : List ℕ) → IsUnplayed h ps t u → IsNoHistory h ps
 no_history h ps t u k = (k.no_turns, k.no_places)
 
-run_history : (turns : ℕ) (tells : Tells) (b : List ℕ) (exit : Exit) (h : List Turn) (ps : List Place) (t : List ℕ) → SaysRun turns tells b exit h ps t → IsHistoryIn turns b h ps
-run_history turns tells b Done h ps t k = inr (k.program, k.choices, k.kept)
-run_history turns tells b Faulted h ps t k = inr (k.program, k.choices, k.kept)
-run_history turns tells b Deadlocked h ps t k = inr (k.program, k.choices, k.kept)
-run_history turns tells b Refused h ps t k = inl (no_history h ps t _ k.unplayed)
-run_history turns tells b Spent h ps t k = inr (k.program, k.choices, k.kept)
-run_history turns tells b Usage h ps t k = absurd k
-run_history turns tells b ReadFault h ps t k = inl (no_history h ps t _ k)
-run_history turns tells b WriteFault h ps t k = absurd k
-run_history turns tells b NoMemory h ps t k = inl (no_history h ps t _ k)
-run_history turns tells b TooLong h ps t k = inl (no_history h ps t _ k.1)
-run_history turns tells b Malformed h ps t k = absurd k
-run_history turns tells b Illegal h ps t k = absurd k
-run_history turns tells b Unfinished h ps t k = absurd k
+run_history : (asked : Asked) (b : List ℕ) (exit : Exit) (h : List Turn) (ps : List Place) (t : List ℕ) → SaysRun asked b exit h ps t → IsHistoryIn asked.turns b h ps
+run_history asked b Done h ps t k = inr (k.program, k.choices, k.kept)
+run_history asked b Faulted h ps t k = inr (k.program, k.choices, k.kept)
+run_history asked b Deadlocked h ps t k = inr (k.program, k.choices, k.kept)
+run_history asked b Refused h ps t k = inl (no_history h ps t _ k.unplayed)
+run_history asked b Spent h ps t k = inr (k.program, k.choices, k.kept)
+run_history asked b Usage h ps t k = absurd k
+run_history asked b ReadFault h ps t k = inl (no_history h ps t _ k)
+run_history asked b WriteFault h ps t k = absurd k
+run_history asked b NoMemory h ps t k = inl (no_history h ps t _ k)
+run_history asked b TooLong h ps t k = inl (no_history h ps t _ k.1)
+run_history asked b Malformed h ps t k = absurd k
+run_history asked b Illegal h ps t k = absurd k
+run_history asked b Unfinished h ps t k = absurd k
 
 -- of a command that runs nothing
 module _ (TellsOf : List Placed → List ℕ → Type 0) (b : List ℕ) where
@@ -232,32 +300,123 @@ module _ (TellsOf : List Placed → List ℕ → Type 0) (b : List ℕ) where
   told_long Illegal h ps t k r l = absurd k
   told_long Unfinished h ps t k r l = absurd k
 
+-- of a replay: bytes are the text of one trace, or malformed
+same_trace : (Holds : List ℕ → Type 0) (b : List ℕ) → (k : IsTraceOf Holds b) → (t : Trace) → IsTraceText b t → Holds t.source
+same_trace Holds b k t read = subst (λ (u : Trace). Holds u.source) (one_trace_text b k.trace t k.read read) k.holds
+
+not_long : (b : List ℕ) → length b ≤ trace_limit → (t : Trace) → IsTraceText b t → length t.source ≤ source_limit → IsTooLongTrace b → ⊥
+not_long b within t read short (inl l) = omega (arith, within, l)
+not_long b within t read short (inr l) =
+    let same : length t.source ≡ length l.1.source = ap (λ (u : Trace). length u.source) (one_trace_text b t l.1 read l.2) in
+    omega (arith, short, same, l.3)
+
+malformed_not_long : (b : List ℕ) → length b ≤ trace_limit → (line : ℕ) → IsFirstMalformed b line → IsTooLongTrace b → ⊥
+malformed_not_long b within line malformed (inl l) = omega (arith, within, l)
+malformed_not_long b within line malformed (inr l) = no_line_of_a_trace b l.1 l.2 line malformed
+
+replay_history : (vars : Bool) (b : List ℕ) (exit : Exit) (h : List Turn) (ps : List Place) (t : List ℕ) → SaysReplay vars b exit h ps t → IsNoHistory h ps
+replay_history vars b Done h ps t k = no_history h ps t _ k.unplayed
+replay_history vars b Faulted h ps t k = no_history h ps t _ k.unplayed
+replay_history vars b Deadlocked h ps t k = no_history h ps t _ k.unplayed
+replay_history vars b Refused h ps t k = no_history h ps t _ k.refused.unplayed
+replay_history vars b Spent h ps t k = no_history h ps t _ k.unplayed
+replay_history vars b Usage h ps t k = absurd k
+replay_history vars b ReadFault h ps t k = no_history h ps t _ k
+replay_history vars b WriteFault h ps t k = absurd k
+replay_history vars b NoMemory h ps t k = no_history h ps t _ k
+replay_history vars b TooLong h ps t k = no_history h ps t _ k.1
+replay_history vars b Malformed h ps t k = no_history h ps t _ k.unplayed
+replay_history vars b Illegal h ps t k = no_history h ps t _ k.unplayed
+replay_history vars b Unfinished h ps t k = no_history h ps t _ k.unplayed
+
+replay_completed : (vars : Bool) (b : List ℕ) (exit : Exit) (h : List Turn) (ps : List Place) (t : List ℕ) → SaysReplay vars b exit h ps t → (exit ≡ ReadFault → ⊥) → IsTraceOf IsAccepted b → IsPlayedExit exit ⊎ ((exit ≡ Illegal) ⊎ ((exit ≡ Unfinished) ⊎ (exit ≡ NoMemory)))
+replay_completed vars b Done h ps t k r v = inl (inl (inl refl))
+replay_completed vars b Faulted h ps t k r v = inl (inl (inr (inl refl)))
+replay_completed vars b Deadlocked h ps t k r v = inl (inl (inr (inr refl)))
+replay_completed vars b Refused h ps t k r v = absurd (same_trace IsAccepted b v k.trace k.read k.refused.refusal k.refused.refused.broken)
+replay_completed vars b Spent h ps t k r v = inl (inr refl)
+replay_completed vars b Usage h ps t k r v = absurd k
+replay_completed vars b ReadFault h ps t k r v = absurd (r refl)
+replay_completed vars b WriteFault h ps t k r v = absurd k
+replay_completed vars b NoMemory h ps t k r v = inr (inr (inr refl))
+replay_completed vars b TooLong h ps t k r v = absurd (not_long b v.within v.trace v.read v.short k.0)
+replay_completed vars b Malformed h ps t k r v = absurd (no_line_of_a_trace b v.trace v.read k.line k.malformed)
+replay_completed vars b Illegal h ps t k r v = inr (inl refl)
+replay_completed vars b Unfinished h ps t k r v = inr (inr (inl refl))
+
+replay_refused : (vars : Bool) (b : List ℕ) (exit : Exit) (h : List Turn) (ps : List Place) (t : List ℕ) → SaysReplay vars b exit h ps t → (exit ≡ ReadFault → ⊥) → (v : Refusal) → IsTraceOf (λ source. IsRefusedFor source v) b → IsRefusedExit exit
+replay_refused vars b Done h ps t k r v w = absurd (k.lawful.clean v (same_trace (λ source. IsRefusedFor source v) b w k.trace k.read).broken)
+replay_refused vars b Faulted h ps t k r v w = absurd (k.lawful.clean v (same_trace (λ source. IsRefusedFor source v) b w k.trace k.read).broken)
+replay_refused vars b Deadlocked h ps t k r v w = absurd (k.lawful.clean v (same_trace (λ source. IsRefusedFor source v) b w k.trace k.read).broken)
+replay_refused vars b Refused h ps t k r v w = inl refl
+replay_refused vars b Spent h ps t k r v w = absurd (k.lawful.clean v (same_trace (λ source. IsRefusedFor source v) b w k.trace k.read).broken)
+replay_refused vars b Usage h ps t k r v w = absurd k
+replay_refused vars b ReadFault h ps t k r v w = absurd (r refl)
+replay_refused vars b WriteFault h ps t k r v w = absurd k
+replay_refused vars b NoMemory h ps t k r v w = inr refl
+replay_refused vars b TooLong h ps t k r v w = absurd (not_long b w.within w.trace w.read w.short k.0)
+replay_refused vars b Malformed h ps t k r v w = absurd (no_line_of_a_trace b w.trace w.read k.line k.malformed)
+replay_refused vars b Illegal h ps t k r v w = absurd (k.lawful.clean v (same_trace (λ source. IsRefusedFor source v) b w k.trace k.read).broken)
+replay_refused vars b Unfinished h ps t k r v w = absurd (k.lawful.clean v (same_trace (λ source. IsRefusedFor source v) b w k.trace k.read).broken)
+
+replay_long : (vars : Bool) (b : List ℕ) (exit : Exit) (h : List Turn) (ps : List Place) (t : List ℕ) → SaysReplay vars b exit h ps t → (exit ≡ ReadFault → ⊥) → IsTooLongTrace b → IsTooLongExit exit
+replay_long vars b Done h ps t k r l = absurd (not_long b k.within k.trace k.read k.short l)
+replay_long vars b Faulted h ps t k r l = absurd (not_long b k.within k.trace k.read k.short l)
+replay_long vars b Deadlocked h ps t k r l = absurd (not_long b k.within k.trace k.read k.short l)
+replay_long vars b Refused h ps t k r l = absurd (not_long b k.within k.trace k.read k.refused.within l)
+replay_long vars b Spent h ps t k r l = absurd (not_long b k.within k.trace k.read k.short l)
+replay_long vars b Usage h ps t k r l = absurd k
+replay_long vars b ReadFault h ps t k r l = absurd (r refl)
+replay_long vars b WriteFault h ps t k r l = absurd k
+replay_long vars b NoMemory h ps t k r l = inr refl
+replay_long vars b TooLong h ps t k r l = inl refl
+replay_long vars b Malformed h ps t k r l = absurd (malformed_not_long b k.within k.line k.malformed l)
+replay_long vars b Illegal h ps t k r l = absurd (not_long b k.within k.trace k.read k.short l)
+replay_long vars b Unfinished h ps t k r l = absurd (not_long b k.within k.trace k.read k.short l)
+
+replay_malformed : (vars : Bool) (b : List ℕ) (exit : Exit) (h : List Turn) (ps : List Place) (t : List ℕ) → SaysReplay vars b exit h ps t → (exit ≡ ReadFault → ⊥) → (length b ≤ trace_limit) × (line : ℕ) × IsFirstMalformed b line → IsMalformedExit exit
+replay_malformed vars b Done h ps t k r l = absurd (no_line_of_a_trace b k.trace k.read l.1 l.2)
+replay_malformed vars b Faulted h ps t k r l = absurd (no_line_of_a_trace b k.trace k.read l.1 l.2)
+replay_malformed vars b Deadlocked h ps t k r l = absurd (no_line_of_a_trace b k.trace k.read l.1 l.2)
+replay_malformed vars b Refused h ps t k r l = absurd (no_line_of_a_trace b k.trace k.read l.1 l.2)
+replay_malformed vars b Spent h ps t k r l = absurd (no_line_of_a_trace b k.trace k.read l.1 l.2)
+replay_malformed vars b Usage h ps t k r l = absurd k
+replay_malformed vars b ReadFault h ps t k r l = absurd (r refl)
+replay_malformed vars b WriteFault h ps t k r l = absurd k
+replay_malformed vars b NoMemory h ps t k r l = inr refl
+replay_malformed vars b TooLong h ps t k r l = absurd (malformed_not_long b l.0 l.1 l.2 k.0)
+replay_malformed vars b Malformed h ps t k r l = inl refl
+replay_malformed vars b Illegal h ps t k r l = absurd (no_line_of_a_trace b k.trace k.read l.1 l.2)
+replay_malformed vars b Unfinished h ps t k r l = absurd (no_line_of_a_trace b k.trace k.read l.1 l.2)
+
 made_history : (number : ℕ) (exit : Exit) (h : List Turn) (ps : List Place) (t : List ℕ) → SaysMade number exit h ps t → IsNoHistory h ps
 made_history number exit h ps t (inl k) = no_history h ps t _ k.1
 made_history number exit h ps t (inr k) = no_history h ps t _ k.1
 
 pub says_history : (o : Option Command) (b : List ℕ) (exit : Exit) (h : List Turn) (ps : List Place) (t : List ℕ) → SaysOf o b exit h ps t → HasHistory o b h ps
 says_history None b exit h ps t k = no_history h ps t _ k.1
-says_history (Some (command.Run setup vars)) b exit h ps t k = run_history setup.turns (report_by vars) b exit h ps t k
+says_history (Some (command.Run setup vars)) b exit h ps t k = run_history (report_asked setup.turns vars []) b exit h ps t k
+says_history (Some (command.Trace setup)) b exit h ps t k = run_history (trace_asked setup.turns b) b exit h ps t k.0
+says_history (Some (command.Replay vars)) b exit h ps t k = replay_history vars b exit h ps t k
 says_history (Some command.Check) b exit h ps t k = told_history TellsDeterminism b exit h ps t k
 says_history (Some command.List) b exit h ps t k = told_history TellsList b exit h ps t k
 says_history (Some (command.Make number)) b exit h ps t k = made_history number exit h ps t k
-says_history (Some (command.Demo number setup)) b exit h ps t k = run_history setup.turns summary_by (made_text number) exit h ps t k.1
+says_history (Some (command.Demo number setup)) b exit h ps t k = run_history (summary_asked setup.turns) (made_text number) exit h ps t k.1
 
-run_completed : (turns : ℕ) (tells : Tells) (b : List ℕ) (exit : Exit) (h : List Turn) (ps : List Place) (t : List ℕ) → SaysRun turns tells b exit h ps t → (exit ≡ ReadFault → ⊥) → length b ≤ source_limit → IsAccepted b → ((exit ≡ Done) ⊎ ((exit ≡ Faulted) ⊎ (exit ≡ Deadlocked))) ⊎ ((exit ≡ Spent) ⊎ (exit ≡ NoMemory))
-run_completed turns tells b Done h ps t k r le v = inl (inl refl)
-run_completed turns tells b Faulted h ps t k r le v = inl (inr (inl refl))
-run_completed turns tells b Deadlocked h ps t k r le v = inl (inr (inr refl))
-run_completed turns tells b Refused h ps t k r le v = absurd (v k.refusal k.refused.broken)
-run_completed turns tells b Spent h ps t k r le v = inr (inl refl)
-run_completed turns tells b Usage h ps t k r le v = absurd k
-run_completed turns tells b ReadFault h ps t k r le v = absurd (r refl)
-run_completed turns tells b WriteFault h ps t k r le v = absurd k
-run_completed turns tells b NoMemory h ps t k r le v = inr (inr refl)
-run_completed turns tells b TooLong h ps t k r le v = absurd (omega (arith, k.0))
-run_completed turns tells b Malformed h ps t k r le v = absurd k
-run_completed turns tells b Illegal h ps t k r le v = absurd k
-run_completed turns tells b Unfinished h ps t k r le v = absurd k
+run_completed : (asked : Asked) (b : List ℕ) (exit : Exit) (h : List Turn) (ps : List Place) (t : List ℕ) → SaysRun asked b exit h ps t → (exit ≡ ReadFault → ⊥) → length b ≤ source_limit → IsAccepted b → ((exit ≡ Done) ⊎ ((exit ≡ Faulted) ⊎ (exit ≡ Deadlocked))) ⊎ ((exit ≡ Spent) ⊎ (exit ≡ NoMemory))
+run_completed asked b Done h ps t k r le v = inl (inl refl)
+run_completed asked b Faulted h ps t k r le v = inl (inr (inl refl))
+run_completed asked b Deadlocked h ps t k r le v = inl (inr (inr refl))
+run_completed asked b Refused h ps t k r le v = absurd (v k.refusal k.refused.broken)
+run_completed asked b Spent h ps t k r le v = inr (inl refl)
+run_completed asked b Usage h ps t k r le v = absurd k
+run_completed asked b ReadFault h ps t k r le v = absurd (r refl)
+run_completed asked b WriteFault h ps t k r le v = absurd k
+run_completed asked b NoMemory h ps t k r le v = inr (inr refl)
+run_completed asked b TooLong h ps t k r le v = absurd (omega (arith, k.0))
+run_completed asked b Malformed h ps t k r le v = absurd k
+run_completed asked b Illegal h ps t k r le v = absurd k
+run_completed asked b Unfinished h ps t k r le v = absurd k
 
 made_completed : (number : ℕ) (exit : Exit) (h : List Turn) (ps : List Place) (t : List ℕ) → SaysMade number exit h ps t → (exit ≡ Done) ⊎ (exit ≡ NoMemory)
 made_completed number exit h ps t (inl k) = inl k.0
@@ -268,60 +427,76 @@ demo_reads : (exit : Exit) → is_of_reading exit ≡ false → exit ≡ ReadFau
 demo_reads exit e f = false≢true (sym e ∙ ap is_of_reading f)
 
 pub completed : (c : Command) (b : List ℕ) (exit : Exit) (h : List Turn) (ps : List Place) (t : List ℕ) → Says c b exit h ps t → (exit ≡ ReadFault → ⊥) → ((n : ℕ) → length (made_text n) ≤ source_limit) → IsReady c b → IsCompleted c exit
-completed (command.Run setup vars) b exit h ps t k r short v = run_completed setup.turns (report_by vars) b exit h ps t k r v.0 v.1
+completed (command.Run setup vars) b exit h ps t k r short v = run_completed (report_asked setup.turns vars []) b exit h ps t k r v.0 v.1
+completed (command.Trace setup) b exit h ps t k r short v = run_completed (trace_asked setup.turns b) b exit h ps t k.0 r v.0 v.1
+completed (command.Replay vars) b exit h ps t k r short v = replay_completed vars b exit h ps t k r v
 completed command.Check b exit h ps t k r short v = told_completed TellsDeterminism b exit h ps t k r v.0 v.1
 completed command.List b exit h ps t k r short v = told_completed TellsList b exit h ps t k r v.0 v.1
 completed (command.Make number) b exit h ps t k r short v = made_completed number exit h ps t k
-completed (command.Demo number setup) b exit h ps t k r short v = run_completed setup.turns summary_by (made_text number) exit h ps t k.1 (demo_reads exit k.0) (short number) v
+completed (command.Demo number setup) b exit h ps t k r short v = run_completed (summary_asked setup.turns) (made_text number) exit h ps t k.1 (demo_reads exit k.0) (short number) v
 
-run_refused : (turns : ℕ) (tells : Tells) (b : List ℕ) (exit : Exit) (h : List Turn) (ps : List Place) (t : List ℕ) → SaysRun turns tells b exit h ps t → (exit ≡ ReadFault → ⊥) → length b ≤ source_limit → (v : Refusal) → IsRefusedFor b v → IsRefusedExit exit
-run_refused turns tells b Done h ps t k r le v w = absurd (k.kept.lawful.clean v w.broken)
-run_refused turns tells b Faulted h ps t k r le v w = absurd (k.kept.lawful.clean v w.broken)
-run_refused turns tells b Deadlocked h ps t k r le v w = absurd (k.kept.lawful.clean v w.broken)
-run_refused turns tells b Refused h ps t k r le v w = inl refl
-run_refused turns tells b Spent h ps t k r le v w = absurd (k.kept.lawful.clean v w.broken)
-run_refused turns tells b Usage h ps t k r le v w = absurd k
-run_refused turns tells b ReadFault h ps t k r le v w = absurd (r refl)
-run_refused turns tells b WriteFault h ps t k r le v w = absurd k
-run_refused turns tells b NoMemory h ps t k r le v w = inr refl
-run_refused turns tells b TooLong h ps t k r le v w = absurd (omega (arith, k.0))
-run_refused turns tells b Malformed h ps t k r le v w = absurd k
-run_refused turns tells b Illegal h ps t k r le v w = absurd k
-run_refused turns tells b Unfinished h ps t k r le v w = absurd k
+run_refused : (asked : Asked) (b : List ℕ) (exit : Exit) (h : List Turn) (ps : List Place) (t : List ℕ) → SaysRun asked b exit h ps t → (exit ≡ ReadFault → ⊥) → length b ≤ source_limit → (v : Refusal) → IsRefusedFor b v → IsRefusedExit exit
+run_refused asked b Done h ps t k r le v w = absurd (k.kept.lawful.clean v w.broken)
+run_refused asked b Faulted h ps t k r le v w = absurd (k.kept.lawful.clean v w.broken)
+run_refused asked b Deadlocked h ps t k r le v w = absurd (k.kept.lawful.clean v w.broken)
+run_refused asked b Refused h ps t k r le v w = inl refl
+run_refused asked b Spent h ps t k r le v w = absurd (k.kept.lawful.clean v w.broken)
+run_refused asked b Usage h ps t k r le v w = absurd k
+run_refused asked b ReadFault h ps t k r le v w = absurd (r refl)
+run_refused asked b WriteFault h ps t k r le v w = absurd k
+run_refused asked b NoMemory h ps t k r le v w = inr refl
+run_refused asked b TooLong h ps t k r le v w = absurd (omega (arith, k.0))
+run_refused asked b Malformed h ps t k r le v w = absurd k
+run_refused asked b Illegal h ps t k r le v w = absurd k
+run_refused asked b Unfinished h ps t k r le v w = absurd k
 
 pub refused_of : (c : Command) (b : List ℕ) (exit : Exit) (h : List Turn) (ps : List Place) (t : List ℕ) → Says c b exit h ps t → (exit ≡ ReadFault → ⊥) → ((n : ℕ) → length (made_text n) ≤ source_limit) → (v : Refusal) → IsRefusedBy c b v → IsRefusedExit exit
-refused_of (command.Run setup vars) b exit h ps t k r short v w = run_refused setup.turns (report_by vars) b exit h ps t k r w.0 v w.1
+refused_of (command.Run setup vars) b exit h ps t k r short v w = run_refused (report_asked setup.turns vars []) b exit h ps t k r w.0 v w.1
+refused_of (command.Trace setup) b exit h ps t k r short v w = run_refused (trace_asked setup.turns b) b exit h ps t k.0 r w.0 v w.1
+refused_of (command.Replay vars) b exit h ps t k r short v w = replay_refused vars b exit h ps t k r v w
 refused_of command.Check b exit h ps t k r short v w = told_refused TellsDeterminism b exit h ps t k r w.0 v w.1
 refused_of command.List b exit h ps t k r short v w = told_refused TellsList b exit h ps t k r w.0 v w.1
 refused_of (command.Make number) b exit h ps t k r short v w = absurd w
-refused_of (command.Demo number setup) b exit h ps t k r short v w = run_refused setup.turns summary_by (made_text number) exit h ps t k.1 (demo_reads exit k.0) (short number) v w
+refused_of (command.Demo number setup) b exit h ps t k r short v w = run_refused (summary_asked setup.turns) (made_text number) exit h ps t k.1 (demo_reads exit k.0) (short number) v w
 
-run_long : (turns : ℕ) (tells : Tells) (b : List ℕ) (exit : Exit) (h : List Turn) (ps : List Place) (t : List ℕ) → SaysRun turns tells b exit h ps t → (exit ≡ ReadFault → ⊥) → source_limit < length b → IsTooLongExit exit
-run_long turns tells b Done h ps t k r l = absurd (omega (arith, k.within))
-run_long turns tells b Faulted h ps t k r l = absurd (omega (arith, k.within))
-run_long turns tells b Deadlocked h ps t k r l = absurd (omega (arith, k.within))
-run_long turns tells b Refused h ps t k r l = absurd (omega (arith, k.within))
-run_long turns tells b Spent h ps t k r l = absurd (omega (arith, k.within))
-run_long turns tells b Usage h ps t k r l = absurd k
-run_long turns tells b ReadFault h ps t k r l = absurd (r refl)
-run_long turns tells b WriteFault h ps t k r l = absurd k
-run_long turns tells b NoMemory h ps t k r l = inr refl
-run_long turns tells b TooLong h ps t k r l = inl refl
-run_long turns tells b Malformed h ps t k r l = absurd k
-run_long turns tells b Illegal h ps t k r l = absurd k
-run_long turns tells b Unfinished h ps t k r l = absurd k
+run_long : (asked : Asked) (b : List ℕ) (exit : Exit) (h : List Turn) (ps : List Place) (t : List ℕ) → SaysRun asked b exit h ps t → (exit ≡ ReadFault → ⊥) → source_limit < length b → IsTooLongExit exit
+run_long asked b Done h ps t k r l = absurd (omega (arith, k.within))
+run_long asked b Faulted h ps t k r l = absurd (omega (arith, k.within))
+run_long asked b Deadlocked h ps t k r l = absurd (omega (arith, k.within))
+run_long asked b Refused h ps t k r l = absurd (omega (arith, k.within))
+run_long asked b Spent h ps t k r l = absurd (omega (arith, k.within))
+run_long asked b Usage h ps t k r l = absurd k
+run_long asked b ReadFault h ps t k r l = absurd (r refl)
+run_long asked b WriteFault h ps t k r l = absurd k
+run_long asked b NoMemory h ps t k r l = inr refl
+run_long asked b TooLong h ps t k r l = inl refl
+run_long asked b Malformed h ps t k r l = absurd k
+run_long asked b Illegal h ps t k r l = absurd k
+run_long asked b Unfinished h ps t k r l = absurd k
 
-pub too_long_by : (o : Option Command) (b : List ℕ) (exit : Exit) (h : List Turn) (ps : List Place) (t : List ℕ) → SaysOf o b exit h ps t → are_reading o ≡ true → (exit ≡ ReadFault → ⊥) → source_limit < length b → IsTooLongExit exit
-too_long_by None b exit h ps t k c r l = absurd (false≢true c)
-too_long_by (Some (command.Run setup vars)) b exit h ps t k c r l = run_long setup.turns (report_by vars) b exit h ps t k r l
-too_long_by (Some command.Check) b exit h ps t k c r l = told_long TellsDeterminism b exit h ps t k r l
-too_long_by (Some command.List) b exit h ps t k c r l = told_long TellsList b exit h ps t k r l
-too_long_by (Some (command.Make number)) b exit h ps t k c r l = absurd (false≢true c)
-too_long_by (Some (command.Demo number setup)) b exit h ps t k c r l = absurd (false≢true c)
+pub too_long_by : (c : Command) (b : List ℕ) (exit : Exit) (h : List Turn) (ps : List Place) (t : List ℕ) → Says c b exit h ps t → (exit ≡ ReadFault → ⊥) → IsTooLongBy c b → IsTooLongExit exit
+too_long_by (command.Run setup vars) b exit h ps t k r l = run_long (report_asked setup.turns vars []) b exit h ps t k r l
+too_long_by (command.Trace setup) b exit h ps t k r l = run_long (trace_asked setup.turns b) b exit h ps t k.0 r l
+too_long_by (command.Replay vars) b exit h ps t k r l = replay_long vars b exit h ps t k r l
+too_long_by command.Check b exit h ps t k r l = told_long TellsDeterminism b exit h ps t k r l
+too_long_by command.List b exit h ps t k r l = told_long TellsList b exit h ps t k r l
+too_long_by (command.Make number) b exit h ps t k r l = absurd l
+too_long_by (command.Demo number setup) b exit h ps t k r l = absurd l
+
+pub malformed_by : (c : Command) (b : List ℕ) (exit : Exit) (h : List Turn) (ps : List Place) (t : List ℕ) → Says c b exit h ps t → (exit ≡ ReadFault → ⊥) → IsMalformedBy c b → IsMalformedExit exit
+malformed_by (command.Run setup vars) b exit h ps t k r l = absurd l
+malformed_by (command.Trace setup) b exit h ps t k r l = absurd l
+malformed_by (command.Replay vars) b exit h ps t k r l = replay_malformed vars b exit h ps t k r l
+malformed_by command.Check b exit h ps t k r l = absurd l
+malformed_by command.List b exit h ps t k r l = absurd l
+malformed_by (command.Make number) b exit h ps t k r l = absurd l
+malformed_by (command.Demo number setup) b exit h ps t k r l = absurd l
 
 -- what is said of a command that doesn't read is said whatever the source has
 pub says_unread : (c : Command) (b other : List ℕ) (exit : Exit) (h : List Turn) (ps : List Place) (t : List ℕ) → is_reading c ≡ false → Says c b exit h ps t → Says c other exit h ps t
 says_unread (command.Run setup vars) b other exit h ps t e k = absurd (false≢true (sym e))
+says_unread (command.Trace setup) b other exit h ps t e k = absurd (false≢true (sym e))
+says_unread (command.Replay vars) b other exit h ps t e k = absurd (false≢true (sym e))
 says_unread command.Check b other exit h ps t e k = absurd (false≢true (sym e))
 says_unread command.List b other exit h ps t e k = absurd (false≢true (sym e))
 says_unread (command.Make number) b other exit h ps t e k = k
@@ -330,11 +505,13 @@ says_unread (command.Demo number setup) b other exit h ps t e k = k
 -- want of memory says nothing of the bytes
 pub no_memory_says : (o : Option Command) (b : List ℕ) (exit : Exit) (h : List Turn) (ps : List Place) (t : List ℕ) → is_none o ≡ false → exit ≡ NoMemory → IsUnplayed h ps t (codes "no memory\n") → SaysOf o b exit h ps t
 no_memory_says None b exit h ps t c e u = absurd (false≢true (sym c))
-no_memory_says (Some (command.Run setup vars)) b exit h ps t c e u = subst (λ (x : Exit). SaysRun setup.turns (report_by vars) b x h ps t) (sym e) u
+no_memory_says (Some (command.Run setup vars)) b exit h ps t c e u = subst (λ (x : Exit). SaysRun (report_asked setup.turns vars []) b x h ps t) (sym e) u
+no_memory_says (Some (command.Trace setup)) b exit h ps t c e u = (subst (λ (x : Exit). SaysRun (trace_asked setup.turns b) b x h ps t) (sym e) u, λ p. absurd (not_played NoMemory exit e no_memory_apart p))
+no_memory_says (Some (command.Replay vars)) b exit h ps t c e u = subst (λ (x : Exit). SaysReplay vars b x h ps t) (sym e) u
 no_memory_says (Some command.Check) b exit h ps t c e u = subst (λ (x : Exit). SaysTold TellsDeterminism b x h ps t) (sym e) u
 no_memory_says (Some command.List) b exit h ps t c e u = subst (λ (x : Exit). SaysTold TellsList b x h ps t) (sym e) u
 no_memory_says (Some (command.Make number)) b exit h ps t c e u = inr (e, u)
-no_memory_says (Some (command.Demo number setup)) b exit h ps t c e u = (ap is_of_reading e, subst (λ (x : Exit). SaysRun setup.turns summary_by (made_text number) x h ps t) (sym e) u)
+no_memory_says (Some (command.Demo number setup)) b exit h ps t c e u = (ap is_of_reading e, subst (λ (x : Exit). SaysRun (summary_asked setup.turns) (made_text number) x h ps t) (sym e) u)
 
 -- nor does usage
 pub usage_says : (o : Option Command) (b : List ℕ) (exit : Exit) (h : List Turn) (ps : List Place) (t : List ℕ) → is_none o ≡ true → exit ≡ Usage → IsUnplayed h ps t usage_text → SaysOf o b exit h ps t
@@ -352,6 +529,8 @@ both_ok (Err e) P Q R f p q = tt
 -- a command that doesn't read meets no read fault
 pub no_read_fault : (c : Command) (b : List ℕ) (exit : Exit) (h : List Turn) (ps : List Place) (t : List ℕ) → is_reading c ≡ false → Says c b exit h ps t → exit ≡ ReadFault → ⊥
 no_read_fault (command.Run setup vars) b exit h ps t e k f = false≢true (sym e)
+no_read_fault (command.Trace setup) b exit h ps t e k f = false≢true (sym e)
+no_read_fault (command.Replay vars) b exit h ps t e k f = false≢true (sym e)
 no_read_fault command.Check b exit h ps t e k f = false≢true (sym e)
 no_read_fault command.List b exit h ps t e k f = false≢true (sym e)
 no_read_fault (command.Make number) b exit h ps t e (inl k) f = cc (sym k.0 ∙ f)
@@ -360,14 +539,18 @@ no_read_fault (command.Demo number setup) b exit h ps t e k f = demo_reads exit 
 
 -- a read fault says nothing of the bytes, and a source that is too long nothing but that
 read_fault_says : (c : Command) (b : List ℕ) (exit : Exit) (h : List Turn) (ps : List Place) (t : List ℕ) → is_reading c ≡ true → exit ≡ ReadFault → IsUnplayed h ps t (codes "read fault\n") → Says c b exit h ps t
-read_fault_says (command.Run setup vars) b exit h ps t c e u = subst (λ (x : Exit). SaysRun setup.turns (report_by vars) b x h ps t) (sym e) u
+read_fault_says (command.Run setup vars) b exit h ps t c e u = subst (λ (x : Exit). SaysRun (report_asked setup.turns vars []) b x h ps t) (sym e) u
+read_fault_says (command.Trace setup) b exit h ps t c e u = (subst (λ (x : Exit). SaysRun (trace_asked setup.turns b) b x h ps t) (sym e) u, λ p. absurd (not_played ReadFault exit e read_fault_apart p))
+read_fault_says (command.Replay vars) b exit h ps t c e u = subst (λ (x : Exit). SaysReplay vars b x h ps t) (sym e) u
 read_fault_says command.Check b exit h ps t c e u = subst (λ (x : Exit). SaysTold TellsDeterminism b x h ps t) (sym e) u
 read_fault_says command.List b exit h ps t c e u = subst (λ (x : Exit). SaysTold TellsList b x h ps t) (sym e) u
 read_fault_says (command.Make number) b exit h ps t c e u = absurd (false≢true c)
 read_fault_says (command.Demo number setup) b exit h ps t c e u = absurd (false≢true c)
 
-too_long_says : (c : Command) (b : List ℕ) (exit : Exit) (h : List Turn) (ps : List Place) (t : List ℕ) → is_reading c ≡ true → exit ≡ TooLong → source_limit < length b → IsUnplayed h ps t (codes "source too long\n") → Says c b exit h ps t
-too_long_says (command.Run setup vars) b exit h ps t c e l u = subst (λ (x : Exit). SaysRun setup.turns (report_by vars) b x h ps t) (sym e) (l, u)
+too_long_says : (c : Command) (b : List ℕ) (exit : Exit) (h : List Turn) (ps : List Place) (t : List ℕ) → is_reading c ≡ true → exit ≡ TooLong → limit_of c < length b → IsUnplayed h ps t (codes "source too long\n") → Says c b exit h ps t
+too_long_says (command.Run setup vars) b exit h ps t c e l u = subst (λ (x : Exit). SaysRun (report_asked setup.turns vars []) b x h ps t) (sym e) (l, u)
+too_long_says (command.Trace setup) b exit h ps t c e l u = (subst (λ (x : Exit). SaysRun (trace_asked setup.turns b) b x h ps t) (sym e) (l, u), λ p. absurd (not_played TooLong exit e too_long_apart p))
+too_long_says (command.Replay vars) b exit h ps t c e l u = subst (λ (x : Exit). SaysReplay vars b x h ps t) (sym e) (inl l, u)
 too_long_says command.Check b exit h ps t c e l u = subst (λ (x : Exit). SaysTold TellsDeterminism b x h ps t) (sym e) (l, u)
 too_long_says command.List b exit h ps t c e l u = subst (λ (x : Exit). SaysTold TellsList b x h ps t) (sym e) (l, u)
 too_long_says (command.Make number) b exit h ps t c e l u = absurd (false≢true c)
@@ -390,12 +573,12 @@ reply_to_fault c left r reads e u = reply_to_any (Some c) left r (λ b. read_fau
 long_bytes : (limit : ℕ) → (b : List ℕ) × (limit < length b)
 long_bytes limit = let counted : length {A = ℕ} (replicate (suc limit) 0) ≡ suc limit = length-replicate (suc limit) 0 in (replicate (suc limit) 0, omega (arith, counted))
 
-long_reply : (c : Command) (r : Reply) (b : List ℕ) → source_limit < length b → is_reading c ≡ true → r.ran.exit ≡ TooLong → IsUnplayed r.ran.history.items (places_in r.ran) (bytes_of r.text) (codes "source too long\n") → IsReplyOf (Some c) None r
+long_reply : (c : Command) (r : Reply) (b : List ℕ) → limit_of c < length b → is_reading c ≡ true → r.ran.exit ≡ TooLong → IsUnplayed r.ran.history.items (places_in r.ran) (bytes_of r.text) (codes "source too long\n") → IsReplyOf (Some c) None r
 long_reply c r b l reads e u = (b, tt, too_long_says c b r.ran.exit r.ran.history.items (places_in r.ran) (bytes_of r.text) reads e l u)
 
-pub reply_to_long : (c : Command) (left : Option (List ℕ)) (r : Reply) → is_reading c ≡ true → IfSome left (λ l. source_limit < length l) → r.ran.exit ≡ TooLong
+pub reply_to_long : (c : Command) (left : Option (List ℕ)) (r : Reply) → is_reading c ≡ true → IfSome left (λ l. limit_of c < length l) → r.ran.exit ≡ TooLong
     → IsUnplayed r.ran.history.items (places_in r.ran) (bytes_of r.text) (codes "source too long\n") → IsReplyOf (Some c) left r
-reply_to_long c None r reads l e u = long_reply c r (long_bytes source_limit).0 (long_bytes source_limit).1 reads e u
+reply_to_long c None r reads l e u = long_reply c r (long_bytes (limit_of c)).0 (long_bytes (limit_of c)).1 reads e u
 reply_to_long c (Some b) r reads l e u = (b, refl, too_long_says c b r.ran.exit r.ran.history.items (places_in r.ran) (bytes_of r.text) reads e l u)
 
 -- the same for words that are this command

@@ -6,21 +6,20 @@ use Rattle.std.specs.Io.KnownBytes.{Appends, IsAtEnd}
 use Rattle.fm_base.specs.declared.name.Line.{Line}
 use Rattle.fm_base.specs.declared.schedule.Turn.{Turn}
 use Rattle.fm_base.specs.declared.rule.Refusal.{Refusal}
-use Rattle.fm_base.specs.Rules.{refusal_text}
-use Rattle.fm_base.specs.Verdict.{IsClean, IsLeast}
+use Rattle.fm_base.specs.Verdict.{IsClean}
 use Rattle.fm_cards.specs.Cards.{cards_of}
 use Rattle.fm_io.specs.Causes.{Rose}
 use Rattle.fm_io.specs.Streams.{WritesFront}
-use Rattle.fm_sched.specs.Schedule.{play, used, IsLegal, IsEnding, Settles}
+use Rattle.fm_sched.specs.Schedule.{IsLegal, IsEnding, Settles}
 use Rattle.fm_tree.specs.declared.program_unit.Placed.{Placed}
-use Rattle.fm_net.specs.Machine.{Place, State}
+use Rattle.fm_net.specs.Machine.{Place}
 use Rattle.fm_net.specs.Starts.{starts_of, choices_of}
 use Rattle.fm_mean.specs.declared.outcome.FaultAt.{FaultAt}
 use Rattle.fm_mean.specs.declared.outcome.Outcome.{Outcome}
-use Rattle.fm_mean.specs.Process.{Proc}
 use Rattle.fm_mean.specs.Determinism.{IsDeterministic}
 use Rattle.fm_mean.specs.Steps.{language, step, first}
 use Rattle.fm_mean.specs.Outcome.{outcome_of}
+use Rattle.fm_mean.specs.Telling.{TellsEach}
 use Rattle.fm_report.specs.Report.{report_text, spent_text}
 use Rattle.fm_symbols.specs.Context.{context_of}
 use Rattle.fm_rules.specs.Units.{units_of}
@@ -30,6 +29,8 @@ use Rattle.fm_rules.specs.declared.program.Program.{Program}
 use Rattle.fm_front.specs.Verdict.{IsBroken, AreStatementsOf}
 use Rattle.fm_front.specs.Program.{IsCheckedOf}
 use Rattle.fm_run.specs.Runs.{HaveSteps, IsFrontWithin, Follows}
+use Rattle.fm_table.specs.Fair.{IsFair}
+use Rattle.fm_trace.specs.Texts.{IsFirstMalformed, IsTraceText, trace_of_history, trace_text}
 use Rattle.fm_make.specs.Made.{made_text}
 use Rattle.fm_words.specs.Words.{command_of}
 use Rattle.fm_words.specs.declared.command.Command.{Command}
@@ -38,29 +39,8 @@ use Rattle.fmc.specs.declared.answer.Exit.{Exit}
 use Rattle.fmc.specs.declared.answer.Exit.TheVariants.{Done, Faulted, Deadlocked, Refused, Spent, Usage, ReadFault, WriteFault, NoMemory, TooLong, Malformed, Illegal, Unfinished}
 use Rattle.fmc.specs.Exits.{is_read, is_of_reading}
 use Rattle.fmc.specs.Listing.{listed_text}
-
-abbrev pub usage_text : List ℕ
-usage_text = codes "usage: fmc run or trace or replay or check or list or make N or demo N\n"
-
--- the most bytes of a source
-abbrev pub source_limit : ℕ
-source_limit = 1000000
-
--- the exit of a run that ended
-abbrev pub exit_by : List FaultAt → Bool → Exit
-exit_by [] true = Done
-exit_by [] false = Deadlocked
-exit_by (f ∷ fs) ended = Faulted
-
-abbrev pub exit_of : Outcome → Exit
-exit_of o = exit_by o.faults o.main_ended
-
--- the state that a schedule of a program leads to, and what it costs
-abbrev pub state_after : Program → List Place → State Proc
-state_after program choices = play (step program) (first program) choices
-
-abbrev pub cost_of : Program → List Place → ℕ
-cost_of program choices = used (step program) (first program) choices
+use Rattle.fmc.specs.Outcomes.{IsAccepted, IsRefused, IsRefusedFor, IsUnplayed, cost_of, exit_of, source_limit, state_after, usage_text}
+use Rattle.fmc.specs.Replay.{IsTooLongTrace, IsTraceOf, SaysReplay, trace_limit}
 
 -- the kept schedule is one of the checked program of the source under these turns, with its processes in the order of starting
 pub record IsHistoryOf (source : List ℕ) (program : Program) (turns : ℕ) (history : List Turn) (places choices : List Place) : Type 0 where
@@ -71,38 +51,50 @@ pub record IsHistoryOf (source : List ℕ) (program : Program) (turns : ℕ) (hi
   pub some_steps : HaveSteps history
   pub front_within : IsFrontWithin program turns history places
 
--- what is told of a run that ended, by its processes and what it shows
-abbrev pub Tells : Type 0
-Tells = List Place → Outcome → List ℕ
+-- how a run is asked for: its turns, the choices that are handed in, what is told of one that ended, by its schedule, its processes and
+-- what it shows, and what is told of one that was spent, by its schedule
+pub record Asked : Type 0 where
+  pub turns : ℕ
+  pub chosen : List ℕ
+  pub tells : List Turn → List Place → Outcome → List ℕ
+  pub tells_spent : List Turn → List ℕ
 
 -- the kept schedule ends the program within the turns, and exit and text are those of the state in which it ends
-pub record IsEnded (source : List ℕ) (turns : ℕ) (tells : Tells) (exit : Exit) (history : List Turn) (places : List Place) (text : List ℕ) : Type 0 where
+pub record IsEnded (source : List ℕ) (asked : Asked) (exit : Exit) (history : List Turn) (places : List Place) (text : List ℕ) : Type 0 where
   pub within : length source ≤ source_limit
   pub program : Program
   pub choices : List Place
-  pub kept : IsHistoryOf source program turns history places choices
+  pub kept : IsHistoryOf source program asked.turns history places choices
   pub ends : IsEnding (step program) (first program) choices
-  pub in_turns : cost_of program choices ≤ turns
+  pub in_turns : cost_of program choices ≤ asked.turns
   pub exit_is : exit ≡ exit_of (outcome_of program (cost_of program choices) (state_after program choices))
-  pub text_is : text ≡ tells places (outcome_of program (cost_of program choices) (state_after program choices))
+  pub text_is : text ≡ asked.tells history places (outcome_of program (cost_of program choices) (state_after program choices))
+  -- of each process that hasn't ended it is told where it faulted, or where it waits and for what
+  pub tells_each : TellsEach program (state_after program choices) (outcome_of program (cost_of program choices) (state_after program choices))
   -- where the program is deterministic, so it is under every other schedule: it goes on to an end, and one that ends gives
   -- the same state at the same cost
   pub one_outcome : IsDeterministic program → Settles (step program) (first program) choices
 
 -- the kept schedule costs more than the turns
-pub record IsSpent (source : List ℕ) (turns : ℕ) (history : List Turn) (places : List Place) (text : List ℕ) : Type 0 where
+pub record IsSpent (source : List ℕ) (asked : Asked) (history : List Turn) (places : List Place) (text : List ℕ) : Type 0 where
   pub within : length source ≤ source_limit
   pub program : Program
   pub choices : List Place
-  pub kept : IsHistoryOf source program turns history places choices
-  pub over : turns < cost_of program choices
-  pub text_is : text ≡ spent_text turns
+  pub kept : IsHistoryOf source program asked.turns history places choices
+  pub over : asked.turns < cost_of program choices
+  pub text_is : text ≡ asked.tells_spent history
+  -- where nobody chose, each process that could step came before as many entries as there are processes
+  pub fair : asked.chosen ≡ [] → IsFair program history places
   -- where the program is deterministic, so does every schedule that ends
-  pub spent_for_all : IsDeterministic program → (others : List Place) → IsEnding (step program) (first program) others → turns < cost_of program others
+  pub spent_for_all : IsDeterministic program → (others : List Place) → IsEnding (step program) (first program) others → asked.turns < cost_of program others
 
 -- `run` writes the report, with the variables where they are asked for
-abbrev pub report_by : (vars : Bool) → Tells
-report_by vars places o = report_text vars o
+abbrev pub report_asked : (turns : ℕ) → (vars : Bool) → (chosen : List ℕ) → Asked
+report_asked turns vars chosen = record { turns = turns; chosen = chosen; tells = λ history places o. report_text vars o; tells_spent = λ history. spent_text turns }
+
+-- `trace` writes the trace
+abbrev pub trace_asked : (turns : ℕ) → (source : List ℕ) → Asked
+trace_asked turns source = record { turns = turns; chosen = []; tells = λ history places o. trace_text (trace_of_history turns history source); tells_spent = λ history. trace_text (trace_of_history turns history source) }
 
 -- the word of an exit of a run that ended
 abbrev pub ended_word : List FaultAt → Bool → List ℕ
@@ -115,18 +107,15 @@ abbrev pub count_line : List ℕ → ℕ → List ℕ
 count_line word n = word ++ decimal n ++ 10 ∷ []
 
 -- `demo` writes how many processes there were, the cost, how many lines of output, and how it ended
-abbrev pub summary_by : Tells
+abbrev pub summary_by : List Place → Outcome → List ℕ
 summary_by places o =
     count_line (codes "processes ") (length places)
     ++ (count_line (codes "turns ") o.used
     ++ (count_line (codes "lines ") (length o.lines)
     ++ ended_word o.faults o.main_ended))
 
--- nothing was played, and this is the text
-pub record IsUnplayed (history : List Turn) (places : List Place) (text told : List ℕ) : Type 0 where
-  pub no_turns : history ≡ []
-  pub no_places : places ≡ []
-  pub text_is : text ≡ told
+abbrev pub summary_asked : (turns : ℕ) → Asked
+summary_asked turns = record { turns = turns; chosen = []; tells = λ history places o. summary_by places o; tells_spent = λ history. spent_text turns }
 
 -- what a command tells of the statements of a source that breaks no rule; nothing was played
 pub record IsTold (TellsOf : List Placed → List ℕ → Type 0) (source : List ℕ) (history : List Turn) (places : List Place) (text : List ℕ) : Type 0 where
@@ -173,40 +162,36 @@ IsHistoryIn turns source history places = IsNoHistory history places ⊎ ((progr
 abbrev pub HasHistory : Option Command → List ℕ → List Turn → List Place → Type 0
 HasHistory None source history places = IsNoHistory history places
 HasHistory (Some (command.Run setup vars)) source history places = IsHistoryIn setup.turns source history places
+HasHistory (Some (command.Trace setup)) source history places = IsHistoryIn setup.turns source history places
+HasHistory (Some (command.Replay vars)) source history places = IsNoHistory history places
 HasHistory (Some command.Check) source history places = IsNoHistory history places
 HasHistory (Some command.List) source history places = IsNoHistory history places
 HasHistory (Some (command.Make number)) source history places = IsNoHistory history places
 HasHistory (Some (command.Demo number setup)) source history places = IsHistoryIn setup.turns (made_text number) history places
 
--- the source is refused for this: the least rule that it breaks
-abbrev pub IsRefusedFor : List ℕ → Refusal → Type 0
-IsRefusedFor source v = IsLeast (IsBroken source) v
-
--- the source breaks no rule: each command does its work on it
-abbrev pub IsAccepted : List ℕ → Type 0
-IsAccepted source = IsClean (IsBroken source)
-
-pub record IsRefused (source : List ℕ) (history : List Turn) (places : List Place) (text : List ℕ) : Type 0 where
-  pub within : length source ≤ source_limit
-  pub refusal : Refusal
-  pub refused : IsRefusedFor source refusal
-  pub unplayed : IsUnplayed history places text (refusal_text refusal)
-
 -- what a run says by its exit
-abbrev pub SaysRun : (turns : ℕ) → Tells → List ℕ → Exit → List Turn → List Place → List ℕ → Type 0
-SaysRun turns tells b Done h ps t = IsEnded b turns tells Done h ps t
-SaysRun turns tells b Faulted h ps t = IsEnded b turns tells Faulted h ps t
-SaysRun turns tells b Deadlocked h ps t = IsEnded b turns tells Deadlocked h ps t
-SaysRun turns tells b Refused h ps t = IsRefused b h ps t
-SaysRun turns tells b Spent h ps t = IsSpent b turns h ps t
-SaysRun turns tells b Usage h ps t = ⊥
-SaysRun turns tells b ReadFault h ps t = IsUnplayed h ps t (codes "read fault\n")
-SaysRun turns tells b WriteFault h ps t = ⊥
-SaysRun turns tells b NoMemory h ps t = IsUnplayed h ps t (codes "no memory\n")
-SaysRun turns tells b TooLong h ps t = (source_limit < length b) × IsUnplayed h ps t (codes "source too long\n")
-SaysRun turns tells b Malformed h ps t = ⊥
-SaysRun turns tells b Illegal h ps t = ⊥
-SaysRun turns tells b Unfinished h ps t = ⊥
+abbrev pub SaysRun : Asked → List ℕ → Exit → List Turn → List Place → List ℕ → Type 0
+SaysRun asked b Done h ps t = IsEnded b asked Done h ps t
+SaysRun asked b Faulted h ps t = IsEnded b asked Faulted h ps t
+SaysRun asked b Deadlocked h ps t = IsEnded b asked Deadlocked h ps t
+SaysRun asked b Refused h ps t = IsRefused b h ps t
+SaysRun asked b Spent h ps t = IsSpent b asked h ps t
+SaysRun asked b Usage h ps t = ⊥
+SaysRun asked b ReadFault h ps t = IsUnplayed h ps t (codes "read fault\n")
+SaysRun asked b WriteFault h ps t = ⊥
+SaysRun asked b NoMemory h ps t = IsUnplayed h ps t (codes "no memory\n")
+SaysRun asked b TooLong h ps t = (source_limit < length b) × IsUnplayed h ps t (codes "source too long\n")
+SaysRun asked b Malformed h ps t = ⊥
+SaysRun asked b Illegal h ps t = ⊥
+SaysRun asked b Unfinished h ps t = ⊥
+
+-- a run that was played to its end, or as far as its turns
+abbrev pub IsPlayedExit : Exit → Type 0
+IsPlayedExit exit = ((exit ≡ Done) ⊎ ((exit ≡ Faulted) ⊎ (exit ≡ Deadlocked))) ⊎ (exit ≡ Spent)
+
+-- what `trace` says by its exit: what a run says, whose text is that of its trace, which `replay` reads
+abbrev pub SaysTrace : (turns : ℕ) → List ℕ → Exit → List Turn → List Place → List ℕ → Type 0
+SaysTrace turns b exit h ps t = SaysRun (trace_asked turns b) b exit h ps t × (IsPlayedExit exit → IsTraceText t (trace_of_history turns h b))
 
 -- what a command says that runs nothing and tells this of a source
 abbrev pub SaysTold : (List Placed → List ℕ → Type 0) → List ℕ → Exit → List Turn → List Place → List ℕ → Type 0
@@ -230,11 +215,13 @@ SaysMade number exit h ps t = ((exit ≡ Done) × IsUnplayed h ps t (made_text n
 
 -- `demo` runs it; it reads nothing
 abbrev pub SaysDemo : (number turns : ℕ) → Exit → List Turn → List Place → List ℕ → Type 0
-SaysDemo number turns exit h ps t = (is_of_reading exit ≡ false) × SaysRun turns summary_by (made_text number) exit h ps t
+SaysDemo number turns exit h ps t = (is_of_reading exit ≡ false) × SaysRun (summary_asked turns) (made_text number) exit h ps t
 
 -- the exit, with schedule and text, is one of the command for these bytes
 abbrev pub Says : Command → List ℕ → Exit → List Turn → List Place → List ℕ → Type 0
-Says (command.Run setup vars) b exit h ps t = SaysRun setup.turns (report_by vars) b exit h ps t
+Says (command.Run setup vars) b exit h ps t = SaysRun (report_asked setup.turns vars []) b exit h ps t
+Says (command.Trace setup) b exit h ps t = SaysTrace setup.turns b exit h ps t
+Says (command.Replay vars) b exit h ps t = SaysReplay vars b exit h ps t
 Says command.Check b exit h ps t = SaysTold TellsDeterminism b exit h ps t
 Says command.List b exit h ps t = SaysTold TellsList b exit h ps t
 Says (command.Make number) b exit h ps t = SaysMade number exit h ps t
@@ -248,6 +235,8 @@ SaysOf (Some command) b exit h ps t = Says command b exit h ps t
 -- a command that reads the source
 abbrev pub is_reading : Command → Bool
 is_reading (command.Run setup vars) = true
+is_reading (command.Trace setup) = true
+is_reading (command.Replay vars) = true
 is_reading command.Check = true
 is_reading command.List = true
 is_reading (command.Make number) = false
@@ -256,6 +245,16 @@ is_reading (command.Demo number setup) = false
 abbrev pub are_reading : Option Command → Bool
 are_reading None = false
 are_reading (Some c) = is_reading c
+
+-- the most bytes that are read
+abbrev pub limit_of : Command → ℕ
+limit_of (command.Run setup vars) = source_limit
+limit_of (command.Trace setup) = source_limit
+limit_of (command.Replay vars) = trace_limit
+limit_of command.Check = source_limit
+limit_of command.List = source_limit
+limit_of (command.Make number) = source_limit
+limit_of (command.Demo number setup) = source_limit
 
 -- what an exit says of the source is so: that it failed, by its counts of faults before and after, or, where it is read at
 -- all, that it was read to its end
@@ -279,6 +278,8 @@ IsLawful b = (length b ≤ source_limit) × IsAccepted b
 -- nothing stands against the command's work
 abbrev pub IsReady : Command → List ℕ → Type 0
 IsReady (command.Run setup vars) b = IsLawful b
+IsReady (command.Trace setup) b = IsLawful b
+IsReady (command.Replay vars) b = IsTraceOf IsAccepted b
 IsReady command.Check b = IsLawful b
 IsReady command.List b = IsLawful b
 IsReady (command.Make number) b = Unit {0}
@@ -287,6 +288,8 @@ IsReady (command.Demo number setup) b = IsAccepted (made_text number)
 -- the command did its work to the end, or as far as its turns, or found no memory
 abbrev pub IsCompleted : Command → Exit → Type 0
 IsCompleted (command.Run setup vars) exit = ((exit ≡ Done) ⊎ ((exit ≡ Faulted) ⊎ (exit ≡ Deadlocked))) ⊎ ((exit ≡ Spent) ⊎ (exit ≡ NoMemory))
+IsCompleted (command.Trace setup) exit = ((exit ≡ Done) ⊎ ((exit ≡ Faulted) ⊎ (exit ≡ Deadlocked))) ⊎ ((exit ≡ Spent) ⊎ (exit ≡ NoMemory))
+IsCompleted (command.Replay vars) exit = IsPlayedExit exit ⊎ ((exit ≡ Illegal) ⊎ ((exit ≡ Unfinished) ⊎ (exit ≡ NoMemory)))
 IsCompleted command.Check exit = (exit ≡ Done) ⊎ (exit ≡ NoMemory)
 IsCompleted command.List exit = (exit ≡ Done) ⊎ (exit ≡ NoMemory)
 IsCompleted (command.Make number) exit = (exit ≡ Done) ⊎ (exit ≡ NoMemory)
@@ -299,6 +302,8 @@ IsUnlawful b v = (length b ≤ source_limit) × IsRefusedFor b v
 -- what the command works on is refused for this
 abbrev pub IsRefusedBy : Command → List ℕ → Refusal → Type 0
 IsRefusedBy (command.Run setup vars) b v = IsUnlawful b v
+IsRefusedBy (command.Trace setup) b v = IsUnlawful b v
+IsRefusedBy (command.Replay vars) b v = IsTraceOf (λ source. IsRefusedFor source v) b
 IsRefusedBy command.Check b v = IsUnlawful b v
 IsRefusedBy command.List b v = IsUnlawful b v
 IsRefusedBy (command.Make number) b v = ⊥
@@ -310,9 +315,28 @@ IsRefusedExit exit = (exit ≡ Refused) ⊎ (exit ≡ NoMemory)
 abbrev pub IsTooLongExit : Exit → Type 0
 IsTooLongExit exit = (exit ≡ TooLong) ⊎ (exit ≡ NoMemory)
 
--- what a source that is handed in comes to under choices that are handed in: a run that ended, or was spent
-abbrev pub IsPlayedExit : Exit → Type 0
-IsPlayedExit exit = ((exit ≡ Done) ⊎ ((exit ≡ Faulted) ⊎ (exit ≡ Deadlocked))) ⊎ (exit ≡ Spent)
+-- the bytes are over the limit of the command
+abbrev pub IsTooLongBy : Command → List ℕ → Type 0
+IsTooLongBy (command.Run setup vars) b = source_limit < length b
+IsTooLongBy (command.Trace setup) b = source_limit < length b
+IsTooLongBy (command.Replay vars) b = IsTooLongTrace b
+IsTooLongBy command.Check b = source_limit < length b
+IsTooLongBy command.List b = source_limit < length b
+IsTooLongBy (command.Make number) b = ⊥
+IsTooLongBy (command.Demo number setup) b = ⊥
+
+abbrev pub IsMalformedExit : Exit → Type 0
+IsMalformedExit exit = (exit ≡ Malformed) ⊎ (exit ≡ NoMemory)
+
+-- a line of the trace, which is within its limit, is malformed
+abbrev pub IsMalformedBy : Command → List ℕ → Type 0
+IsMalformedBy (command.Run setup vars) b = ⊥
+IsMalformedBy (command.Trace setup) b = ⊥
+IsMalformedBy (command.Replay vars) b = (length b ≤ trace_limit) × (line : ℕ) × IsFirstMalformed b line
+IsMalformedBy command.Check b = ⊥
+IsMalformedBy command.List b = ⊥
+IsMalformedBy (command.Make number) b = ⊥
+IsMalformedBy (command.Demo number setup) b = ⊥
 
 -- the kept schedule of the source's program follows the choices, in pieces of at most a slice
 abbrev pub FollowsIn : List ℕ → (slice : ℕ) → (choices : List ℕ) → List Turn → Type 0

@@ -74,13 +74,13 @@ is_decided Deadlocked = true
 is_decided Refused = true
 is_decided Spent = true
 is_decided NoMemory = true
+is_decided TooLong = true
+is_decided Malformed = true
+is_decided Illegal = true
+is_decided Unfinished = true
 is_decided Usage = false
 is_decided ReadFault = false
 is_decided WriteFault = false
-is_decided TooLong = false
-is_decided Malformed = false
-is_decided Illegal = false
-is_decided Unfinished = false
 
 -- an exit that says how reading the source went wrong
 abbrev pub is_of_reading : Exit → Bool

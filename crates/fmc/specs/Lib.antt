@@ -1,4 +1,6 @@
 pub mod Exits
+pub mod Outcomes
 pub mod Listing
+pub mod Replay
 pub mod Answer
 pub mod Reply

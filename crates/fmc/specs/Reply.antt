@@ -1,11 +1,12 @@
 -- A reply as plain data.
 -- Source: this profile.
 use Rattle.std.specs.Prelude.{◌≡◌, ℕ, false, Option, List, IfSome}
+use Rattle.fm_base.specs.declared.schedule.Turn.{Turn}
 use Rattle.fm_net.specs.Machine.{Place}
 use Rattle.fm_run.specs.Orders.{places_of}
 use Rattle.fm_rules.specs.declared.program.Program.{Program}
 use Rattle.fm_front.specs.Program.{IsCheckedOf}
-use Rattle.fm_run.specs.Runs.{IsRun}
+use Rattle.fm_run.specs.Runs.{Follows, IsRun}
 use Rattle.fm_run.specs.declared.run.Run as run
 use Rattle.fm_run.specs.declared.run.Ending.{Ending}
 use Rattle.fm_run.specs.declared.run.Ending.TheVariants.{Ended, Spent}
@@ -17,8 +18,8 @@ use Rattle.fmc.specs.declared.answer.Reply.{Reply}
 use Rattle.fmc.specs.declared.answer.Text.{Text}
 use Rattle.fmc.specs.declared.answer.Text.TheVariants.{Fixed, Made}
 use Rattle.fmc.specs.Exits.{is_of_reading}
-use Rattle.fm_report.specs.Report.{spent_text}
-use Rattle.fmc.specs.Answer.{Says, SaysOf, SaysRun, Tells, exit_of, summary_by}
+use Rattle.fmc.specs.Outcomes.{exit_of}
+use Rattle.fmc.specs.Answer.{Asked, Says, SaysOf, SaysRun, summary_asked}
 
 abbrev pub bytes_of : Text → List ℕ
 bytes_of (Fixed s) = s.now
@@ -45,16 +46,17 @@ exit_in (Ended o) = exit_of o
 exit_in Spent = exit.Spent
 
 -- what is told of a run that ended, or that it was spent
-abbrev pub text_in : (turns : ℕ) → Tells → List Place → Ending → List ℕ
-text_in turns tells places (Ended o) = tells places o
-text_in turns tells places Spent = spent_text turns
+abbrev pub text_in : Asked → List Turn → List Place → Ending → List ℕ
+text_in asked history places (Ended o) = asked.tells history places o
+text_in asked history places Spent = asked.tells_spent history
 
--- a run of the checked program of a source
-pub record IsRunOf (source : List ℕ) (turns : ℕ) (r : run.Run) : Type 0 where
+-- a run of the checked program of a source, by the choices
+pub record IsRunOf (source : List ℕ) (turns slice : ℕ) (chosen : List ℕ) (r : run.Run) : Type 0 where
   pub program : Program
   pub lawful : IsCheckedOf source program
   pub runs : IsRun program turns r
+  pub follows : Follows program slice chosen r.history.items
 
 -- the reply is that of a run of the source, with its summary
 abbrev pub IsSummary : List ℕ → (turns : ℕ) → Reply → Type 0
-IsSummary source turns r = (is_of_reading r.ran.exit ≡ false) × SaysRun turns summary_by source r.ran.exit r.ran.history.items (places_in r.ran) (bytes_of r.text)
+IsSummary source turns r = (is_of_reading r.ran.exit ≡ false) × SaysRun (summary_asked turns) source r.ran.exit r.ran.history.items (places_in r.ran) (bytes_of r.text)

@@ -4,8 +4,10 @@
 
 mod answer;
 mod listing;
+mod replaying;
+mod replies;
 mod response;
 mod top;
 
 pub use answer::{Exit, Ran};
-pub use top::{fmc, one_verdict, play_choices};
+pub use top::{fmc, one_verdict, play_choices, replay_tells_the_run};

@@ -1,7 +1,6 @@
 //! The reply to a source.
 
-ghost use Rattle.std.specs.Prelude.{◌≡◌, ◌≤◌, ◌++◌, ℕ, List, length, codes, IfOk, IfErr, OnOk, true};
-ghost use Rattle.fm_base.specs.Rules.{refusal_text};
+ghost use Rattle.std.specs.Prelude.{◌≡◌, ◌≤◌, ◌++◌, ℕ, List, [], length, IfOk, IfErr, OnOk, true};
 ghost use Rattle.fm_base.specs.Verdict.{IsClean, IsRefusal};
 ghost use Rattle.fm_cards.specs.Cards.{cards_of};
 ghost use Rattle.fm_rules.specs.Program.{AreShaped};
@@ -10,66 +9,26 @@ ghost use Rattle.fmc.specs.Listing.{listed_text};
 ghost use Rattle.fm_run.specs.Orders.{places_of};
 ghost use Rattle.fm_words.specs.declared.command.Command.TheVariants as command;
 ghost use Rattle.fmc.specs.Exits.{is_decided};
-ghost use Rattle.fmc.specs.Answer.{FollowsIn, IsListOf, determinism_text, IsUnplayed, IsPlayedExit, SaysDemo, SaysMade, SaysRun, count_line, ended_word, exit_of, report_by, source_limit, summary_by};
+ghost use Rattle.fmc.specs.Outcomes.{source_limit};
+ghost use Rattle.fmc.specs.Answer.{FollowsIn, IsListOf, determinism_text, IsPlayedExit, SaysDemo, SaysMade, SaysRun, SaysTrace, count_line, ended_word, limit_of, report_asked, summary_asked, summary_by};
 ghost use Rattle.fmc.specs.Reply.{bytes_of, places_in, IsReply, IsRunOf, IsSummary, exit_in, text_in};
 
 use crate::answer::{Exit, Ran, Reply, Text};
 use crate::listing::list_text;
-use fm_base::{CheckFail, Line, NoMemory, Path, Refusal, Setup};
+use crate::replaying::try_replay;
+use crate::replies::{exit_of, no_memory, refusal_reply, unplayed_reply};
+use fm_base::{CheckFail, Line, NoMemory, Path, Setup};
 use fm_front::{check_statements, front, statements};
 use fm_make::make;
 use fm_mean::Outcome;
-use fm_outcome_code::Compiled;
 use fm_report::{report, spent_text};
-use fm_run::{Ending, Run, run_program};
+use fm_run::{Ending, Run};
+use fm_table::run_table;
+use fm_trace::write;
 use fm_tree::Placed;
 use fm_words::Command;
 use std::alloc::Global;
 use std::sync::Arc;
-
-/// A reply where nothing was played. Takes no memory.
-pub fn unplayed_reply(alloc: Global, exit: Exit, text: Text) -> Reply
-    ensures exit { result.ran.exit ≡ exit }
-    ensures text { IsUnplayed result.ran.history.items (places_in result.ran) (bytes_of result.text) (bytes_of text) }
-{
-    Reply {
-        ran: Ran {
-            exit,
-            history: Vec::new(alloc),
-            paths: Vec::new(alloc),
-        },
-        text,
-    }
-}
-
-/// The reply where memory was asked for and not found. Takes no memory.
-pub fn no_memory(alloc: Global) -> Reply
-    ensures exit { result.ran.exit ≡ Exit.NoMemory }
-    ensures text { IsUnplayed result.ran.history.items (places_in result.ran) (bytes_of result.text) (codes "no memory\n") }
-{
-    unplayed_reply(alloc, Exit::NoMemory, Text::Fixed(b"no memory\n"))
-}
-
-fn refusal_reply(alloc: Global, refusal: Refusal) -> Result<Reply, NoMemory>
-    ensures exit { IfOk result (λ r. r.ran.exit ≡ Exit.Refused) }
-    ensures text { IfOk result (λ r. IsUnplayed r.ran.history.items (places_in r.ran) (bytes_of r.text) (refusal_text refusal)) }
-{
-    let text = Text::Made(refusal.text(alloc)?);
-    Ok(unplayed_reply(alloc, Exit::Refused, text))
-}
-
-fn exit_of(outcome: &Outcome) -> Exit
-    ensures { result ≡ exit_of outcome.now }
-{
-    match outcome.faults.as_slice() {
-        [] => if outcome.main_ended {
-            Exit::Done
-        } else {
-            Exit::Deadlocked
-        },
-        [_, ..] => Exit::Faulted,
-    }
-}
 
 fn exit_in(ending: &Ending) -> Exit
     ensures { result ≡ exit_in ending.now }
@@ -82,7 +41,7 @@ fn exit_in(ending: &Ending) -> Exit
 
 // The text of a run: its report, or that it was spent.
 fn report_in(alloc: Global, run: &Run, turns: u64, vars: bool) -> Result<Vec<u8>, NoMemory>
-    ensures { IfOk result (λ v. v.items ≡ text_in turns (report_by vars) (places_of run.now.paths.items) run.now.ending) }
+    ensures { IfOk result (λ v. v.items ≡ text_in (report_asked turns vars []) run.now.history.items (places_of run.now.paths.items) run.now.ending) }
 {
     match &run.ending {
         Ending::Ended(outcome) => report(alloc, outcome, vars),
@@ -90,23 +49,15 @@ fn report_in(alloc: Global, run: &Run, turns: u64, vars: bool) -> Result<Vec<u8>
     }
 }
 
-/// A run of the program of a source of these bytes, under these choices, in pieces of so many steps at most. Refused by the
-/// least rule that the source breaks.
-fn run_source(
-    alloc: Global,
-    bytes: &[u8],
-    choices: &[u64],
-    turns: u64,
-    slice: u32,
-) -> Result<Run, CheckFail>
-    requires size { length bytes.now ≤ source_limit }
-    requires some { 1 ≤ slice }
-    ensures run { IfOk result (λ run. IsRunOf bytes.now turns run) }
-    ensures follows { IfOk result (λ run. FollowsIn bytes.now slice choices.now run.history.items) }
+/// A run of the program of a source of these bytes, under these choices. Refused by the least rule that the source breaks.
+fn run_source(alloc: Global, bytes: &[u8], choices: &[u64], setup: Setup) -> Result<Run, CheckFail>
+    requires { length bytes.now ≤ source_limit }
+    ensures run { IfOk result (λ run. IsRunOf bytes.now setup.turns setup.slice choices.now run) }
     ensures refused { IfErr result (IsRefusal (IsBroken bytes.now)) }
 {
     let program = front(alloc, bytes)?;
-    Ok(run_program::<Compiled>(alloc, &program, choices, turns, slice)?)
+    let shared = Arc::new(alloc, program)?;
+    Ok(run_table(alloc, shared, setup, choices)?)
 }
 
 // The answer of a run.
@@ -128,19 +79,17 @@ pub fn play_source(
     alloc: Global,
     bytes: &[u8],
     choices: &[u64],
-    turns: u64,
-    slice: u32,
+    setup: Setup,
     vars: bool,
 ) -> Result<(Ran, Vec<u8>), CheckFail>
-    requires size { length bytes.now ≤ source_limit }
-    requires some { 1 ≤ slice }
-    ensures says { IfOk result (λ r. SaysRun turns (report_by vars) bytes.now r.0.exit r.0.history.items (places_in r.0) r.1.items) }
-    ensures follows { IfOk result (λ r. FollowsIn bytes.now slice choices.now r.0.history.items) }
+    requires { length bytes.now ≤ source_limit }
+    ensures says { IfOk result (λ r. SaysRun (report_asked setup.turns vars choices.now) bytes.now r.0.exit r.0.history.items (places_in r.0) r.1.items) }
+    ensures follows { IfOk result (λ r. FollowsIn bytes.now setup.slice choices.now r.0.history.items) }
     ensures exit { IfOk result (λ r. IsPlayedExit r.0.exit) }
     ensures refused { IfErr result (IsRefusal (IsBroken bytes.now)) }
 {
-    let run = run_source(alloc, bytes, choices, turns, slice)?;
-    let text = report_in(alloc, &run, turns, vars)?;
+    let run = run_source(alloc, bytes, choices, setup)?;
+    let text = report_in(alloc, &run, setup.turns, vars)?;
     Ok((answer_of(run), text))
 }
 
@@ -149,7 +98,34 @@ fn try_run(alloc: Global, bytes: &[u8], setup: Setup, vars: bool) -> Result<Repl
     ensures reply { IfOk result (λ r. IsReply (command.Run setup vars) bytes.now r) }
     ensures kind { IfOk result (λ r. is_decided r.ran.exit ≡ true) }
 {
-    match play_source(alloc, bytes, &[], setup.turns, setup.slice, vars) {
+    match play_source(alloc, bytes, &[], setup, vars) {
+        Ok((ran, text)) => Ok(Reply {
+            ran,
+            text: Text::Made(text),
+        }),
+        Err(CheckFail::Refused(refusal)) => refusal_reply(alloc, refusal),
+        Err(CheckFail::NoMemory) => Err(NoMemory),
+    }
+}
+
+/// The answer of a run of a source of these bytes, and its trace.
+fn trace_source(alloc: Global, bytes: &[u8], setup: Setup) -> Result<(Ran, Vec<u8>), CheckFail>
+    requires { length bytes.now ≤ source_limit }
+    ensures says { IfOk result (λ r. SaysTrace setup.turns bytes.now r.0.exit r.0.history.items (places_in r.0) r.1.items) }
+    ensures exit { IfOk result (λ r. IsPlayedExit r.0.exit) }
+    ensures refused { IfErr result (IsRefusal (IsBroken bytes.now)) }
+{
+    let run = run_source(alloc, bytes, &[], setup)?;
+    let text = write(alloc, &run.history, setup.turns, bytes)?;
+    Ok((answer_of(run), text))
+}
+
+fn try_trace(alloc: Global, bytes: &[u8], setup: Setup) -> Result<Reply, NoMemory>
+    requires { length bytes.now ≤ source_limit }
+    ensures reply { IfOk result (λ r. IsReply (command.Trace setup) bytes.now r) }
+    ensures kind { IfOk result (λ r. is_decided r.ran.exit ≡ true) }
+{
+    match trace_source(alloc, bytes, setup) {
         Ok((ran, text)) => Ok(Reply {
             ran,
             text: Text::Made(text),
@@ -195,7 +171,7 @@ fn summary(alloc: Global, paths: &[Arc<Path>], outcome: &Outcome) -> Result<Vec<
 
 // The text of a demonstration: its summary, or that it was spent.
 fn summary_in(alloc: Global, run: &Run, turns: u64) -> Result<Vec<u8>, NoMemory>
-    ensures { IfOk result (λ v. v.items ≡ text_in turns summary_by (places_of run.now.paths.items) run.now.ending) }
+    ensures { IfOk result (λ v. v.items ≡ text_in (summary_asked turns) run.now.history.items (places_of run.now.paths.items) run.now.ending) }
 {
     match &run.ending {
         Ending::Ended(outcome) => summary(alloc, &run.paths, outcome),
@@ -206,11 +182,11 @@ fn summary_in(alloc: Global, run: &Run, turns: u64) -> Result<Vec<u8>, NoMemory>
 /// The answer of a demonstration by a source of these bytes, and its text.
 fn show_source(alloc: Global, bytes: &[u8], setup: Setup) -> Result<(Ran, Vec<u8>), CheckFail>
     requires { length bytes.now ≤ source_limit }
-    ensures says { IfOk result (λ r. SaysRun setup.turns summary_by bytes.now r.0.exit r.0.history.items (places_in r.0) r.1.items) }
+    ensures says { IfOk result (λ r. SaysRun (summary_asked setup.turns) bytes.now r.0.exit r.0.history.items (places_in r.0) r.1.items) }
     ensures exit { IfOk result (λ r. IsPlayedExit r.0.exit) }
     ensures refused { IfErr result (IsRefusal (IsBroken bytes.now)) }
 {
-    let run = run_source(alloc, bytes, &[], setup.turns, setup.slice)?;
+    let run = run_source(alloc, bytes, &[], setup)?;
     let text = summary_in(alloc, &run, setup.turns)?;
     Ok((answer_of(run), text))
 }
@@ -320,12 +296,14 @@ fn try_list(alloc: Global, bytes: &[u8]) -> Result<Reply, NoMemory>
 
 /// The reply to a source of these bytes, on which `make` and `demo` don't depend.
 pub fn reply(alloc: Global, command: Command, bytes: &[u8]) -> Reply
-    requires { length bytes.now ≤ source_limit }
+    requires { length bytes.now ≤ limit_of command }
     ensures reply { IsReply command bytes.now result }
     ensures kind { is_decided result.ran.exit ≡ true }
 {
     let tried = match command {
         Command::Run { setup, vars } => try_run(alloc, bytes, setup, vars),
+        Command::Trace { setup } => try_trace(alloc, bytes, setup),
+        Command::Replay { vars } => try_replay(alloc, bytes, vars),
         Command::Check => try_check(alloc, bytes),
         Command::List => try_list(alloc, bytes),
         Command::Make { number } => try_make(alloc, number),

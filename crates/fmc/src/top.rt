@@ -1,6 +1,6 @@
 //! The top call.
 
-ghost use Rattle.std.specs.Prelude.{◌≡◌, ◌≢◌, ◌≤◌, ◌<◌, ℕ, true, false, List, map, length, IfSome, IfOk, IfErr, Some, is_none};
+ghost use Rattle.std.specs.Prelude.{◌≡◌, ◌≢◌, ◌≤◌, ℕ, Bool, true, false, List, [], map, length, IfSome, IfOk, IfErr, Some, is_none};
 ghost use Rattle.std.specs.Io.KnownBytes.{Appends, IsAtEnd};
 ghost use Rattle.fm_base.specs.declared.rule.Refusal.{Refusal};
 ghost use Rattle.fm_base.specs.Verdict.{IsRefusal};
@@ -10,23 +10,49 @@ ghost use Rattle.fm_front.specs.Laws.{OneVerdict};
 ghost use Rattle.fm_front.specs.Verdict.{IsBroken};
 ghost use Rattle.fm_words.specs.Words.{command_of};
 ghost use Rattle.fm_words.specs.declared.command.Command.{Command};
+ghost use Rattle.fm_words.specs.declared.command.Command.TheVariants as command;
+ghost use Rattle.fm_base.specs.declared.schedule.Setup as declared_setup;
+ghost use Rattle.fm_base.specs.declared.schedule.Turn.{Turn};
+ghost use Rattle.fm_net.specs.Machine.{Place};
+ghost use Rattle.fmc.specs.declared.answer.Exit as declared_exit;
 ghost use Rattle.fmc.specs.Exits.{is_usage, is_read};
-ghost use Rattle.fmc.specs.Answer.{Answers, FollowsIn, SaysRun, HasHistory, IsReady, IsRefusedBy, IsCompleted, IsRefusedExit, IsTooLongExit, IsPlayedExit, are_reading, is_reading, report_by, source_limit};
+ghost use Rattle.fmc.specs.Outcomes.{source_limit};
+ghost use Rattle.fmc.specs.Replay.{trace_limit};
+ghost use Rattle.fmc.specs.Answer.{Answers, FollowsIn, Says, SaysRun, HasHistory, IsReady, IsRefusedBy, IsCompleted, IsMalformedBy, IsMalformedExit, IsRefusedExit, IsTooLongBy, IsTooLongExit, IsPlayedExit, are_reading, is_reading, limit_of, report_asked};
 ghost use Rattle.fmc.specs.Reply.{IsReplyFor, IsReplyOf, bytes_of, places_in};
 
 use crate::answer::{Exit, Ran, Reply, Text};
-use crate::response::{no_memory, play_source, reply, unplayed_reply};
-use fm_base::CheckFail;
+use crate::replies::{no_memory, unplayed_reply};
+use crate::response::{play_source, reply};
+use fm_base::{CheckFail, Plan, Setup};
 use fm_io::{ReadFail, Sink, Source, WriteFail, read_all, write_all};
 use fm_words::{Command, WordsFail, words as command_in};
 use std::alloc::Global;
 
+/// The most bytes of a source.
 const LIMIT: usize = 1_000_000;
+
+/// The most bytes of a trace.
+const TRACE_LIMIT: usize = 100_000_000;
 
 /// The most steps of a piece under a schedule of the caller's.
 const SLICE: u32 = 1_000;
 
 const USAGE: &[u8] = b"usage: fmc run or trace or replay or check or list or make N or demo N\n";
+
+fn limit_of(command: &Command) -> usize
+    ensures { result ≡ limit_of command.now }
+{
+    match command {
+        Command::Run { .. } => LIMIT,
+        Command::Trace { .. } => LIMIT,
+        Command::Replay { .. } => TRACE_LIMIT,
+        Command::Check => LIMIT,
+        Command::List => LIMIT,
+        Command::Make { .. } => LIMIT,
+        Command::Demo { .. } => LIMIT,
+    }
+}
 
 /// The reply to a command that works on the source.
 fn respond_to<S: Source>(alloc: Global, command: Command, source: &mut S) -> Reply
@@ -38,7 +64,7 @@ fn respond_to<S: Source>(alloc: Global, command: Command, source: &mut S) -> Rep
     ensures read { is_read result.ran.exit ≡ true → IsAtEnd (S.left source.new) }
     ensures later { S.faults source.old ≤ S.faults source.new }
 {
-    match read_all(alloc, source, LIMIT) {
+    match read_all(alloc, source, limit_of(&command)) {
         Ok(bytes) => reply(alloc, command, &bytes),
         Err(ReadFail::Fault) => {
             unplayed_reply(alloc, Exit::ReadFault, Text::Fixed(b"read fault\n"))
@@ -55,6 +81,8 @@ fn is_reading(command: &Command) -> bool
 {
     match command {
         Command::Run { .. } => true,
+        Command::Trace { .. } => true,
+        Command::Replay { .. } => true,
         Command::Check => true,
         Command::List => true,
         Command::Make { .. } => false,
@@ -159,15 +187,17 @@ pub fn fmc<S: Source, K: Sink>(alloc: Global, words: &[&str], source: &mut S, si
     ensures unread_refused { (command : Command) → command_of (map (λ w. w.now) words.now) ≡ Some command
         → is_reading command ≡ false → ¬ Rose (K.faults sink.old) (K.faults sink.new)
         → (b : List ℕ) (v : Refusal) → IsRefusedBy command b v → IsRefusedExit result.exit }
-    ensures too_long { are_reading (command_of (map (λ w. w.now) words.now)) ≡ true → ¬ Rose (S.faults source.old) (S.faults source.new) → ¬ Rose (K.faults sink.old) (K.faults sink.new)
-        → IfSome (S.left source.old) (λ b. source_limit < length b → IsTooLongExit result.exit) }
+    ensures too_long { (command : Command) → command_of (map (λ w. w.now) words.now) ≡ Some command → ¬ Rose (S.faults source.old) (S.faults source.new) → ¬ Rose (K.faults sink.old) (K.faults sink.new)
+        → IfSome (S.left source.old) (λ b. IsTooLongBy command b → IsTooLongExit result.exit) }
+    ensures malformed { (command : Command) → command_of (map (λ w. w.now) words.now) ≡ Some command → ¬ Rose (S.faults source.old) (S.faults source.new) → ¬ Rose (K.faults sink.old) (K.faults sink.new)
+        → IfSome (S.left source.old) (λ b. IsMalformedBy command b → IsMalformedExit result.exit) }
 {
     let reply = respond(alloc, words, source);
     finish(sink, reply)
 }
 
 /// Does with a source of these bytes what `run` does, under a schedule of the caller's: piece i, of at
-/// most 1,000 steps, its event among them, goes to number `choices[i]`, from 0 and modulo their count, of those
+/// most 1,000 local steps with its event behind them, goes to number `choices[i]`, from 0 and modulo their count, of those
 /// that can step, in their order, and to the first one when the choices are used up. Gives the exit with
 /// the kept schedule, and the text.
 pub fn play_choices(
@@ -180,12 +210,18 @@ pub fn play_choices(
     requires size { length source.now ≤ source_limit }
     requires some_turns { 1 ≤ turns }
     requires few_turns { turns ≤ 1_000_000_000 }
-    ensures answers { IfOk result (λ r. SaysRun turns (report_by vars) source.now r.0.exit r.0.history.items (places_in r.0) r.1.items) }
+    ensures answers { IfOk result (λ r. SaysRun (report_asked turns vars choices.now) source.now r.0.exit r.0.history.items (places_in r.0) r.1.items) }
     ensures follows { IfOk result (λ r. FollowsIn source.now 1_000 choices.now r.0.history.items) }
     ensures exit { IfOk result (λ r. IsPlayedExit r.0.exit) }
     ensures refused { IfErr result (IsRefusal (IsBroken source.now)) }
 {
-    play_source(alloc, source, choices, turns, SLICE, vars)
+    let setup = Setup {
+        turns,
+        slice: SLICE,
+        workers: 1,
+        plan: Plan::Cyclic,
+    };
+    play_source(alloc, source, choices, setup, vars)
 }
 
 /// A source has one verdict.
@@ -194,3 +230,11 @@ pub fn one_verdict()
 {
     fm_front::one_verdict();
 }
+
+/// What `trace` writes of a run, where it has at most 100,000,000 bytes, is replayed to what `run` would say under the same
+/// schedule: the same exit and the same report.
+pub fn replay_tells_the_run()
+    ensures { (setup : declared_setup.Setup) (vars : Bool) (source : List ℕ) (exit : declared_exit.Exit) (history : List Turn) (places : List Place) (text : List ℕ)
+        → Says (command.Trace setup) source exit history places text → IsPlayedExit exit → length text ≤ trace_limit
+        → (told : List ℕ) × SaysRun (report_asked setup.turns vars []) source exit history places told × Says (command.Replay vars) text exit [] [] told }
+{}

@@ -2,7 +2,7 @@
 //! status of the exit.
 #![tactic(auto)]
 
-use fm_io::{StdSink, StdSource};
+use fm_io::{StdSink, StdSource, WriteFail, write_all};
 use fmc::{Exit, fmc};
 use std::alloc::{AllocError, Global};
 use std::io::ErrorKind;
@@ -35,11 +35,19 @@ fn exit(rt: &HostRuntime, words: &[&str]) -> Exit {
     fmc(rt.alloc(), words, &mut source, &mut sink).exit
 }
 
+/// The exit where memory is wanting while the words are read, and its text.
+fn without_memory(rt: &HostRuntime) -> Exit {
+    match write_all(&mut StdSink::new(rt.stdout()), b"no memory\n") {
+        Ok(()) => Exit::NoMemory,
+        Err(WriteFail) => Exit::WriteFault,
+    }
+}
+
 /// The exit of a call whose words are all UTF-8.
 fn exit_of(rt: &HostRuntime, words: &[String]) -> Exit {
     match views(rt.alloc(), words) {
         Ok(views) => exit(rt, &views),
-        Err(AllocError) => Exit::NoMemory,
+        Err(AllocError) => without_memory(rt),
     }
 }
 
@@ -51,7 +59,7 @@ fn main(rt: HostRuntime) -> ExitCode {
                 // No command has a word that isn't UTF-8, and none has no words.
                 exit(&rt, &[])
             } else {
-                Exit::NoMemory
+                without_memory(&rt)
             }
         }
     };

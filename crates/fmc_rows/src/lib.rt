@@ -26,6 +26,8 @@ mod rules;
 #[cfg(test)]
 mod schedules;
 #[cfg(test)]
+mod traces;
+#[cfg(test)]
 mod trees;
 #[cfg(test)]
 mod words;

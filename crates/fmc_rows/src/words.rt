@@ -88,12 +88,10 @@ const RUNS: [(&[&str], Setup, bool); 8] = [
 ];
 
 /// Words that are no command.
-const NOTHING: [&[&str]; 35] = [
+const NOTHING: [&[&str]; 41] = [
     &[],
     &[""],
     &["RUN"],
-    &["trace"],
-    &["replay"],
     &["--vars", "run"],
     &["list", "--vars"],
     &["list", "list"],
@@ -119,6 +117,14 @@ const NOTHING: [&[&str]; 35] = [
     &["run", "--workers=65"],
     &["run", "--slice", "1000001"],
     &["run", "--plan=Block"],
+    &["trace", "--turns=0"],
+    &["trace", "--vars", "--vars"],
+    &["replay", "--turns=5"],
+    &["replay", "--workers", "4"],
+    &["replay", "--slice=10"],
+    &["replay", "--plan", "cyclic"],
+    &["replay", "--vars", "--vars"],
+    &["replay", "7"],
     &["make"],
     &["make", "7", "--vars"],
     &["make", "7", "8"],
@@ -131,6 +137,14 @@ fn words_are_their_commands(rt: HostRuntime) -> Result<(), Fail> {
     let alloc = rt.alloc();
     assert_eq!(rt; words(alloc, &["list"]), Ok(Command::List));
     assert_eq!(rt; words(alloc, &["check"]), Ok(Command::Check));
+    assert_eq!(rt;
+        words(alloc, &["replay", "--vars"]),
+        Ok(Command::Replay { vars: true })
+    );
+    assert_eq!(rt;
+        words(alloc, &["replay"]),
+        Ok(Command::Replay { vars: false })
+    );
     assert_eq!(rt;
         words(alloc, &["make", "007"]),
         Ok(Command::Make { number: 7 })
@@ -151,6 +165,15 @@ fn words_are_their_commands(rt: HostRuntime) -> Result<(), Fail> {
             vars: *vars,
         };
         assert_eq!(rt; words(alloc, row), Ok(command), "run {i}");
+        let mut traced = Vec::from_slice(alloc, *row)?;
+        if let Some(first) = traced.first_mut() {
+            *first = "trace";
+        }
+        assert_eq!(rt;
+            words(alloc, &traced),
+            Ok(Command::Trace { setup: *setup }),
+            "trace {i}"
+        );
     }
     for (i, row) in NOTHING.iter().enumerate() {
         assert_eq!(rt; words(alloc, row), Err(WordsFail::Usage), "nothing {i}");

@@ -43,7 +43,7 @@ pub returns-then-branch-clause-order : goal.returns-then-branch-clause-order
 returns-then-branch-clause-order g c = IfOk-weaker c.put.result _ _ (λ u is. refl) c.put.ensures.numbers
 
 pub returns-then-branch-clause-history : goal.returns-then-branch-clause-history
-returns-then-branch-clause-history g c = IfOk-weaker c.put.result _ _ (λ u is. refl) c.put.ensures.numbers
+returns-then-branch-clause-history g c = refl
 
 pub returns-clause-noted : goal.returns-clause-noted
 returns-clause-noted g c = IfOk-weaker c.note.result _ _ (λ u noted q x at here unable. noted q x at here) c.note.ensures.noted

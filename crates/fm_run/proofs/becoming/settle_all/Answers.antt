@@ -68,3 +68,6 @@ returns-clause-noted g c = λ all before.
     let P = c.args.program.now in
     let every : c.candidates.number-index ≡ length c.args.candidates.now = omega arith in
     subst (λ (i : ℕ). AreNotedBut P (g.N.Net.state P c.args.net.now) (g.N.Net.channels c.candidates.net) (g.N.Net.order c.args.net.now) (OwnOrLeft c.args.own c.args.candidates.now i)) every (c.candidates.invariant.noted all before)
+
+pub returns-in_err-ask-clause-history : goal.returns-in_err-ask-clause-history
+returns-in_err-ask-clause-history g c = c.ask.ensures.history ∙ c.candidates.invariant.history

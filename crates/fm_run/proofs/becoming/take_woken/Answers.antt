@@ -43,3 +43,6 @@ returns-clause-sound g c = λ p sound. c.next_woken.ensures.sound p (c.woken.inv
 
 pub returns-clause-readers : goal.returns-clause-readers
 returns-clause-readers g c = λ d. c.next_woken.ensures.readers d ∙ c.woken.invariant.readers d
+
+pub returns-in_err-push-clause-history : goal.returns-in_err-push-clause-history
+returns-in_err-push-clause-history g c = c.next_woken.ensures.history ∙ c.woken.invariant.history

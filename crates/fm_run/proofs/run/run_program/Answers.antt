@@ -1,8 +1,11 @@
 use Rattle.std.proofs.Common.{List, sym, subst, arith}
 use Rattle.fm_base.specs.declared.schedule.Turn.{Turn}
+use Rattle.fm_run.specs.Entries.{turn_of}
 use Rattle.fm_run.specs.Runs.{Follows, stand_at}
 use Rattle.fm_run.proofs.Following.{followed_first, followed_more}
 use Rattle.fm_run.proofs.Numbers.{among_get}
+use Rattle.fm_run.proofs.Results.{if_ok_all}
+use Rattle.std.proofs.lemmas.Result.{IfOk-weaker}
 use Rattle.fm_run.proofs.Playing.{front_none, main_first, none_left, run_ended, run_spent}
 use Rattle.fm_run.proofs.run.run_program.Goals as goal
 
@@ -11,16 +14,18 @@ returns-clause-run g c =
     let P = c.args.program.now in
     let player = c.pieces.player in
     let played = c.pieces.invariant.played in
+    if_ok_all c.ended-2.result c.ended-2.ensures.history c.ended-2.ensures.paths c.ended-2.ensures.ending (λ r hs ps is.
     run_ended P c.args.turns (g.N.Net.history player.net) (g.N.Net.order player.net) (g.N.Net.state P player.net) player.able.numbers.items player.used played.history played.able
     (none_left _ player.able.numbers.items c.next.result c.next.ensures c.in_default.not-Some) c.pieces.invariant.within c.pieces.invariant.front c.in_ok-outcome.outcome c.in_ok-outcome.ensures
-    c.ended.result c.ended.ensures.history c.ended.ensures.paths c.ended.ensures.ending
+    r hs ps is)
 
 pub returns-then-player-turns-clause-run : goal.returns-then-player-turns-clause-run
 returns-then-player-turns-clause-run g c =
     let P = c.args.program.now in
     let player = c.play.new.self in
+    if_ok_all c.ended.result c.ended.ensures.history c.ended.ensures.paths c.ended.ensures.ending (λ r hs ps is.
     run_spent P c.args.turns (g.N.Net.history player.net) (g.N.Net.order player.net) (g.N.Net.state P player.net) player.used c.in_ok-play.ensures.played.history (omega arith) (c.in_ok-play.ensures.front c.args.turns c.pieces.invariant.within)
-    c.spent.result c.spent.ensures.history c.spent.ensures.paths c.spent.ensures.ending
+    r hs ps is)
 
 pub pieces-init : goal.pieces-init
 pieces-init g c =
@@ -45,7 +50,8 @@ pieces-preserved g c =
       within = omega arith;
       front = c.in_ok-play.ensures.front c.args.turns c.pieces.invariant.within;
       followed =
-          followed_more P _ c.args.choices.now (g.N.Net.history player.net) (stand_at (g.N.Net.state P player.net) (g.N.Net.order player.net) player.able.numbers.items) c.pieces.invariant.followed c.in-Some.number (sym c.in-Some.ensures)
+          followed_more P _ c.args.choices.now (g.N.Net.history player.net) (stand_at (g.N.Net.state P player.net) (g.N.Net.order player.net) player.able.numbers.items) c.pieces.invariant.followed
+          (turn_of c.in-Some.number c.in_ok-play.field-0) (sym c.in-Some.ensures) c.in_ok-play.ensures.full
           (g.N.Net.history later.net) (stand_at (g.N.Net.state P later.net) (g.N.Net.order later.net) later.able.numbers.items) c.in_ok-play.ensures.entry c.in_ok-play.ensures.able;
     }
 
@@ -53,7 +59,7 @@ pub play-requires-clause-able : goal.play-requires-clause-able
 play-requires-clause-able g c = among_get c.pieces.player.able.numbers.items _ c.in-Some.number (sym c.in-Some.ensures)
 
 pub returns-clause-follows : goal.returns-clause-follows
-returns-clause-follows g c = subst (λ (ts : List Turn). Follows c.args.program.now c.args.slice c.args.choices.now ts) (sym c.ended.ensures.history) c.pieces.invariant.followed.follows
+returns-clause-follows g c = IfOk-weaker c.ended-2.result _ _ (λ r hs. subst (λ (ts : List Turn). Follows c.args.program.now c.args.slice c.args.choices.now ts) (sym hs) c.pieces.invariant.followed.follows) c.ended-2.ensures.history
 
 pub returns-then-player-turns-clause-follows : goal.returns-then-player-turns-clause-follows
 returns-then-player-turns-clause-follows g c =
@@ -61,9 +67,10 @@ returns-then-player-turns-clause-follows g c =
     let player = c.pieces.player in
     let later = c.play.new.self in
     let followed =
-    followed_more P c.args.slice c.args.choices.now (g.N.Net.history player.net) (stand_at (g.N.Net.state P player.net) (g.N.Net.order player.net) player.able.numbers.items) c.pieces.invariant.followed c.in-Some.number (sym c.in-Some.ensures)
+    followed_more P c.args.slice c.args.choices.now (g.N.Net.history player.net) (stand_at (g.N.Net.state P player.net) (g.N.Net.order player.net) player.able.numbers.items) c.pieces.invariant.followed
+    (turn_of c.in-Some.number c.in_ok-play.field-0) (sym c.in-Some.ensures) c.in_ok-play.ensures.full
     (g.N.Net.history later.net) (stand_at (g.N.Net.state P later.net) (g.N.Net.order later.net) later.able.numbers.items) c.in_ok-play.ensures.entry c.in_ok-play.ensures.able in
-    subst (λ (ts : List Turn). Follows c.args.program.now c.args.slice c.args.choices.now ts) (sym c.spent.ensures.history) followed.follows
+    IfOk-weaker c.ended.result _ _ (λ r hs. subst (λ (ts : List Turn). Follows c.args.program.now c.args.slice c.args.choices.now ts) (sym hs) followed.follows) c.ended.ensures.history
 
 pub outcome-requires-clause-main : goal.outcome-requires-clause-main
 outcome-requires-clause-main g c =

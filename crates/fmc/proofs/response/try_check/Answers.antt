@@ -1,5 +1,5 @@
 use Rattle.std.proofs.Common.{subst}
-use Rattle.fmc.specs.Answer.{IsUnplayed}
+use Rattle.fmc.specs.Outcomes.{IsUnplayed}
 use Rattle.fmc.specs.Reply.{bytes_of, places_in}
 use Rattle.fmc.proofs.AnswerLaws.{checked_says, race_of}
 use Rattle.fmc.proofs.response.try_check.Goals as goal

@@ -1,9 +1,9 @@
 use Rattle.std.proofs.Common.{sym, ap, subst, map, ◌∙◌}
 use Rattle.fm_make.proofs.Short.{made_text_short}
 use Rattle.fm_words.specs.Words.{command_of}
-use Rattle.fmc.specs.Answer.{IsCompleted, IsRefusedExit, IsTooLongExit, are_reading}
+use Rattle.fmc.specs.Answer.{IsCompleted, IsRefusedExit, IsMalformedExit, IsTooLongExit, are_reading}
 use Rattle.fmc.specs.Reply.{bytes_of, places_in}
-use Rattle.fmc.proofs.AnswerLaws.{when_told, said_of, says_history, answered, completed, refused_of, too_long_by, no_read_fault}
+use Rattle.fmc.proofs.AnswerLaws.{when_told, said_of, says_history, answered, completed, refused_of, too_long_by, malformed_by, no_read_fault}
 use Rattle.fmc.proofs.top.fmc.Goals as goal
 
 pub returns-clause-answers : goal.returns-clause-answers
@@ -91,10 +91,23 @@ returns-clause-unread_refused g c = λ command is unread no_write b v w.
     (no_read_fault command b r.ran.exit r.ran.history.items (places_in r.ran) (bytes_of r.text) unread says) made_text_short v w)
 
 pub returns-clause-too_long : goal.returns-clause-too_long
-returns-clause-too_long g c = λ reads no_read no_write.
+returns-clause-too_long g c = λ command is no_read no_write.
     let o = command_of (map (λ w. w.now) c.args.words.now) in
     let r = c.respond-reply.result in
     let same = (c.finish.ensures.whole (λ e. no_write (c.finish.ensures.cut e).0)).0 in
     when_told o (g.S.Source.left c.args.source.now) r _ c.respond-reply.ensures.reply
     (λ b says l. subst IsTooLongExit (sym same)
-    (too_long_by o b r.ran.exit r.ran.history.items (places_in r.ran) (bytes_of r.text) says reads (λ e. no_read (c.respond-reply.ensures.read_fault e)) l))
+    (too_long_by command b r.ran.exit r.ran.history.items (places_in r.ran) (bytes_of r.text)
+    (said_of o command b r.ran.exit r.ran.history.items (places_in r.ran) (bytes_of r.text) is says)
+    (λ e. no_read (c.respond-reply.ensures.read_fault e)) l))
+
+pub returns-clause-malformed : goal.returns-clause-malformed
+returns-clause-malformed g c = λ command is no_read no_write.
+    let o = command_of (map (λ w. w.now) c.args.words.now) in
+    let r = c.respond-reply.result in
+    let same = (c.finish.ensures.whole (λ e. no_write (c.finish.ensures.cut e).0)).0 in
+    when_told o (g.S.Source.left c.args.source.now) r _ c.respond-reply.ensures.reply
+    (λ b says l. subst IsMalformedExit (sym same)
+    (malformed_by command b r.ran.exit r.ran.history.items (places_in r.ran) (bytes_of r.text)
+    (said_of o command b r.ran.exit r.ran.history.items (places_in r.ran) (bytes_of r.text) is says)
+    (λ e. no_read (c.respond-reply.ensures.read_fault e)) l))

@@ -1,5 +1,5 @@
-use Rattle.std.proofs.Common.{ap, refl}
-use Rattle.std.specs.Prelude.{Some, Err}
+use Rattle.std.proofs.Common.{ℕ, ◌<◌, length, ap, refl, subst}
+use Rattle.std.specs.Prelude.{Some, Err, IfSome}
 use Rattle.fmc.proofs.AnswerLaws.{no_memory_says, reply_to_any, reply_to_read, reply_to_fault, reply_to_long}
 use Rattle.fmc.proofs.top.respond_to.Goals as goal
 
@@ -15,7 +15,7 @@ pub returns-in-Err-TooLong-clause-reply : goal.returns-in-Err-TooLong-clause-rep
 returns-in-Err-TooLong-clause-reply g c =
     let r = c.unplayed_reply-in-Err-TooLong in
     reply_to_long c.args.command (g.S.Source.left c.args.source.now) r.result c.requires
-    (c.in-Err-TooLong.ensures.too_long (ap Err c.in-Err-TooLong.field-0-is)) r.ensures.exit r.ensures.text
+    (subst (λ (n : ℕ). IfSome (g.S.Source.left c.args.source.now) (λ l. n < length l)) c.limit_of.ensures (c.in-Err-TooLong.ensures.too_long (ap Err c.in-Err-TooLong.field-0-is))) r.ensures.exit r.ensures.text
 
 pub returns-in-Err-NoMemory-clause-reply : goal.returns-in-Err-NoMemory-clause-reply
 returns-in-Err-NoMemory-clause-reply g c =

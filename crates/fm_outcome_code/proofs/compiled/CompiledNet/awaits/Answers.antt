@@ -15,7 +15,7 @@ pub returns : goal.returns
 returns c = λ p sound can.
     let net = c.args.self.now in
     let ps = order_of net.stacks.entries in
-    let s = played p net.history.items ps in
+    let s = played p net.history ps in
     let t = state_of net.stacks in
     let place = some_there (slice_get ps c.args.number) (known_place p s ps c.args.number can) in
     let q = place.0 in

@@ -10,4 +10,4 @@ returns c =
     let net = c.args.self.now in
     let p = c.args.program.now in
     let ps = order_of net.stacks.entries in
-    subst (λ (b : Bool). IfOk c.can_step.result (λ r. r ≡ b)) (can_alike p (played p net.history.items ps) (state_of net.stacks) c.requires.sound.stands ps c.args.number) c.can_step.ensures
+    subst (λ (b : Bool). IfOk c.can_step.result (λ r. r ≡ b)) (can_alike p (played p net.history ps) (state_of net.stacks) c.requires.sound.stands ps c.args.number) c.can_step.ensures

@@ -11,10 +11,10 @@ pub returns-clause-state : goal.returns-clause-state
 returns-clause-state c =
     let p = c.args.program.now in
     let ps = order_of c.in_ok-stacks.stacks.entries in
-    ap (λ (hs : List Turn). played p hs ps) c.new-history.ensures.items ∙ played_none p ps
+    ap (λ (hs : List Turn). played p hs ps) c.new-history.ensures ∙ played_none p ps
 
 pub returns-clause-sound : goal.returns-clause-sound
 returns-clause-sound c =
     let p = c.args.program.now in
     let stacks = c.in_ok-stacks.stacks in
-    subst (λ (hs : List Turn). IsSound p stacks hs) (sym c.new-history.ensures.items) (first_sound p stacks c.in_ok-stacks.ensures.state c.in_ok-stacks.ensures.kept)
+    subst (λ (hs : List Turn). IsSound p stacks hs) (sym c.new-history.ensures) (first_sound p stacks c.in_ok-stacks.ensures.state c.in_ok-stacks.ensures.kept)

@@ -17,14 +17,14 @@ pub make_piece-requires-clause-new : goal.make_piece-requires-clause-new
 make_piece-requires-clause-new c =
     let net = c.args.self.now in
     let p = c.args.program.now in
-    new_along p (played p net.history.items (order_of net.stacks.entries)) (state_of net.stacks) c.requires.sound.stands (actor_place c.in_ok-actor.actor)
+    new_along p (played p net.history (order_of net.stacks.entries)) (state_of net.stacks) c.requires.sound.stands (actor_place c.in_ok-actor.actor)
 
 pub make_piece-requires-clause-can : goal.make_piece-requires-clause-can
 make_piece-requires-clause-can c =
     let net = c.args.self.now in
     let p = c.args.program.now in
     let ps = order_of net.stacks.entries in
-    let s = played p net.history.items ps in
+    let s = played p net.history ps in
     steps_alike p s (state_of net.stacks) c.requires.sound.stands (actor_place c.in_ok-actor.actor)
     ∙ sym (ap (can_in p s) (ap (slice_get ps) (sym c.in_ok-actor.ensures.number) ∙ c.in_ok-actor.ensures.actor)) ∙ c.requires.able
 
@@ -34,8 +34,8 @@ returns-clause-sound c =
     let ps = order_of net.stacks.entries in
     let q = actor_place c.in_ok-actor.actor in
     let r = c.in_ok-piece.piece in
-    sound_after c.args.program.now net.stacks net.history.items c.requires.sound c.args.number q (ap (slice_get ps) (sym c.in_ok-actor.ensures.number) ∙ c.in_ok-actor.ensures.actor) c.args.slice r
-    c.make_piece.new.self c.in_ok-piece.ensures.kept c.in_ok-piece.ensures.piece c.in_ok-piece.ensures.order c.push.new.self.items c.in_ok-push.ensures.items
+    sound_after c.args.program.now net.stacks net.history c.requires.sound c.args.number q (ap (slice_get ps) (sym c.in_ok-actor.ensures.number) ∙ c.in_ok-actor.ensures.actor) c.args.slice c.args.kind.spare r
+    c.make_piece.new.self c.in_ok-piece.ensures.kept c.in_ok-piece.ensures.piece c.in_ok-piece.ensures.order c.args.kind.joins c.requires.joins c.put_piece.new.history c.in_ok-put_piece.ensures.ok
 
 pub returns-clause-order : goal.returns-clause-order
 returns-clause-order c =
@@ -54,6 +54,6 @@ returns-clause-piece c =
     let q = actor_place c.in_ok-actor.actor in
     let r = c.in_ok-piece.piece in
     let who : slice_get ps c.args.number ≡ Some q = ap (slice_get ps) (sym c.in_ok-actor.ensures.number) ∙ c.in_ok-actor.ensures.actor in
-    subst (λ (z : Place). IsPiece p c.args.slice (played p net.history.items ps) z c.as_piece.result (played p c.push.new.self.items (order_of c.make_piece.new.self.entries))) (sym (get_or_from_slice_get ps c.args.number q [] who))
-    (piece_made p net.stacks net.history.items c.requires.sound c.args.number q who c.args.slice r
-    c.make_piece.new.self c.in_ok-piece.ensures.kept c.in_ok-piece.ensures.piece c.in_ok-piece.ensures.order c.push.new.self.items c.in_ok-push.ensures.items c.as_piece.result c.as_piece.ensures)
+    subst (λ (z : Place). IsPiece p c.args.slice c.args.kind.spare (played p net.history ps) z c.as_piece.result (played p c.put_piece.new.history (order_of c.make_piece.new.self.entries))) (sym (get_or_from_slice_get ps c.args.number q [] who))
+    (piece_made p net.stacks net.history c.requires.sound c.args.number q who c.args.slice c.args.kind.spare r
+    c.make_piece.new.self c.in_ok-piece.ensures.kept c.in_ok-piece.ensures.piece c.in_ok-piece.ensures.order c.args.kind.joins c.requires.joins c.put_piece.new.history c.in_ok-put_piece.ensures.ok c.as_piece.result c.as_piece.ensures)

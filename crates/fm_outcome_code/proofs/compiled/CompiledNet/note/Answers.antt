@@ -11,13 +11,13 @@ note-requires-clause-waits c =
     let net = c.args.self.now in
     let p = c.args.program.now in
     let ps = order_of net.stacks.entries in
-    can_alike p (played p net.history.items ps) (state_of net.stacks) c.requires.sound.stands ps c.args.number ∙ c.requires.waits
+    can_alike p (played p net.history ps) (state_of net.stacks) c.requires.sound.stands ps c.args.number ∙ c.requires.waits
 
 pub returns-clause-noted : goal.returns-clause-noted
 returns-clause-noted c =
     let net = c.args.self.now in
     let p = c.args.program.now in
-    let s = played p net.history.items (order_of net.stacks.entries) in
+    let s = played p net.history (order_of net.stacks.entries) in
     let t = state_of net.stacks in
     let stands = c.requires.sound.stands in
     on_ok c.note.result c.note.ensures.noted (λ noted q x at is.

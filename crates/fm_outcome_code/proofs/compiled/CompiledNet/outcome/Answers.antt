@@ -11,4 +11,4 @@ returns c =
     let net = c.args.self.now in
     let p = c.args.program.now in
     subst (λ (w : Outcome). IfOk c.outcome.result (λ o. o ≡ w))
-    (shows_alike p (played p net.history.items (order_of net.stacks.entries)) (state_of net.stacks) c.requires.sound.stands c.args.used) c.outcome.ensures
+    (shows_alike p (played p net.history (order_of net.stacks.entries)) (state_of net.stacks) c.requires.sound.stands c.args.used) c.outcome.ensures

@@ -37,4 +37,4 @@ returns-clause-piece c =
     let ps = order_of trees.processes in
     let p = actor_place c.in_ok-actor.actor in
     let who : slice_get ps c.args.number ≡ Some p = ap (slice_get ps) (sym c.in_ok-actor.ensures.number) ∙ c.in_ok-actor.ensures.actor in
-    subst (λ (q : Place). IsPiece P c.args.slice (state_of P trees) q c.in_ok-piece.piece (state_of P c.make_piece.new.net)) (sym (get_or_from_slice_get ps c.args.number p [] who)) c.in_ok-piece.ensures.piece
+    subst (λ (q : Place). IsPiece P c.args.slice c.args.kind.spare (state_of P trees) q c.in_ok-piece.piece (state_of P c.make_piece.new.net)) (sym (get_or_from_slice_get ps c.args.number p [] who)) c.in_ok-piece.ensures.piece

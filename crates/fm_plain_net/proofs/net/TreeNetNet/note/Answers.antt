@@ -7,7 +7,7 @@ pub returns-clause-order : goal.returns-clause-order
 returns-clause-order c = IfOk-weaker c.note.result _ _ (λ u same. ap order_of same) c.note.ensures.processes
 
 pub returns-clause-history : goal.returns-clause-history
-returns-clause-history c = IfOk-weaker c.note.result _ _ (λ u same. refl) c.note.ensures.processes
+returns-clause-history c = refl
 
 pub returns-clause-noted : goal.returns-clause-noted
 returns-clause-noted c = c.note.ensures.noted

@@ -1,22 +1,14 @@
-use Rattle.std.proofs.Common.{◌≡◌, ◌∷◌, ◌++◌, ℕ, [], List, cond, length, true, false, ◌≤◌, ◌<◌, ap, ap₂, sym, subst, ◌∙◌, arith, rules}
+use Rattle.std.proofs.Common.{◌<◌, ℕ, inr, ap, ap₂, sym, subst, ◌∙◌}
+use Rattle.std.specs.Prelude.{List}
 use Rattle.fm_base.specs.declared.schedule.Turn.{Turn}
-use Rattle.fm_chan.specs.Bodies.{chans_of}
-use Rattle.fm_chan.specs.Woken.{woken_of}
 use Rattle.fm_net.specs.Machine.{Place, State}
-use Rattle.fm_net.specs.Owned.{IsOwned}
-use Rattle.fm_mean.specs.Steps.{language, step}
-use Rattle.std.specs.Prelude.{Contains, Some, is_some, slice_get}
-use Rattle.std.specs.List.Sorted.{IsNonDecreasing}
-use Rattle.std.specs.FinMap.{get}
-use Rattle.fm_mean.specs.Outcome.{ended_at}
 use Rattle.fm_mean.specs.Process.{Proc}
-use Rattle.fm_run.specs.Noted.{AreNoted, AreParents, IsNoted}
-use Rattle.fm_run.specs.Runs.{AreAble, IsEntry, IsFrontWithin, IsPlayedBy}
-use Rattle.fm_run.specs.Orders.{Among, AreMarked, EachOnce, can_at, in_turn, others_in, ready_after}
-use Rattle.fm_run.proofs.Numbers.{all_in_turn, once_in_turn}
-use Rattle.fm_run.proofs.Playing.{are_able, kept_owned, known}
-use Rattle.fm_run.proofs.Results.{on_ok_both, on_ok_seven, on_ok_two}
-use Rattle.fm_run.proofs.Serving.{candidates_whole, noted_all, noted_taken, others_ready, queue_is, stands_later}
+use Rattle.fm_run.specs.Orders.{Among, ready_after}
+use Rattle.fm_run.specs.Entries.{turn_of}
+use Rattle.fm_run.specs.Runs.{AreAble, IsEntry}
+use Rattle.fm_run.proofs.Joined.{entry_may, entry_of}
+use Rattle.fm_run.proofs.Playing.{front_more, known}
+use Rattle.fm_run.proofs.Results.{on_err}
 use Rattle.fm_run.proofs.player.Player.play.Goals as goal
 
 pub keep_piece-requires-clause-able : goal.keep_piece-requires-clause-able
@@ -27,121 +19,72 @@ keep_piece-requires-clause-within g c = λ n h.
     let old = c.args.self.now in
     known c.args.program.now (g.N.Net.state c.args.program.now old.net) (g.N.Net.order old.net) n (c.requires.played.able.within n h)
 
-pub leave-requires : goal.leave-requires
-leave-requires g c = subst EachOnce (sym c.in_ok-keep_piece.ensures.able) c.requires.played.able.once
+pub keep_piece-requires-clause-joins : goal.keep_piece-requires-clause-joins
+keep_piece-requires-clause-joins g c = λ e. absurd (cc (sym e))
 
-pub settle_all-requires-clause-owned : goal.settle_all-requires-clause-owned
-settle_all-requires-clause-owned g c =
+pub serve-requires-clause-moved : goal.serve-requires-clause-moved
+serve-requires-clause-moved g c =
     let P = c.args.program.now in
-    let mid = c.keep_piece.new.self in
-    subst (IsOwned (language P)) (sym (c.in_ok-asked.ensures.state P))
-    (kept_owned P (g.N.Net.history mid.net) (g.N.Net.order mid.net) (g.N.Net.state P mid.net) mid.used c.in_ok-keep_piece.ensures.kept)
-
-pub settle_all-requires-clause-sound : goal.settle_all-requires-clause-sound
-settle_all-requires-clause-sound g c = c.in_ok-asked.ensures.sound c.args.program.now c.in_ok-keep_piece.ensures.sound
-
-pub settle_all-requires-clause-sorted : goal.settle_all-requires-clause-sorted
-settle_all-requires-clause-sorted g c = subst IsNonDecreasing (sym c.as_slice.ensures.value) c.in_ok-asked.ensures.sorted
-
-pub settle_all-requires-clause-marked : goal.settle_all-requires-clause-marked
-settle_all-requires-clause-marked g c =
-    subst (λ (rs : List Place). AreMarked (length rs) c.leave.new.self.marks.items c.leave.new.self.numbers.items) (sym c.in_ok-asked.ensures.order)
-    (c.leave.ensures.marks (length (g.N.Net.order c.keep_piece.new.self.net)) c.in_ok-keep_piece.ensures.numbered.marked)
-
-pub settle-requires-clause-owned : goal.settle-requires-clause-owned
-settle-requires-clause-owned g c =
-    let P = c.args.program.now in
-    let mid = c.keep_piece.new.self in
-    subst (IsOwned (language P)) (sym (c.in_ok-settle_all.ensures.state ∙ c.in_ok-asked.ensures.state P))
-    (kept_owned P (g.N.Net.history mid.net) (g.N.Net.order mid.net) (g.N.Net.state P mid.net) mid.used c.in_ok-keep_piece.ensures.kept)
-
--- `candidates`, `settle_all` and `settle` leave the state as it is. `leave` leaves the others in the queue, `settle_all` puts those that became able
--- behind them, and `settle` the process itself: this is `ready_after`. Who can't step is noted, or left, until `settle`
-pub returns : goal.returns
-returns g c =
-    let P = c.args.program.now in
-    let number = c.args.number in
     let old = c.args.self.now in
     let mid = c.keep_piece.new.self in
-    let s = g.N.Net.state P old.net in
-    let t = g.N.Net.state P c.candidates.new.net in
-    let ps = g.N.Net.order old.net in
-    let qs = g.N.Net.order c.candidates.new.net in
-    let hs = g.N.Net.history old.net in
-    let later_hs = g.N.Net.history mid.net in
-    let old_chans = g.N.Net.channels old.net in
-    let mid_chans = g.N.Net.channels mid.net in
-    let parents = c.as_slice-parents.result.now in
-    let cs = c.as_slice.result.now in
-    let able = old.able.numbers.items in
-    let kept = c.requires.played.history in
-    let exact = c.requires.played.able in
-    let noted = c.requires.played.noted in
-    let waking = c.in_ok-keep_piece.ensures.waking in
-    let whole : qs ≡ g.N.Net.order mid.net = c.in_ok-asked.ensures.order in
-    let same : t ≡ g.N.Net.state P mid.net = c.in_ok-asked.ensures.state P in
-    let of_old : chans_of old_chans ≡ s.chans = g.met.N.Net.channels_are P old.net c.requires.sound in
-    let of_new : chans_of mid_chans ≡ t.chans = g.met.N.Net.channels_are P mid.net c.in_ok-keep_piece.ensures.sound ∙ ap (λ (u : State Proc). u.chans) (sym same) in
-    let entry : IsEntry P c.args.slice number s ps hs t qs later_hs =
-    subst (λ (u : State Proc). IsEntry P c.args.slice number s ps hs u qs later_hs) (sym same)
-    (subst (λ (rs : List Place). IsEntry P c.args.slice number s ps hs (g.N.Net.state P mid.net) rs later_hs) (sym whole) c.in_ok-keep_piece.ensures.entry) in
-    let later : IsPlayedBy P later_hs qs t mid.used =
-    subst (λ (u : State Proc). IsPlayedBy P later_hs qs u mid.used) (sym same) (subst (λ (rs : List Place). IsPlayedBy P later_hs rs (g.N.Net.state P mid.net) mid.used) (sym whole) c.in_ok-keep_piece.ensures.kept) in
-    let started : AreParents qs parents =
-    subst (AreParents qs) (sym c.as_slice-parents.ensures.value) (subst (λ (rs : List Place). AreParents rs mid.parents.items) (sym whole) c.in_ok-keep_piece.ensures.numbered.started) in
-    let woken_in : (n : ℕ) → Contains (woken_of mid_chans) n → Contains cs n = λ n k. subst (λ (ns : List ℕ). Contains ns n) (sym c.as_slice.ensures.value) (c.in_ok-asked.ensures.woken n k) in
-    let parent_in : (q : Place) (n : ℕ) → slice_get ps number ≡ Some q → ended_at (get t.procs q) ≡ true → slice_get parents number ≡ Some n → can_at P t qs n ≡ true → Contains cs n = λ q n at ended is can.
-    subst (λ (ns : List ℕ). Contains ns n) (sym c.as_slice.ensures.value)
-    (c.in_ok-asked.ensures.parent P q n c.in_ok-keep_piece.ensures.sound (subst (λ (rs : List Place). slice_get rs number ≡ Some q) whole (stands_later P c.args.slice number s t ps qs hs later_hs old.used kept entry able exact c.requires.able old_chans mid_chans of_old of_new waking noted q at)) (subst (λ (u : State Proc). ended_at (get u.procs q) ≡ true) same ended) is
-    (subst (λ (rs : List Place). can_at P (g.N.Net.state P mid.net) rs n ≡ true) whole (subst (λ (u : State Proc). can_at P u qs n ≡ true) same can))) in
-    let new_in : (n : ℕ) → length ps ≤ n → n < length qs → Contains cs n = λ n high within.
-    subst (λ (ns : List ℕ). Contains ns n) (sym c.as_slice.ensures.value) (c.in_ok-asked.ensures.new n (omega (arith, high, c.count-before.ensures)) (subst (λ (rs : List Place). n < length rs) whole within)) in
-    let others : c.leave.new.self.numbers.items ≡ others_in number able = c.leave.ensures.numbers ∙ ap (others_in number) c.in_ok-keep_piece.ensures.able in
-    let served = c.in_ok-settle_all.ensures.queue able others (candidates_whole P c.args.slice number s t ps qs hs later_hs old.used kept entry able exact c.requires.able old_chans mid_chans of_old of_new waking noted mid.used later parents started cs woken_in parent_in new_in) in
-    let ready : (n : ℕ) → Among n c.leave.new.self.numbers.items → can_at P t qs n ≡ true = subst (λ (ns : List ℕ). (n : ℕ) → Among n ns → can_at P t qs n ≡ true) (sym others) (others_ready P c.args.slice number s t ps qs hs later_hs old.used kept entry able exact c.requires.able old_chans mid_chans of_old of_new waking noted) in
-    let left = c.in_ok-settle_all.ensures.noted ready (noted_taken P c.args.slice number s t ps qs hs later_hs old.used kept entry able exact c.requires.able old_chans mid_chans of_old of_new waking noted mid.used later parents started cs woken_in parent_in new_in (g.N.Net.channels c.candidates.new.net) c.in_ok-asked.ensures.readers) in
-    let stays = c.in_ok-settle_all.ensures.state in
-    let rs = g.N.Net.order c.settle_all.new.net in
-    let listed : rs ≡ qs = c.in_ok-settle_all.ensures.order in
-    let pieces : g.N.Net.history c.settle_all.new.net ≡ later_hs = c.in_ok-settle_all.ensures.history ∙ c.in_ok-asked.ensures.history in
-    let queued : c.settle.new.able.numbers.items ≡ c.settle_all.new.able.numbers.items ++ cond (can_at P (g.N.Net.state P c.settle_all.new.net) rs number) (number ∷ []) [] → c.settle.new.able.numbers.items ≡ ready_after P t qs able number = λ last.
-    queue_is P c.args.slice number s t ps qs hs later_hs old.used kept entry able exact c.requires.able old_chans mid_chans of_old of_new waking noted c.settle_all.new.able.numbers.items c.settle.new.able.numbers.items served
-    (last ∙ ap₂ (λ (u : State Proc) (os : List Place). c.settle_all.new.able.numbers.items ++ cond (can_at P u os number) (number ∷ []) []) stays listed) in
-    let final_chans = g.N.Net.channels c.settle.new.net in
+    let able = c.in_ok-steps.ensures.able in
     record {
-      sound = c.settle.ensures.sound;
-      played = on_ok_seven c.settle.result c.settle.ensures.order c.settle.ensures.history c.settle.ensures.state c.settle.ensures.queue c.settle.ensures.noted c.settle.ensures.waking c.settle.ensures.marks (λ alike told ends last own wakes marks.
-          let final = ends ∙ stays in
-          let same_order : g.N.Net.order c.settle.new.net ≡ qs = alike ∙ listed in
-          record {
-            history =
-                subst (λ (ts : List Turn). IsPlayedBy P ts (g.N.Net.order c.settle.new.net) (g.N.Net.state P c.settle.new.net) mid.used) (sym (told ∙ pieces))
-                (subst (λ (us : List Place). IsPlayedBy P later_hs us (g.N.Net.state P c.settle.new.net) mid.used) (sym (same_order ∙ whole))
-                (subst (λ (u : State Proc). IsPlayedBy P later_hs (g.N.Net.order mid.net) u mid.used) (sym (final ∙ same)) c.in_ok-keep_piece.ensures.kept));
-            able =
-                subst (λ (us : List Place). AreAble P (g.N.Net.state P c.settle.new.net) us c.settle.new.able.numbers.items) (sym same_order)
-                (subst (λ (u : State Proc). AreAble P u qs c.settle.new.able.numbers.items) (sym final)
-                (are_able P t qs (in_turn number able (length qs)) c.settle.new.able.numbers.items (queued last) (all_in_turn number able (length qs)) (once_in_turn number able (length qs) exact.once)));
-            noted =
-                subst (λ (us : List Place). AreNoted P (g.N.Net.state P c.settle.new.net) final_chans us) (sym same_order)
-                (subst (λ (u : State Proc). AreNoted P u final_chans qs) (sym final)
-                (noted_all P t qs number cs (g.N.Net.channels c.settle_all.new.net) final_chans wakes left
-                (subst (λ (u : State Proc). (q : Place) (x : Proc) → slice_get qs number ≡ Some q → get u.procs q ≡ Some x → is_some (step P u q) ≡ false → IsNoted P final_chans number x) stays
-                (subst (λ (us : List Place). (q : Place) (x : Proc) → slice_get us number ≡ Some q → get (g.N.Net.state P c.settle_all.new.net).procs q ≡ Some x → is_some (step P (g.N.Net.state P c.settle_all.new.net) q) ≡ false → IsNoted P final_chans number x) listed own))));
-            numbered = record {
-              started = subst (λ (us : List Place). AreParents us mid.parents.items) (sym (same_order ∙ whole)) c.in_ok-keep_piece.ensures.numbered.started;
-              counted = c.in_ok-keep_piece.ensures.numbered.counted ∙ ap length (sym (same_order ∙ whole));
-              marked = subst (λ (us : List Place). AreMarked (length us) c.settle.new.able.marks.items c.settle.new.able.numbers.items) (sym same_order) (marks (length qs) c.in_ok-settle_all.ensures.marks);
-            };
-          });
-      used = search rules;
-      front = on_ok_two c.settle.result c.settle.ensures.order c.settle.ensures.history (λ alike told turns low.
-          subst (λ (ts : List Turn). IsFrontWithin P turns ts (g.N.Net.order c.settle.new.net)) (sym (told ∙ pieces))
-          (subst (λ (us : List Place). IsFrontWithin P turns later_hs us) (sym (alike ∙ listed ∙ whole)) (c.in_ok-keep_piece.ensures.front turns low)));
-      entry = on_ok_both c.settle.result c.settle.ensures.order c.settle.ensures.history c.settle.ensures.state (λ alike told ends.
-          subst (λ (ts : List Turn). IsEntry P c.args.slice number s ps hs (g.N.Net.state P c.settle.new.net) (g.N.Net.order c.settle.new.net) ts) (sym (told ∙ pieces))
-          (subst (λ (us : List Place). IsEntry P c.args.slice number s ps hs (g.N.Net.state P c.settle.new.net) us later_hs) (sym (alike ∙ listed))
-          (subst (λ (u : State Proc). IsEntry P c.args.slice number s ps hs u qs later_hs) (sym (ends ∙ stays)) entry)));
-      able = on_ok_both c.settle.result c.settle.ensures.order c.settle.ensures.queue c.settle.ensures.state (λ alike last ends.
-          queued last ∙ ap₂ (λ (u : State Proc) (us : List Place). ready_after P u us able number) (sym (ends ∙ stays)) (sym (alike ∙ listed)));
+      state = g.N.Net.state P old.net;
+      places = g.N.Net.order old.net;
+      history = g.N.Net.history old.net;
+      spent = old.used;
+      old = g.N.Net.channels old.net;
+      steps = c.in_ok-steps.steps;
+      kept = c.requires.played.history;
+      exact = subst (AreAble P (g.N.Net.state P old.net) (g.N.Net.order old.net)) (sym able) c.requires.played.able;
+      among = subst (Among c.args.number) (sym able) c.requires.able;
+      noted = c.requires.played.noted;
+      old_chans = g.met.N.Net.channels_are P old.net c.requires.sound;
+      entry =
+          entry_of P c.args.number c.in_ok-steps.steps (g.N.Net.state P old.net) (g.N.Net.state P mid.net) (g.N.Net.order old.net) (g.N.Net.order mid.net) (g.N.Net.history old.net) (g.N.Net.history mid.net)
+          c.in_ok-steps.ensures.made c.in_ok-steps.ensures.history;
+      kept_later = c.in_ok-steps.ensures.kept;
+      waking = c.in_ok-steps.ensures.waking;
+      counted = c.count-before.ensures;
+      numbered = c.in_ok-steps.ensures.numbered;
     }
+
+pub returns-clause-used : goal.returns-clause-used
+returns-clause-used g c = subst (λ n. c.args.self.now.used < n) (sym c.in_ok-serve.ensures.used) c.in_ok-steps.ensures.used
+
+pub returns-clause-front : goal.returns-clause-front
+returns-clause-front g c = λ turns low.
+    let P = c.args.program.now in
+    let old = c.args.self.now in
+    let mid = c.keep_piece.new.self in
+    let later = c.serve.new.self in
+    front_more P (g.N.Net.history old.net) (g.N.Net.order old.net) (g.N.Net.state P old.net) old.used c.requires.played.history (turn_of c.args.number c.in_ok-steps.steps) _
+    (g.N.Net.history later.net) (c.in_ok-serve.ensures.history ∙ c.in_ok-steps.ensures.history) (g.N.Net.order later.net) (c.in_ok-serve.ensures.order ∙ c.in_ok-steps.ensures.made.places_are) turns low
+
+pub returns-clause-entry : goal.returns-clause-entry
+returns-clause-entry g c =
+    let P = c.args.program.now in
+    let old = c.args.self.now in
+    let mid = c.keep_piece.new.self in
+    let later = c.serve.new.self in
+    let t = turn_of c.args.number c.in_ok-steps.steps in
+    let s = g.N.Net.state P old.net in
+    let ps = g.N.Net.order old.net in
+    let hs = g.N.Net.history old.net in
+    subst (λ (ts : List Turn). IsEntry P t s ps hs (g.N.Net.state P later.net) (g.N.Net.order later.net) ts) (sym c.in_ok-serve.ensures.history)
+    (subst (λ (us : List Place). IsEntry P t s ps hs (g.N.Net.state P later.net) us (g.N.Net.history mid.net)) (sym c.in_ok-serve.ensures.order)
+    (subst (λ (u : State Proc). IsEntry P t s ps hs u (g.N.Net.order mid.net) (g.N.Net.history mid.net)) (sym c.in_ok-serve.ensures.state)
+    (entry_of P c.args.number c.in_ok-steps.steps s (g.N.Net.state P mid.net) ps (g.N.Net.order mid.net) hs (g.N.Net.history mid.net) c.in_ok-steps.ensures.made c.in_ok-steps.ensures.history)))
+
+pub returns-clause-able : goal.returns-clause-able
+returns-clause-able g c =
+    let P = c.args.program.now in
+    c.in_ok-serve.ensures.able
+    ∙ ap (λ (ns : List ℕ). ready_after P (g.N.Net.state P c.keep_piece.new.self.net) (g.N.Net.order c.keep_piece.new.self.net) ns c.args.number) c.in_ok-steps.ensures.able
+    ∙ ap₂ (λ (u : State Proc) (us : List Place). ready_after P u us c.args.self.now.able.numbers.items c.args.number) (sym c.in_ok-serve.ensures.state) (sym c.in_ok-serve.ensures.order)
+
+pub returns-in_err-steps-clause-stays : goal.returns-in_err-steps-clause-stays
+returns-in_err-steps-clause-stays g c = on_err c.from_residual.result (entry_may c.args.number (g.N.Net.history c.args.self.now.net) (g.N.Net.history c.keep_piece.new.self.net) c.in_err-steps.ensures.stays)
+
+pub returns-in_err-serve-clause-stays : goal.returns-in_err-serve-clause-stays
+returns-in_err-serve-clause-stays g c = on_err c.from_residual-in_err-serve.result (inr (turn_of c.args.number c.in_ok-steps.steps, c.serve.ensures.history ∙ c.in_ok-steps.ensures.history))

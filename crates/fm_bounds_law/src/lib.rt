@@ -1,0 +1,26 @@
+//! How much the steps of a program may ask for: what an entry of a schedule costs, and that the shapes of units fit the
+//! machines of processes. Each function here has an empty body: its contract is a law.
+#![tactic(auto)]
+
+ghost use Rattle.std.specs.Prelude.{◌≡◌, ◌≤◌, ◌+◌, ◌*◌, ℕ, List, replicate};
+ghost use Rattle.fm_sched.specs.Schedule.{IsLegal, Throughout, play, used};
+ghost use Rattle.fm_net.specs.Machine.{Place};
+ghost use Rattle.fm_rules.specs.declared.program.Program.{Program};
+ghost use Rattle.fm_mean.specs.Steps.{first, step};
+ghost use Rattle.fm_bounds_law.specs.Quiet.{AreQuiet};
+ghost use Rattle.fm_bounds_law.specs.Shapes.{ShapesFit};
+
+/// Behind any schedule, so many steps of one process that print no line and make no merger of more than 65,536 writers cost
+/// at most 131,074 turns each, and once more what was paid before. So where the turns and the steps of an entry are below
+/// 2^32, so is its cost below 2^64.
+pub fn entries_are_paid()
+    ensures { (p : Program) (cs : List Place) → IsLegal (step p) (first p) cs → (q : Place) (steps : ℕ)
+        → IsLegal (step p) (play (step p) (first p) cs) (replicate steps q) → AreQuiet p q steps (play (step p) (first p) cs)
+        → used (step p) (play (step p) (first p) cs) (replicate steps q) ≤ 131074 * steps + used (step p) (first p) cs }
+{}
+
+/// Along every schedule the shape over which LOCATION counts has no more nodes than the machine of the process, whose nodes
+/// are numbered below 4,294,967,296: what `fm_map` tests before it looks for a node is always so.
+pub fn shapes_fit()
+    ensures { (p : Program) → Throughout (step p) (ShapesFit p) (first p) }
+{}

@@ -1,0 +1,4 @@
+pub mod Told
+pub mod Turning
+pub mod Inside
+pub mod Fair

@@ -1,0 +1,77 @@
+//! The processes of a schedule, made again.
+
+ghost use Rattle.std.specs.Prelude.{◌≡◌, ◌==◌, ◌++◌, ◌∷◌, [], true, IfOk, OnErr, OnOk};
+ghost use Rattle.fm_table.specs.Inside.{IsLive};
+
+use crate::turning::{is_empty, make_steps};
+use fm_base::{NoMemory, Turn};
+use fm_outcome_code::Compiled;
+use fm_rules::Program;
+use fm_run::Player;
+use std::alloc::Global;
+
+// Whether all of so many steps were made.
+fn is_whole(done: u32, steps: u32) -> bool
+    ensures { result ≡ (done == steps) }
+{
+    done == steps
+}
+
+// Plays an entry of a schedule that was kept. Such an entry has its steps, so that one without them is answered as want of memory
+// costs nothing.
+fn play_entry(
+    alloc: Global,
+    program: &Program,
+    player: &mut Player<Compiled>,
+    entry: Turn,
+) -> Result<(), NoMemory>
+    requires { IsLive program.now player.old }
+    ensures live { OnOk result (IsLive program.now player.new) }
+    ensures history { OnOk result (player.new.net.history ≡ player.old.net.history ++ entry ∷ []) }
+{
+    if is_empty(entry) {
+        return Err(NoMemory);
+    }
+    let done = make_steps(alloc, program, player, entry)?;
+    if is_whole(done, entry.steps) {
+        Ok(())
+    } else {
+        Err(NoMemory)
+    }
+}
+
+/// The processes to which a schedule leads that was kept.
+pub(crate) fn play_again(
+    alloc: Global,
+    program: &Program,
+    entries: &[Turn],
+) -> Result<Player<Compiled>, NoMemory>
+    ensures live { IfOk result (λ player. IsLive program.now player) }
+    ensures history { IfOk result (λ player. player.net.history ≡ entries.now) }
+{
+    let mut player: Player<Compiled> = Player::new(alloc, program)?;
+    'entries: for entry in entries {
+        play_entry(alloc, program, &mut player, *entry)?;
+    }
+    Ok(player)
+}
+
+/// Makes the processes of the kept schedule again where they were let go. After want of memory nothing has changed.
+pub(crate) fn revive(
+    alloc: Global,
+    program: &Program,
+    player: &mut Player<Compiled>,
+    is_live: bool,
+) -> Result<(), NoMemory>
+    requires { is_live ≡ true → IsLive program.now player.old }
+    ensures live { OnOk result (IsLive program.now player.new) }
+    ensures history { player.new.net.history ≡ player.old.net.history }
+    ensures stays { OnErr result (player.new ≡ player.old) }
+{
+    if is_live {
+        return Ok(());
+    }
+    let entries = player.net.history.copied(alloc)?;
+    *player = play_again(alloc, program, entries.as_slice())?;
+    Ok(())
+}
