@@ -4,7 +4,7 @@
     bench/memory.py [BINARY]
 
 Runs programs that spend all their turns, or nearly all, on one thing: words of frames (processes with an array each,
-all at once), the history (a slice of 1, so that each step is an entry), and processes (a block of as many as the
+all at once), the history (a slice of 1, so that each step is an entry), messages that nobody receives, and processes (a block of as many as the
 turns allow). Prints the peak of each in megabytes, less that of a program that does nothing, and how it ended.
 BINARY is the built program, by default crates/fmc_cli/out/fmc_cli.
 """
@@ -44,6 +44,18 @@ HISTORY = """
       END
 """
 
+QUEUE = """
+      PROGRAM QUEUE
+      INPORT (INTEGER) PI
+      OUTPORT (INTEGER) PO
+      CHANNEL(IN=PI, OUT=PO)
+      DO 10 I = 1, 1000000
+      SEND(PO) I
+   10 CONTINUE
+      PRINT *, 1
+      END
+"""
+
 PROCESSES = """
       PROGRAM PROCS
       PROCESSDO I = 1, 1900000
@@ -58,6 +70,7 @@ PROCESSES = """
 RUNS = [
     ("160 processes with 60,000 words each", WORDS, []),
     ("9,800,003 entries of the history", HISTORY, ["--slice", "1"]),
+    ("1,000,000 messages of one integer in a queue", QUEUE, []),
     ("1,900,000 processes", PROCESSES, []),
 ]
 

@@ -1,6 +1,6 @@
 -- Limits taken one after the other.
-use Rattle.std.proofs.Common.{◌≡◌, ◌<◌, ◌+◌, ℕ, Bool, true, false, ◌&&◌, List, [], ◌∷◌, Option, length, map, refl, sym, ap, arith, ◌∙◌}
-use Rattle.fm_base.specs.Channels.{Limits, is_within, fits_limits}
+use Rattle.std.proofs.Common.{◌≡◌, ◌<◌, ◌+◌, ℕ, ℤ, Bool, true, false, ◌&&◌, List, [], ◌∷◌, Option, length, map, refl, sym, ap, arith, ◌∙◌}
+use Rattle.fm_base.specs.Channels.{Limits, Words, is_within, fits_limits}
 use Rattle.fm_chan.specs.declared.message.Item.{Item}
 use Rattle.fm_chan.specs.Items.{plain_item}
 
@@ -27,3 +27,18 @@ module _ (ls : Limits) (is : List Item) (l : Option ℕ) (later : Limits) (i : I
 
 pub one_less : {X : Type 0} (xs ys : List X) → length ys + 1 ≡ length xs → length ys < length xs
 one_less xs ys e = omega (arith, e)
+
+no_more : (b : Bool) (ls : Limits) → b ≡ (b && fits_limits ls [])
+no_more true [] = refl
+no_more true (l ∷ ls) = refl
+no_more false ls = refl
+
+-- a word is within the first limit
+pub word_within : (ls : Limits) (l : Option ℕ) (later : Limits) (w : ℤ) (b : Bool) → ls ≡ l ∷ later → b ≡ is_within l (Words (w ∷ [])) → b ≡ fits_limits ls (Words (w ∷ []) ∷ [])
+word_within ls l later w b there within =
+    within ∙ no_more (is_within l (Words (w ∷ []))) later ∙ ap (λ xs. fits_limits xs (Words (w ∷ []) ∷ [])) (sym there)
+
+-- where there is none, any is
+pub word_unlimited : (ls : Limits) (w : ℤ) → length ls ≡ 0 → true ≡ fits_limits ls (Words (w ∷ []) ∷ [])
+word_unlimited [] w none = refl
+word_unlimited (l ∷ ls) w none = absurd (omega (arith, none))

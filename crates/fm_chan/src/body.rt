@@ -1,7 +1,7 @@
 //! What stands behind a channel's name.
 
 ghost use Rattle.std.specs.Prelude.{◌≡◌, ◌+◌, [], ◌++◌, Some, None, false, IfOk, OnOk, OnErr, IfErr, IsOk};
-ghost use Rattle.fm_base.specs.Channels.{numbers_from, fresh, Push, Pop, changed, gives, exceeds, spills, fits_limits, can_pop, without, discarded, freed, queue_ports};
+ghost use Rattle.fm_base.specs.Channels.{numbers_from, fresh, Push, Pop, changed, gives, exceeds, spills, can_pop, without, discarded, freed, queue_ports};
 ghost use Rattle.fm_chan.specs.Kept.{chan_of};
 ghost use Rattle.fm_chan.specs.Readers.{IsReadyAt, IsClosedAt, WakesHere, count_of, woken_by};
 ghost use Rattle.fm_chan.specs.Rooms.{IsRoomy};
@@ -73,12 +73,6 @@ fn close_writer(writers: &mut BTreeSet<u32>, number: u32)
     // By its contract the numbers ascend.
     let _count = writers.len();
     writers.remove(&number);
-}
-
-fn fits(limits: &[Option<u32>], message: &Message) -> bool
-    ensures { result ≡ fits_limits limits.now message.now }
-{
-    fits_limits(limits, message.items.as_slice())
 }
 
 impl Body {
@@ -160,7 +154,7 @@ impl Body {
             None => false,
             Some(inport) => match inport.queue.front() {
                 None => false,
-                Some(message) => !fits(limits, message),
+                Some(message) => !fits_limits(limits, message),
             },
         }
     }

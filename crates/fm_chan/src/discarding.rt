@@ -6,7 +6,7 @@ ghost use Rattle.fm_base.specs.Channels.{item_ports, message_ports, queue_ports}
 ghost use Rattle.fm_chan.specs.Items.{plain_item};
 ghost use Rattle.fm_chan.specs.Rest.{ports_in, items_ports, rest_ports, chain_ports, left_ports, Yields, Leaves};
 
-use crate::message::{Item, Message};
+use crate::message::{Content, Item, Message};
 use crate::port::Port;
 use std::alloc::Global;
 use std::collections::VecDeque;
@@ -82,13 +82,16 @@ fn next_of_items(ports: &mut VecDeque<Option<Port>>, items: &mut VecDeque<Item>)
     }
 }
 
-fn unpack_message(message: Message) -> VecDeque<Item>
+fn unpack_message(alloc: Global, message: Message) -> VecDeque<Item>
     ensures { items_ports result.items ≡ message_ports message }
 {
-    VecDeque::from_vec(message.items.into_vec())
+    match message.content {
+        Content::Word(_) => VecDeque::new(alloc),
+        Content::Items(items) => VecDeque::from_vec(items.into_vec()),
+    }
 }
 
-fn next_of_rest(rest: &mut Rest) -> Option<Port>
+fn next_of_rest(alloc: Global, rest: &mut Rest) -> Option<Port>
     ensures { Yields (rest_ports rest.old) result (rest_ports rest.new) }
 {
     'messages: loop {
@@ -97,7 +100,7 @@ fn next_of_rest(rest: &mut Rest) -> Option<Port>
             return port;
         }
         match rest.queue.pop_front() {
-            Some(message) => rest.items = unpack_message(message),
+            Some(message) => rest.items = unpack_message(alloc, message),
             None => return None,
         }
     }
@@ -127,7 +130,7 @@ impl Discarding {
             alloc,
             rest: Rest {
                 ports: VecDeque::new(alloc),
-                items: unpack_message(message),
+                items: unpack_message(alloc, message),
                 queue: VecDeque::new(alloc),
             },
             chain: Chain::End,
@@ -166,7 +169,7 @@ impl Discarding {
         ensures { Yields (left_ports self.old) result (left_ports self.new) }
     {
         'levels: loop {
-            let port = next_of_rest(&mut self.rest);
+            let port = next_of_rest(self.alloc, &mut self.rest);
             if port.is_some() {
                 return port;
             }

@@ -16,5 +16,5 @@ mod message;
 mod port;
 
 pub use channels::Channels;
-pub use message::{Got, Item, Message};
+pub use message::{Content, Got, Item, Message};
 pub use port::Port;

@@ -1,10 +1,10 @@
 //! Limits of a receive.
 
-ghost use Rattle.std.specs.Prelude.{◌≡◌, map};
-ghost use Rattle.fm_base.specs.Channels.{item_length, is_within, fits_limits};
+ghost use Rattle.std.specs.Prelude.{◌≡◌, ℤ, ◌∷◌, [], map};
+ghost use Rattle.fm_base.specs.Channels.{Words, item_length, is_within, fits_limits};
 ghost use Rattle.fm_chan.specs.Items.{plain_item};
 
-use crate::message::Item;
+use crate::message::{Content, Item, Message};
 
 fn item_length(item: &Item) -> usize
     ensures { result ≡ item_length (plain_item item.now) }
@@ -24,8 +24,25 @@ fn is_within(limit: Option<u32>, item: &Item) -> bool
     }
 }
 
-/// Whether no item has more elements than its limit. Items behind the last limit have none.
-pub fn fits_limits(limits: &[Option<u32>], items: &[Item]) -> bool
+fn word_is_within(limit: Option<u32>) -> bool
+    ensures { (word : ℤ) → result ≡ is_within limit (Words (word ∷ [])) }
+{
+    match limit {
+        None => true,
+        Some(most) => 1 <= most,
+    }
+}
+
+fn word_fits(limits: &[Option<u32>]) -> bool
+    ensures { (word : ℤ) → result ≡ fits_limits limits.now (Words (word ∷ []) ∷ []) }
+{
+    match limits.split_first() {
+        Some((limit, _)) => word_is_within(*limit),
+        None => true,
+    }
+}
+
+fn items_fit(limits: &[Option<u32>], items: &[Item]) -> bool
     ensures { result ≡ fits_limits limits.now (map plain_item items.now) }
 {
     let mut limits = limits;
@@ -44,5 +61,15 @@ pub fn fits_limits(limits: &[Option<u32>], items: &[Item]) -> bool
         }
         limits = later;
         items = behind;
+    }
+}
+
+/// Whether no item has more elements than its limit. Items behind the last limit have none.
+pub fn fits_limits(limits: &[Option<u32>], message: &Message) -> bool
+    ensures { result ≡ fits_limits limits.now message.now }
+{
+    match &message.content {
+        Content::Word(_) => word_fits(limits),
+        Content::Items(items) => items_fit(limits, items.as_slice()),
     }
 }

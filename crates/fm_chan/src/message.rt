@@ -13,22 +13,31 @@ pub enum Item {
     Ports(Seq<Option<Port>>),
 }
 
+/// What is in a message.
+#[derive(Drop)]
+pub enum Content {
+    /// One item of one word, which stands here itself: most messages are so, and then a queue needs no
+    /// memory but for its own places.
+    Word(i64),
+    /// The items, from left to right.
+    Items(Seq<Item>),
+}
+
 /// What one SEND puts into a channel. Contracts see it as the list of its items as plain data.
 #[derive(Drop)]
 pub struct Message {
-    /// The items, from left to right.
-    pub items: Seq<Item>,
+    /// What is in it.
+    pub content: Content,
 }
 
 impl Model for Message {
     ghost use Rattle.fm_base.specs.Channels as base;
-    ghost use Rattle.std.specs.Prelude.{map};
 
     ghost Value = { base.Message };
 
-    ghost use Rattle.fm_chan.specs.Items.{plain_item};
+    ghost use Rattle.fm_chan.specs.Items.{plain_message};
 
-    ghost view = { λ m. map plain_item m.items };
+    ghost view = { λ m. plain_message m.content };
 }
 
 /// What a receive got.

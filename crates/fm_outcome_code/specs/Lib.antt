@@ -4,3 +4,4 @@ pub mod Sound
 pub mod Waits
 pub mod Variables
 pub mod Holding
+pub mod Given

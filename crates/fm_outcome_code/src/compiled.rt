@@ -1,17 +1,24 @@
 //! The net over stack code, with the pieces that it made.
 
-ghost use Rattle.std.specs.Prelude.{◌≡◌};
-ghost use Rattle.fm_procs.specs.Readings.{order_of};
+ghost use Rattle.std.specs.Prelude.{◌≡◌, Some, slice_get};
+ghost use Rattle.std.specs.FinMap.{get};
+ghost use Rattle.std.specs.Option.{option_copied};
+ghost use Rattle.fm_net.specs.Machine.{Place};
+ghost use Rattle.fm_proc_language.specs.Processes.{CodeProc};
+ghost use Rattle.fm_procs.specs.Readings.{order_of, procs_of};
+ghost use Rattle.fm_outcome_code.specs.Given.{IsOwn};
 ghost use Rattle.fm_outcome_code.specs.Played.{played};
 ghost use Rattle.fm_outcome_code.specs.Sound.{IsSound};
 
 use crate::first::first_stacks;
 use crate::gathering::outcome;
 use fm_base::{NoMemory, Path};
+use fm_code::Body;
+use fm_machine::Done;
 use fm_mean::Outcome;
 use fm_procs::{CodePiece, CodeProcs};
 use fm_rules::Program;
-use fm_run::{Awaited, History, Kind, Net, Piece, put_piece};
+use fm_run::{Awaited, History, Kind, Net, OutsideNet, Piece, put_piece};
 use std::alloc::Global;
 use std::sync::Arc;
 
@@ -96,6 +103,39 @@ impl Net for Compiled {
 
     fn into_parts(self) -> (History, Vec<Arc<Path>>) {
         (self.history, self.stacks.into_paths())
+    }
+}
+
+impl OutsideNet for Compiled {
+    type Done = Done;
+
+    ghost steps_of = { λ done. done.steps };
+
+    ghost is_own = { λ net number done. IsOwn net.stacks number done };
+
+    fn give_piece(
+        &mut self,
+        alloc: Global,
+        program: &Program,
+        number: u32,
+        done: &Done,
+    ) -> Result<Piece, NoMemory> {
+        let actor = self.stacks.entries.actor(number)?;
+        let piece = self.stacks.give_piece(alloc, &actor, done)?;
+        put_piece(alloc, &mut self.history, false, number, piece.steps)?;
+        Ok(as_piece(piece))
+    }
+}
+
+impl Compiled {
+    /// The body of the process of a number, if it has one.
+    pub fn body_of(&self, number: u32) -> Option<&Body>
+        ensures { (q : Place) (y : CodeProc) → slice_get (order_of self.now.stacks.entries) number ≡ Some q → get (procs_of self.now.stacks.entries) q ≡ Some y → option_copied result ≡ y.body }
+    {
+        match self.stacks.entries.process(number) {
+            Some(process) => process.body.as_ref(),
+            None => None,
+        }
     }
 }
 

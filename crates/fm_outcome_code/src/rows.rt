@@ -4,13 +4,12 @@ ghost use Rattle.std.specs.Prelude.{◌≡◌, ◌++◌, [], ◌∷◌, filter, 
 ghost use Rattle.std.specs.FinMap.{entries};
 ghost use Rattle.std.specs.Map.Iter.{deref_pair};
 ghost use Rattle.fm_finmap.specs.Rows.{AreDistinct, numbered_map, places};
-ghost use Rattle.fm_proc_language.specs.Processes.{is_ended};
-ghost use Rattle.fm_proc_events.specs.Phases.{phase_of, proc_of};
+ghost use Rattle.fm_proc_events.specs.Phases.{proc_of};
 ghost use Rattle.fm_outcome_code.specs.Parts.{gives, row_gives};
 
 use fm_base::{NoMemory, Path};
-use fm_proc_events::{Phase, Process};
-use fm_procs::{Entries, Entry};
+use fm_proc_events::Process;
+use fm_procs::{Entries, Entry, has_ended};
 use std::alloc::Global;
 
 /// A part of an outcome.
@@ -22,22 +21,11 @@ pub(crate) enum Part {
     Held,
 }
 
-fn is_ended(phase: &Phase) -> bool
-    ensures { result ≡ is_ended (phase_of phase.now) }
-{
-    match phase {
-        Phase::Running => false,
-        Phase::Joining { .. } => false,
-        Phase::Ended => true,
-        Phase::Faulted { .. } => false,
-    }
-}
-
 fn gives(part: Part, process: &Process) -> bool
     ensures { result ≡ gives part (proc_of process.now) }
 {
     match part {
-        Part::Shown => !(process.lines.is_empty() && is_ended(&process.phase)),
+        Part::Shown => !(process.lines.is_empty() && has_ended(process)),
         Part::Held => process.body.is_some(),
     }
 }

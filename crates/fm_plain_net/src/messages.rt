@@ -1,6 +1,6 @@
 //! Messages: ports leave the kept ones with a message, and enter them with one.
 
-ghost use Rattle.std.specs.Prelude.{◌≡◌, ◌∷◌, [], IfOk, OnOk};
+ghost use Rattle.std.specs.Prelude.{◌≡◌, ◌∷◌, [], map, IfOk, OnOk};
 ghost use Rattle.fm_base.specs.Channels.{message_ports};
 ghost use Rattle.fm_chan.specs.Items.{plain_item};
 ghost use Rattle.fm_mean.specs.Places.{live};
@@ -9,7 +9,7 @@ ghost use Rattle.fm_plain_net.specs.Held.{AreKept, AreOnce, Stay, StayBut};
 
 use crate::ports::Ports;
 use fm_base::{NoMemory, PortValue, Seq};
-use fm_chan::{Item as ChannelItem, Message, Port};
+use fm_chan::{Content, Item as ChannelItem, Message, Port};
 use fm_plain_passing::Item;
 use std::alloc::Global;
 use std::collections::VecDeque;
@@ -76,7 +76,7 @@ pub(crate) fn message_from(
         all.push(take_item(alloc, ports, item)?)?;
     }
     Ok(Message {
-        items: Seq::from_vec(all),
+        content: Content::Items(Seq::from_vec(all)),
     })
 }
 
@@ -130,6 +130,22 @@ fn put_item(alloc: Global, ports: &mut Ports, item: ChannelItem) -> Result<Item,
     }
 }
 
+fn unpacked_items(
+    alloc: Global,
+    ports: &mut Ports,
+    items: Seq<ChannelItem>,
+) -> Result<Seq<Item>, NoMemory>
+    ensures items { IfOk result (λ v. message_of v ≡ map plain_item items) }
+    ensures came { OnOk result (AreKept ports.new (message_ports (map plain_item items))) }
+    ensures others { OnOk result (Stay ports.old ports.new) }
+{
+    let mut all = Vec::new(alloc);
+    'items: for item in items.into_vec() {
+        all.push(put_item(alloc, ports, item)?)?;
+    }
+    Ok(Seq::from_vec(all))
+}
+
 /// What a message brings. Its ports are kept then.
 pub(crate) fn unpacked(
     alloc: Global,
@@ -140,9 +156,11 @@ pub(crate) fn unpacked(
     ensures came { OnOk result (AreKept ports.new (message_ports message)) }
     ensures others { OnOk result (Stay ports.old ports.new) }
 {
-    let mut all = Vec::new(alloc);
-    'items: for item in message.items.into_vec() {
-        all.push(put_item(alloc, ports, item)?)?;
+    match message.content {
+        Content::Word(word) => {
+            let items = vec![in alloc; ChannelItem::Words(Seq::from_slice(alloc, &[word])?)]?;
+            unpacked_items(alloc, ports, Seq::from_vec(items))
+        }
+        Content::Items(items) => unpacked_items(alloc, ports, items),
     }
-    Ok(Seq::from_vec(all))
 }

@@ -3,3 +3,4 @@ pub mod Endings
 pub mod Joinings
 pub mod FrameRooms
 pub mod Droppings
+pub mod Given

@@ -7,12 +7,14 @@ mod advancing;
 mod beginning;
 mod dropping;
 mod ending;
+mod giving;
 mod joining;
 mod measuring;
 mod performing;
 
 pub use advancing::{Advanced, advance};
 pub use beginning::no_loops;
+pub use giving::put_end;
 pub use joining::{Left, OpenJoin, open_join, release};
 pub use measuring::left_room;
 pub use performing::{StepEnd, perform};

@@ -1,6 +1,6 @@
 -- What a process does with a message, or with the end of a channel, is what it asked for.
 use Rattle.std.proofs.Common.{◌≡◌, ℕ, ℤ, ◌+◌, Bool, true, false, cond, Option, Some, None, List, [], ◌++◌, refl, sym, ap, ◌∙◌, append-nil}
-use Rattle.std.specs.Prelude.{is_some, slice_set, Result, Ok, Err, IfOk, OnOk}
+use Rattle.std.specs.Prelude.{is_some, slice_set, Result, Ok, Err, IfOk, OnErr, OnOk}
 use Rattle.fm_base.specs.declared.memory.NoMemory.{NoMemory}
 use Rattle.std.specs.FinMap.{get}
 use Rattle.fm_base.specs.declared.path.ChanName.{ChanName}
@@ -57,6 +57,20 @@ on_ok (Err e) A a = tt
 -- the body is put back
 as_it_was : (y : CodeProc) (b : Body) → y.body ≡ Some b → with_body y b ≡ y
 as_it_was y b is = λ i. record y { body = sym is i }
+
+-- no message could be sent, and the body and the slots are as they were
+pub unsent : (y : CodeProc) (b : Body) → y.body ≡ Some b → (after : Body) (slots : Slots) (r : Result ℕ NoMemory) → OnErr r (after ≡ b) → OnErr r (slots ≡ y.slots)
+    → OnErr r (record y { body = Some after; slots = slots } ≡ y)
+unsent y b is after slots (Ok cost) after_is slots_are = tt
+unsent y b is after slots (Err e) after_is slots_are = (λ i. record y { body = Some (after_is i); slots = slots_are i }) ∙ as_it_was y b is
+
+-- a message was built, or there was no memory for it: the words are as they were
+pub words_stay : (b : Body) (words : List ℤ) (before after : Slots) → held words after ≡ held b.frame.words before → record b { frame = record b.frame { words = words } } ≡ b
+words_stay b words before after same = λ i. record b { frame = record b.frame { words = (same i).words } }
+
+pub on_err : (r : Result ℕ NoMemory) (A : Type 0) → A → OnErr r A
+on_err (Ok n) A a = tt
+on_err (Err e) A a = a
 
 -- which writer sends changes nothing
 any_writer : (c : ChanName) (v w : ℕ) (message : Message) (o : Option Chan) → spills_at (Push v message) o ≡ spills_at (Push w message) o
@@ -127,6 +141,20 @@ module _ (y : CodeProc) (cs : Chans) (slot : ℤ) (items : List Operand) (next :
             cost_is = cost_is ∙ ap (λ v. 1 + message_words v) message_is;
           };
         }
+
+    -- as told of the operands by their slice
+    pub sends_if : (p : Place) (c : ChanName) → Some c ≡ channel_in (in_slot y.slots slot) → (its : List Operand) → its ≡ items
+        → (after : Body) (slots : Slots) (n : Chans) (r : Result ℕ NoMemory)
+        → OnOk r (after ≡ with_words b next (message_from (held b.frame.words y.slots) its).0.words)
+        → OnOk r (slots ≡ (message_from (held b.frame.words y.slots) its).0.slots)
+        → OnOk r (n ≡ after_send_to c (message_from (held b.frame.words y.slots) its).1 cs)
+        → IfOk r (λ cost. cost ≡ 1 + message_words (message_from (held b.frame.words y.slots) its).1)
+        → IfOk r (λ cost. Performs p y cs (record y { body = Some after; slots = slots }) [] n cost)
+    sends_if p c c_is its same after slots n (Ok cost) after_is slots_are n_is cost_is =
+        let h = held b.frame.words y.slots in
+        sends p c c_is after (after_is ∙ ap (λ v. with_words b next (message_from h v).0.words) same) slots (slots_are ∙ ap (λ v. (message_from h v).0.slots) same)
+        (message_from h its).1 (ap (λ v. (message_from h v).1) same) n n_is cost cost_is
+    sends_if p c c_is its same after slots n (Err e) after_is slots_are n_is cost_is = tt
 
 -- ---- receiving
 
@@ -224,6 +252,14 @@ module _ (y : CodeProc) (cs : Chans) (slot : ℤ) (items : List Operand) (status
             cost_is = cost_is ∙ ap (λ v. (r v).cost) brought;
           };
         }
+
+    -- the message is gone from the channel of the port, and couldn't be stored
+    pub message_gone : (own x : PortValue) → Some own ≡ in_slot y.slots slot → in_slot y.slots slot ≡ Some x → (mid n : Chans) → mid ≡ after_op own (Pop []) cs → (r : Result ℕ NoMemory) → OnErr r (n ≡ mid)
+        → OnErr r (n ≡ after_op x (Pop []) cs)
+    message_gone own x own_is x_is mid n mid_is (Ok cost) e = tt
+    message_gone own x own_is x_is mid n mid_is (Err failed) e =
+        let same : own ≡ x = cc (own_is ∙ x_is) in
+        e ∙ mid_is ∙ ap (λ v. after_op v (Pop []) cs) same
 
     module _ (p : Place) (x : PortValue) (x_is : Some x ≡ in_slot y.slots slot) (mid : Chans) (mid_is : mid ≡ after_op x (Pop []) cs) (z : CodeProc) (n : Chans) where
       came_in : (message : Message) (its : List Operand) → its ≡ items → came (with_body y b) b next its status message ≡ came y b next items status message

@@ -1,6 +1,7 @@
 //! A message is received, or the end of its channel is met.
 
-ghost use Rattle.std.specs.Prelude.{◌≡◌, ◌+◌, [], false, pos, IfOk, OnOk};
+ghost use Rattle.std.specs.Prelude.{◌≡◌, ◌+◌, [], false, pos, Some, IfOk, OnErr, OnOk};
+ghost use Rattle.fm_base.specs.declared.port.PortValue.{PortValue};
 ghost use Rattle.fm_base.specs.Channels.{Pop, all_shed};
 ghost use Rattle.fm_chan.specs.Bodies.{chans_of};
 ghost use Rattle.fm_chan.specs.Events.{after_op, chan_at, is_outport};
@@ -11,6 +12,7 @@ ghost use Rattle.fm_code.specs.Statements.{with_words};
 ghost use Rattle.fm_machine_calls.specs.declared.looking.Look.TheVariants.{Asks};
 ghost use Rattle.fm_proc_language.specs.Frames.{all_stored};
 ghost use Rattle.fm_proc_language.specs.Processes.{at_the_end, came, message_words, with_status};
+ghost use Rattle.fm_proc_language.specs.Slots.{in_slot};
 ghost use Rattle.fm_proc_slots.specs.Helds.{held};
 ghost use Rattle.fm_proc_events.specs.Events.{with_body};
 ghost use Rattle.fm_proc_events.specs.Performs.{CanPerform, Performs};
@@ -69,7 +71,7 @@ fn store_message(
     Ok(drops)
 }
 
-/// A process, whose body stands apart, goes on with a message. The cost.
+/// A process, whose body stands apart, goes on with a message. The cost. After want of memory no channel has changed.
 fn store(
     alloc: Global,
     process: &mut Process,
@@ -83,6 +85,7 @@ fn store(
     ensures process { OnOk result (proc_of process.new ≡ (came (with_body (proc_of process.old) body) body next items.now status message).self) }
     ensures channels { OnOk result (chans_of channels.new ≡ all_shed (came (with_body (proc_of process.old) body) body next items.now status message).drops (chans_of channels.old)) }
     ensures cost { IfOk result (λ cost. cost ≡ (came (with_body (proc_of process.old) body) body next items.now status message).cost) }
+    ensures stays { OnErr result (chans_of channels.new ≡ chans_of channels.old) }
     ensures waking { WakesAll channels.old channels.new }
 {
     let mut body = body;
@@ -121,7 +124,8 @@ fn meet_end(process: &mut Process, body: Body, status: Option<u32>, at_end: Opti
     process.body = Some(body);
 }
 
-/// Receives a message by the port in a slot, or meets the end of its channel. The cost.
+/// Receives a message by the port in a slot, or meets the end of its channel. The cost. After want of memory the message has left its
+/// channel, and the channels are as they were but for that.
 pub fn receive(
     alloc: Global,
     path: &Path,
@@ -136,6 +140,7 @@ pub fn receive(
     requires look { look_of (proc_of process.old) ≡ Asks (ask.Receive slot items status at_end next) }
     requires can { CanPerform (proc_of process.old) (chans_of channels.old) }
     ensures performs { IfOk result (λ cost. Performs path.now (proc_of process.old) (chans_of channels.old) (proc_of process.new) [] (chans_of channels.new) cost) }
+    ensures left { (x : PortValue) → in_slot (proc_of process.old).slots slot ≡ Some x → OnErr result (chans_of channels.new ≡ after_op x (Pop []) (chans_of channels.old)) }
     ensures waking { OnOk result (WakesAll channels.old channels.new) }
 {
     let got = match process.slots.port(slot) {

@@ -1,13 +1,14 @@
 //! Messages: ports leave their slots with a message, and come to slots with one.
 
-ghost use Rattle.std.specs.Prelude.{◌≡◌, ◌++◌, false, not, is_some, IfOk, IfSome, OnOk, take};
+ghost use Rattle.std.specs.Prelude.{◌≡◌, [], ◌∷◌, ◌++◌, None, false, not, is_some, map, IfOk, IfSome, OnOk, take};
 ghost use Rattle.fm_base.specs.Channels as base;
 ghost use Rattle.fm_base.specs.Channels.{item_length, item_ports};
-ghost use Rattle.fm_chan.specs.Items.{plain_item};
+ghost use Rattle.fm_chan.specs.Items.{plain_item, plain_message};
 ghost use Rattle.fm_code.specs.declared.ask.Operand.TheVariants as operand;
 ghost use Rattle.fm_proc_language.specs.Frames.{all_stored, item_from, message_from, stored};
 ghost use Rattle.fm_proc_language.specs.Processes.{message_words};
-ghost use Rattle.fm_proc_slots.specs.Copies.{carries_ports, copied_words, has_ports, words_message};
+ghost use Rattle.fm_proc_language.specs.Slots.{Slots as PlainSlots};
+ghost use Rattle.fm_proc_slots.specs.Copies.{carries_ports, copied_words, has_ports, kept_word, words_message};
 ghost use Rattle.fm_proc_slots.specs.Helds.{held};
 ghost use Rattle.fm_proc_slots.specs.Stores.{PlacesMessage, words_stored};
 
@@ -15,7 +16,7 @@ use crate::exchanging::exchange_all;
 use crate::slots::{Slots, push_some};
 use crate::words::{clear_span, splice};
 use fm_base::{NoMemory, Seq};
-use fm_chan::{Item, Message, Port};
+use fm_chan::{Content, Item, Message, Port};
 use fm_code::{Operand, Span, front, words_of};
 use std::alloc::Global;
 use std::collections::VecDeque;
@@ -71,8 +72,40 @@ fn words_item(alloc: Global, words: &[i64], operand: Operand) -> Result<Option<I
     }
 }
 
+/// The word of an item that is one word, and no port.
+fn only_word(words: &[i64], operand: Operand) -> Option<i64>
+    ensures word { IfSome result (λ w. copied_words words.now operand ≡ w ∷ []) }
+    ensures plain { IfSome result (λ w. has_ports operand ≡ false) }
+{
+    match operand {
+        Operand::Value(word) => Some(word),
+        Operand::Words(span) => match front(words_of(words, span)) {
+            Some((word, rest)) => { if rest.is_empty() { Some(word) } else { None } }
+            None => None,
+        },
+        Operand::Ports(_) => None,
+    }
+}
+
+/// The word of a message that is one word, and no port.
+fn one_word(words: &[i64], items: &[Operand]) -> Option<i64>
+    ensures message { IfSome result (λ w. words_message words.now items.now ≡ base.Words (w ∷ []) ∷ []) }
+    ensures plain { IfSome result (λ w. carries_ports items.now ≡ false) }
+{
+    match front(items) {
+        Some((item, rest)) => {
+            if rest.is_empty() {
+                only_word(words, item)
+            } else {
+                None
+            }
+        }
+        None => None,
+    }
+}
+
 /// A message of these items, which have no ports; none where one has.
-fn words_message(
+fn listed_words(
     alloc: Global,
     words: &[i64],
     items: &[Operand],
@@ -88,8 +121,25 @@ fn words_message(
         }
     }
     Ok(Some(Message {
-        items: Seq::from_vec(all),
+        content: Content::Items(Seq::from_vec(all)),
     }))
+}
+
+/// A message of these items, which have no ports; none where one has. One word takes no memory.
+fn words_message(
+    alloc: Global,
+    words: &[i64],
+    items: &[Operand],
+) -> Result<Option<Message>, NoMemory>
+    ensures message { IfOk result (λ r. IfSome r (λ m. m ≡ words_message words.now items.now)) }
+    ensures some { IfOk result (λ r. is_some r ≡ not (carries_ports items.now)) }
+{
+    match one_word(words, items) {
+        Some(word) => Ok(Some(Message {
+            content: Content::Word(word),
+        })),
+        None => listed_words(alloc, words, items),
+    }
 }
 
 /// A message of these items, from left to right; ports leave NULL. After want of memory ports may have left.
@@ -106,7 +156,7 @@ fn ports_message(
         all.push(item_from(alloc, words, slots, *item)?)?;
     }
     Ok(Message {
-        items: Seq::from_vec(all),
+        content: Content::Items(Seq::from_vec(all)),
     })
 }
 
@@ -254,6 +304,78 @@ fn store_next<'a>(
     }
 }
 
+/// Items go to places one after the other: what is let go.
+fn store_items(
+    alloc: Global,
+    words: &mut Seq<i64>,
+    slots: &mut Slots,
+    places: &[Operand],
+    items: Seq<Item>,
+) -> Result<Vec<Port>, NoMemory>
+    ensures { IfOk result (λ v. (held words.new slots.new, v.items) ≡ all_stored (held words.old slots.old) places.now (map plain_item items)) }
+{
+    let mut out = Vec::new(alloc);
+    let mut places = places;
+    let mut rest = VecDeque::from_vec(items.into_vec());
+    'items: while let Some(item) = rest.pop_front() {
+        places = store_next(alloc, words, slots, places, item, &mut out)?;
+    }
+    Ok(out)
+}
+
+/// An item of words goes to the first place, if there is one.
+fn store_first(
+    alloc: Global,
+    words: &mut Seq<i64>,
+    places: &[Operand],
+    items: &[i64],
+) -> Result<(), NoMemory>
+    ensures { OnOk result ((slots : PlainSlots) → (held words.new slots, []) ≡ all_stored (held words.old slots) places.now (base.Words items.now ∷ [])) }
+{
+    match front(places) {
+        Some((place, _)) => store_words(alloc, words, place, items),
+        None => Ok(()),
+    }
+}
+
+/// The word, where a message is kept as one.
+fn kept_word(content: &Content) -> Option<i64>
+    ensures { result ≡ kept_word content.now }
+{
+    match content {
+        Content::Word(word) => Some(*word),
+        Content::Items(_) => None,
+    }
+}
+
+/// The items, where a message isn't kept as one word.
+fn kept_items(alloc: Global, content: Content) -> Seq<Item>
+    ensures { kept_word content ≡ None → map plain_item result ≡ plain_message content }
+{
+    match content {
+        Content::Word(_) => Seq::new(alloc),
+        Content::Items(items) => items,
+    }
+}
+
+fn store_content(
+    alloc: Global,
+    words: &mut Seq<i64>,
+    slots: &mut Slots,
+    places: &[Operand],
+    content: Content,
+) -> Result<Vec<Port>, NoMemory>
+    ensures { IfOk result (λ v. (held words.new slots.new, v.items) ≡ all_stored (held words.old slots.old) places.now (plain_message content)) }
+{
+    match kept_word(&content) {
+        Some(word) => {
+            store_first(alloc, words, places, &[word])?;
+            Ok(Vec::new(alloc))
+        }
+        None => store_items(alloc, words, slots, places, kept_items(alloc, content)),
+    }
+}
+
 /// The items of a message go to places one after the other: what is let go, which is what was there and what finds no place.
 pub fn store_all(
     alloc: Global,
@@ -264,13 +386,7 @@ pub fn store_all(
 ) -> Result<Vec<Port>, NoMemory>
     ensures { IfOk result (λ v. (held words.new slots.new, v.items) ≡ all_stored (held words.old slots.old) places.now message) }
 {
-    let mut out = Vec::new(alloc);
-    let mut places = places;
-    let mut rest = VecDeque::from_vec(message.items.into_vec());
-    'items: while let Some(item) = rest.pop_front() {
-        places = store_next(alloc, words, slots, places, item, &mut out)?;
-    }
-    Ok(out)
+    store_content(alloc, words, slots, places, message.content)
 }
 
 fn item_words(item: &Item) -> usize
@@ -282,13 +398,22 @@ fn item_words(item: &Item) -> usize
     }
 }
 
+fn items_words(items: &[Item]) -> Result<u64, NoMemory>
+    ensures { IfOk result (λ n. n ≡ message_words (map plain_item items.now)) }
+{
+    let mut count: u64 = 0;
+    'items: for item in items {
+        count = count.checked_add(item_words(item) as u64).ok_or(NoMemory)?;
+    }
+    Ok(count)
+}
+
 /// How many words and ports a message has.
 pub fn message_words(message: &Message) -> Result<u64, NoMemory>
     ensures { IfOk result (λ n. n ≡ message_words message.now) }
 {
-    let mut count: u64 = 0;
-    'items: for item in message.items.as_slice() {
-        count = count.checked_add(item_words(item) as u64).ok_or(NoMemory)?;
+    match &message.content {
+        Content::Word(_) => Ok(1),
+        Content::Items(items) => items_words(items.as_slice()),
     }
-    Ok(count)
 }

@@ -13,3 +13,4 @@ pub mod Able
 pub mod Statements
 pub mod Looked
 pub mod Slices
+pub mod Given

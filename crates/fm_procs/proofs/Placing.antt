@@ -1,5 +1,5 @@
 -- What a process does, at its place among the processes.
-use Rattle.std.proofs.Common.{◌≡◌, ◌≢◌, ◌≤◌, ℕ, false, Some, None, Result, Ok, Err, List, ap, refl, subst}
+use Rattle.std.proofs.Common.{◌≡◌, ◌≢◌, ◌≤◌, ℕ, false, Some, None, Result, Ok, Err, List, ap, refl, subst, arith}
 use Rattle.std.specs.Prelude.{IfOk}
 use Rattle.fm_base.specs.Channels.{Chans}
 use Rattle.fm_net.specs.Machine.{Place}
@@ -38,6 +38,10 @@ module _ (p : Place) (y w : CodeProc) (same : Some w ≡ Some y) (old new : Entr
     procs_are = puts_one old new p x puts;
   }
 
+  -- so does one who gets the end of a slice
+  pub given_at : (slice : ℕ) (a : Advanced) → Runs w a.steps a.cost (proc_in x) → a.steps ≡ slice → a.next ≡ look_of (proc_in x) → AdvancesAt slice p y a (procs_of old) (procs_of new)
+  given_at slice a runs whole next = advances_at slice a runs (omega (arith, whole)) next (λ few. absurd (few whole))
+
 -- who made statements of its own runs still
 pub same_phase : (w z : CodeProc) (steps cost : ℕ) → Runs w steps cost z → z.phase ≡ w.phase
 same_phase w z steps cost runs = ap (λ (v : CodeProc). v.phase) runs.is_after
@@ -51,6 +55,11 @@ emptied_stuck y = go y.phase
     go (Joining block kids) = refl
     go Ended = refl
     go (Faulted line fault) = refl
+
+-- three facts of one result
+pub three_ok : {T E : Type 0} {A B C F : T → Type 0} (r : Result T E) → ((x : T) → A x → B x → C x → F x) → IfOk r A → IfOk r B → IfOk r C → IfOk r F
+three_ok (Ok x) f a b c = f x a b c
+three_ok (Err e) f a b c = tt
 
 -- four facts of one result
 pub four_ok : {T E : Type 0} {A B C D F : T → Type 0} (r : Result T E) → ((x : T) → A x → B x → C x → D x → F x) → IfOk r A → IfOk r B → IfOk r C → IfOk r D → IfOk r F

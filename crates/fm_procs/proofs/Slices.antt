@@ -171,8 +171,12 @@ pub finishes_asked : (s : State CodeProc) (p : Place) (steps cost : ℕ) (r : Co
 finishes_asked s p steps cost r t shared (inl made) = inl (shared, made)
 finishes_asked s p steps cost r t shared (inr waits) = inr (inl waits)
 
+one_fits : (slice : ℕ) (spare : Bool) → (spare ≡ false → 1 ≤ slice) → 1 ≤ most_steps slice spare
+one_fits slice true some = omega arith
+one_fits slice false some = some refl
+
 -- a piece of one step that concerns others
-pub one_piece : (slice : ℕ) (spare : Bool) (s t : State CodeProc) (p : Place) (y : CodeProc) → get s.procs p ≡ Some y → 1 ≤ slice → is_local y ≡ false → (r : CodePiece) (paid : ℕ) → code_step s p ≡ Some (t, paid) → starts_at code_language s p ≡ child_places p r.block 1 r.started
+pub one_piece : (slice : ℕ) (spare : Bool) (s t : State CodeProc) (p : Place) (y : CodeProc) → get s.procs p ≡ Some y → (spare ≡ false → 1 ≤ slice) → is_local y ≡ false → (r : CodePiece) (paid : ℕ) → code_step s p ≡ Some (t, paid) → starts_at code_language s p ≡ child_places p r.block 1 r.started
     → r.steps ≡ 0 + 1 → r.cost ≡ 0 + paid → IsPiece slice spare s p r t
 one_piece slice spare s t p y is some shared r paid goes starts steps_are cost_is =
     let made : Makes s p 1 t (0 + paid) (starts_at code_language s p) = makes_more s s p 0 0 (t, paid) (makes_none s p) goes in
@@ -183,7 +187,7 @@ one_piece slice spare s t p y is some shared r paid goes starts steps_are cost_i
       some_steps = omega arith;
       full = record {
         can = made.leads.legal;
-        within = elim spare as (λ b. 1 ≤ most_steps slice b) [ true ↦ omega arith | false ↦ omega (arith, some) ];
+        within = one_fits slice spare some;
         before = λ k low. absurd (omega arith);
         stops = inr (inl (0, refl, ap is_local_in is ∙ shared));
       };

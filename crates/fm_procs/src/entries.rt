@@ -75,7 +75,8 @@ pub struct Actor {
     pub path: Arc<Path>,
 }
 
-fn has_ended(process: &Process) -> bool
+/// Whether a process has ended.
+pub fn has_ended(process: &Process) -> bool
     ensures { result ≡ is_done (proc_of process.now) }
 {
     match &process.phase {

@@ -7,12 +7,13 @@
 
 mod code_procs;
 mod entries;
+mod giving;
 mod joins;
 mod pieces;
 mod ready;
 mod stepping;
 
 pub use code_procs::CodeProcs;
-pub use entries::{Actor, Entries, Entry};
+pub use entries::{Actor, Entries, Entry, has_ended};
 pub use pieces::CodePiece;
 pub use ready::is_join;

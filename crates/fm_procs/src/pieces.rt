@@ -66,7 +66,7 @@ fn is_used_up(steps: u32, slice: u32, spare: bool) -> bool
 
 impl CodeProcs {
     // Makes the step of a process, which asks for this, behind so many other steps.
-    fn event_piece(
+    pub(crate) fn event_piece(
         &mut self,
         alloc: Global,
         actor: &Actor,
@@ -117,7 +117,7 @@ impl CodeProcs {
     }
 
     // What a process does behind statements of its own, where there is room for one more step: its event, if it can do it.
-    fn finish_piece(
+    pub(crate) fn finish_piece(
         &mut self,
         alloc: Global,
         actor: &Actor,

@@ -89,6 +89,15 @@ is_among_others own n other (m ∷ ns) = go (ℕ_discrete m own) (is_among_other
         ap (λ (b : Bool). is_among (cond (not b) (m ∷ others_in own ns) (others_in own ns)) n) (ne_eqb m own differs)
         ∙ ap (λ (b : Bool). m == n || b) rest
 
+or_true : (b : Bool) → (b || true) ≡ true
+or_true true = refl
+or_true false = refl
+
+pub is_among_from : (ns : List ℕ) (n : ℕ) → Among n ns → is_among ns n ≡ true
+is_among_from [] n h = absurd h
+is_among_from (m ∷ ns) n (inl e) = ap (λ (b : Bool). b || is_among ns n) (eq-eqb m n (sym e))
+is_among_from (m ∷ ns) n (inr h) = ap (λ (b : Bool). m == n || b) (is_among_from ns n h) ∙ or_true (m == n)
+
 or_false : (b : Bool) → (b || false) ≡ b
 or_false true = refl
 or_false false = refl
@@ -104,6 +113,24 @@ put_marked count marks later numbers new x before same marked is = record {
   marked = λ n low.
       marked n (omega (arith, before.whole)) ∙ ap (λ (b : Bool). b || x == n) (before.marked n low)
       ∙ sym (is_among_more numbers x n) ∙ ap (λ (ns : List ℕ). is_among ns n) (sym is);
+}
+
+-- one of the list is put behind the others
+pub is_among_requeued : (x : ℕ) (ns : List ℕ) → Among x ns → (n : ℕ) → is_among (others_in x ns ++ x ∷ []) n ≡ is_among ns n
+is_among_requeued x ns there n = is_among_more (others_in x ns) x n ∙ go (ℕ_discrete n x)
+  where
+    go : Dec (n ≡ x) → (is_among (others_in x ns) n || x == n) ≡ is_among ns n
+    go (yes same) =
+        ap (λ (b : Bool). is_among (others_in x ns) n || b) (eq-eqb x n (sym same)) ∙ or_true (is_among (others_in x ns) n)
+        ∙ sym (is_among_from ns n (subst (λ (m : ℕ). Among m ns) (sym same) there))
+    go (no differs) =
+        ap (λ (b : Bool). is_among (others_in x ns) n || b) (ne_eqb x n (λ e. differs (sym e))) ∙ or_false (is_among (others_in x ns) n)
+        ∙ is_among_others x n differs ns
+
+pub requeued_marked : (count : ℕ) (marks : List Bool) (numbers new : List ℕ) (x : ℕ) → Among x numbers → new ≡ others_in x numbers ++ x ∷ [] → AreMarked count marks numbers → AreMarked count marks new
+requeued_marked count marks numbers new x there is before = record {
+  whole = before.whole;
+  marked = λ n low. before.marked n low ∙ sym (ap (λ (ns : List ℕ). is_among ns n) is ∙ is_among_requeued x numbers there n);
 }
 
 -- ---- all numbers in turn
@@ -164,7 +191,7 @@ among_either n (x ∷ xs) ys (inr h) = go (among_either n xs ys h)
     go (inl h') = inl (inr h')
     go (inr h') = inr h'
 
-once_append : (xs ys : List ℕ) → EachOnce xs → EachOnce ys → ((n : ℕ) → Among n xs → Among n ys → ⊥) → EachOnce (xs ++ ys)
+pub once_append : (xs ys : List ℕ) → EachOnce xs → EachOnce ys → ((n : ℕ) → Among n xs → Among n ys → ⊥) → EachOnce (xs ++ ys)
 once_append [] ys first second apart = second
 once_append (x ∷ xs) ys first second apart =
     (λ h. go (among_either x xs ys h), once_append xs ys first.1 second (λ n h h'. apart n (inr h) h'))
@@ -181,15 +208,6 @@ from_start a (suc n) k (inr h) = let low = from_start (a + 1) n k h in omega ari
 once_range : (a n : ℕ) → EachOnce (range_with_len a n)
 once_range a zero = tt
 once_range a (suc n) = (λ h. let low = from_start (a + 1) n a h in omega (arith, low), once_range (a + 1) n)
-
-pub is_among_from : (ns : List ℕ) (n : ℕ) → Among n ns → is_among ns n ≡ true
-is_among_from [] n h = absurd h
-is_among_from (m ∷ ns) n (inl e) = ap (λ (b : Bool). b || is_among ns n) (eq-eqb m n (sym e))
-is_among_from (m ∷ ns) n (inr h) = ap (λ (b : Bool). m == n || b) (is_among_from ns n h) ∙ or_true (m == n)
-  where
-    or_true : (b : Bool) → (b || true) ≡ true
-    or_true true = refl
-    or_true false = refl
 
 pub not_own : (own : ℕ) → not (own == own) ≡ false
 not_own own = ap not (eq-eqb own own refl)

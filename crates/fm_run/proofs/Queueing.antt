@@ -6,8 +6,8 @@ use Rattle.std.proofs.lemmas.Bool.{ne_eqb}
 use Rattle.std.proofs.lemmas.List.{length-replicate, take_all}
 use Rattle.std.proofs.lemmas.Option.{slice_get-get_or}
 use Rattle.std.proofs.lemmas.List.Elements.{filter-append}
-use Rattle.fm_run.specs.Orders.{Among, AreMarked, EachOnce, is_among, others_in, is_new, in_turn, newly}
-use Rattle.fm_run.proofs.Numbers.{among_either, among_filter, among_is, among_left, among_range, among_right, among_get, filter_among, filter_more, in_filter, is_among_from, is_among_others, not_own, range_more}
+use Rattle.fm_run.specs.Orders.{Among, AreMarked, EachOnce, KeepsFront, is_among, others_in, is_new, in_turn, newly}
+use Rattle.fm_run.proofs.Numbers.{among_either, among_filter, among_is, among_left, among_range, among_right, among_get, filter_among, filter_more, in_filter, is_among_from, is_among_others, not_own, once_append, range_more}
 use native.Mathlib.Decide.{ℕ_discrete}
 
 pub and_left : (a b : Bool) → (a && b) ≡ true → a ≡ true
@@ -21,6 +21,10 @@ and_right false b e = absurd (cc e)
 pub not_true : (b : Bool) → (b ≡ true → ⊥) → b ≡ false
 not_true true n = absurd (n refl)
 not_true false n = refl
+
+not_false : (b : Bool) → not b ≡ true → b ≡ false
+not_false true e = absurd (cc e)
+not_false false e = refl
 
 -- what stands there is the same whatever is given for none
 pub any_given : (xs : List ℕ) (j a b : ℕ) → j < length xs → get_or xs j a ≡ get_or xs j b
@@ -70,10 +74,10 @@ below_end a (suc n) k (inr h) = let low = below_end (a + 1) n k h in omega (arit
 
 -- ---- those that became able, by the number of the process
 
--- those of the candidates before the i-th were asked: those that became able stand behind the others, up to this number
+-- those of the candidates before the i-th were asked: those that became able stand behind the list, up to this number
 pub record AreAsked (can : ℕ → Bool) (own : ℕ) (old candidates : List ℕ) (i : ℕ) (queue : List ℕ) : Type 0 where
   pub last : ℕ
-  pub queued : queue ≡ others_in own old ++ filter (newly can own old) (range_with_len 0 last)
+  pub queued : queue ≡ old ++ filter (newly can own old) (range_with_len 0 last)
   pub passed : (j : ℕ) (d : ℕ) → j < i → j < length candidates → slice_index_or candidates j d < last
 
 -- those of the list can step still; behind them come those that became able, and the one that made the steps
@@ -87,22 +91,29 @@ ready_is can own old count all =
     filter-append can base (new ++ own ∷ []) ∙ ap₂ (λ (ns ms : List ℕ). ns ++ ms) (filter_all can base all) (filter-append can new (own ∷ []) ∙ ap (λ (ns : List ℕ). ns ++ cond (can own) (own ∷ []) []) (filter_twice can (is_new own old) (range_with_len 0 count)))
     )
 
+-- those that became able are others
+pub others_after : (can : ℕ → Bool) (own : ℕ) (old : List ℕ) (count : ℕ) → others_in own (old ++ filter (newly can own old) (range_with_len 0 count)) ≡ others_in own old ++ filter (newly can own old) (range_with_len 0 count)
+others_after can own old count =
+    filter-append (λ n. not (n == own)) old new ∙ ap (λ (ns : List ℕ). others_in own old ++ ns) (filter_all (λ n. not (n == own)) new (λ n h. differs n (filter_among (newly can own old) (range_with_len 0 count) n h)))
+  where
+    new : List ℕ
+    new = filter (newly can own old) (range_with_len 0 count)
+
+    differs : (n : ℕ) → newly can own old n ≡ true → not (n == own) ≡ true
+    differs n e = and_left (not (n == own)) (not (is_among old n)) (and_left (is_new own old n) (can n) e)
+
 module _ (can : ℕ → Bool) (own : ℕ) (old candidates : List ℕ) where
   abbrev q : ℕ → Bool
   q = newly can own old
 
-  pub none_asked : (queue : List ℕ) → queue ≡ others_in own old → AreAsked can own old candidates 0 queue
-  none_asked queue is = record { last = 0; queued = is ∙ sym (append-nil (others_in own old)); passed = λ j d low. absurd (omega (arith, low)) }
+  pub none_asked : (queue : List ℕ) → queue ≡ old → AreAsked can own old candidates 0 queue
+  none_asked queue is = record { last = 0; queued = is ∙ sym (append-nil old); passed = λ j d low. absurd (omega (arith, low)) }
 
-  -- who is newly able isn't among the others
-  not_other : (n : ℕ) → q n ≡ true → Among n (others_in own old) → ⊥
-  not_other n new h =
+  -- who is newly able isn't in the list
+  not_there : (n : ℕ) → q n ≡ true → Among n old → ⊥
+  not_there n new h =
       let fresh = and_left (is_new own old n) (can n) new in
-      let among = is_among_from old n (in_filter (λ m. not (m == own)) old n h) in
-      cc (sym (and_right (not (n == own)) (not (is_among old n)) fresh) ∙ ap not among)
-
-  pub other_of : (n : ℕ) → n ≢ own → is_among old n ≡ true → Among n (others_in own old)
-  other_of n differs h = among_filter (λ m. not (m == own)) old n (among_is old n h) (ap not (ne_eqb n own differs))
+      cc (sym (and_right (not (n == own)) (not (is_among old n)) fresh) ∙ ap not (is_among_from old n h))
 
   module _ (sorted : (i j d : ℕ) → i ≤ j → j < length candidates → get_or candidates i d ≤ get_or candidates j d) (whole : (n : ℕ) → q n ≡ true → Contains candidates n) where
     module _ (i d : ℕ) (low : i < length candidates) (queue : List ℕ) (asked : AreAsked can own old candidates i queue) where
@@ -143,17 +154,17 @@ module _ (can : ℕ → Bool) (own : ℕ) (old candidates : List ℕ) where
 
           not_new : asked.last ≤ c → (q c ≡ false) ⊎ Among c queue → q c ≡ false
           not_new at (inl e) = e
-          not_new at (inr h) = not_true (q c) (λ new. stands new (among_either c (others_in own old) (filter q (range_with_len 0 asked.last)) (subst (Among c) asked.queued h)))
+          not_new at (inr h) = not_true (q c) (λ new. stands new (among_either c old (filter q (range_with_len 0 asked.last)) (subst (Among c) asked.queued h)))
             where
-              stands : q c ≡ true → Among c (others_in own old) ⊎ Among c (filter q (range_with_len 0 asked.last)) → ⊥
-              stands new (inl other) = not_other c new other
+              stands : q c ≡ true → Among c old ⊎ Among c (filter q (range_with_len 0 asked.last)) → ⊥
+              stands new (inl other) = not_there c new other
               stands new (inr k) = absurd (omega (arith, below_end 0 asked.last c (in_filter q (range_with_len 0 asked.last) c k), at))
 
           go : (c < asked.last) ⊎ (asked.last ≤ c) → AreAsked can own old candidates (i + 1) queue
           go (inl below) = record { last = asked.last; queued = asked.queued; passed = passed_with asked.last (omega arith) below }
           go (inr at) = record {
             last = c + 1;
-            queued = asked.queued ∙ ap (λ (ns : List ℕ). others_in own old ++ ns) (sym (upto q asked.last (c + 1) (omega (arith, at)) (λ n from to. upto_here n from (before_this n to))));
+            queued = asked.queued ∙ ap (λ (ns : List ℕ). old ++ ns) (sym (upto q asked.last (c + 1) (omega (arith, at)) (λ n from to. upto_here n from (before_this n to))));
             passed = passed_with (c + 1) (omega (arith, at)) (omega arith);
           }
             where
@@ -173,13 +184,13 @@ module _ (can : ℕ → Bool) (own : ℕ) (old candidates : List ℕ) where
 
           go : (c < asked.last) ⊎ (asked.last ≤ c) → AreAsked can own old candidates (i + 1) (queue ++ c ∷ [])
           go (inl below) =
-              let there = among_right c (others_in own old) (filter q (range_with_len 0 asked.last)) (among_filter q (range_with_len 0 asked.last) c (among_range 0 asked.last c (omega arith) (omega (arith, below))) new) in
+              let there = among_right c old (filter q (range_with_len 0 asked.last)) (among_filter q (range_with_len 0 asked.last) c (among_range 0 asked.last c (omega arith) (omega (arith, below))) new) in
               absurd (absent (subst (Among c) (sym asked.queued) there))
           go (inr at) = record {
             last = c + 1;
             queued =
-                ap (λ (ns : List ℕ). ns ++ c ∷ []) asked.queued ∙ append_assoc (others_in own old) (filter q (range_with_len 0 asked.last)) (c ∷ [])
-                ∙ ap (λ (ns : List ℕ). others_in own old ++ ns) (
+                ap (λ (ns : List ℕ). ns ++ c ∷ []) asked.queued ∙ append_assoc old (filter q (range_with_len 0 asked.last)) (c ∷ [])
+                ∙ ap (λ (ns : List ℕ). old ++ ns) (
                 ap (λ (ns : List ℕ). ns ++ c ∷ []) (sym (upto q asked.last c at (λ n from to. between n from to)))
                 ∙ ap (λ (b : Bool). filter q (range_with_len 0 c) ++ cond b (c ∷ []) []) (sym new) ∙ sym (one_more q c)
                 );
@@ -190,8 +201,8 @@ module _ (can : ℕ → Bool) (own : ℕ) (old candidates : List ℕ) where
           }
 
     -- all were asked
-    pub all_asked : (queue : List ℕ) → AreAsked can own old candidates (length candidates) queue → (count : ℕ) → ((n : ℕ) → count ≤ n → can n ≡ false) → queue ≡ others_in own old ++ filter q (range_with_len 0 count)
-    all_asked queue asked count high = asked.queued ∙ ap (λ (ns : List ℕ). others_in own old ++ ns) (go (ℕ_compare count asked.last))
+    pub all_asked : (queue : List ℕ) → AreAsked can own old candidates (length candidates) queue → (count : ℕ) → ((n : ℕ) → count ≤ n → can n ≡ false) → queue ≡ old ++ filter q (range_with_len 0 count)
+    all_asked queue asked count high = asked.queued ∙ ap (λ (ns : List ℕ). old ++ ns) (go (ℕ_compare count asked.last))
       where
         ℕ_compare : (a b : ℕ) → (a < b) ⊎ (b ≤ a)
         ℕ_compare a b = grind arith
@@ -337,21 +348,12 @@ module _ (can : ℕ → Bool) (own : ℕ) (old candidates : List ℕ) (sorted : 
       low_or_high : (a b : ℕ) → (a < b) ⊎ (b ≤ a)
       low_or_high a b = grind arith
 
-  among_old : this ≢ own → is_among old this ≡ true → Among this queue
-  among_old differs h =
-      subst (Among this) (sym asked.queued)
-      (among_left this (others_in own old) (filter (newly can own old) (range_with_len 0 asked.last)) (other_of can own old candidates this differs h))
+  among_old : is_among old this ≡ true → Among this queue
+  among_old h = subst (Among this) (sym asked.queued) (among_left this old (filter (newly can own old) (range_with_len 0 asked.last)) (among_is old this h))
 
   both : (a b : Bool) → a ≡ true → b ≡ true → (a && b) ≡ true
   both true b e f = f
   both false b e f = absurd (cc e)
-
-  not_false : (b : Bool) → not b ≡ true → b ≡ false
-  not_false true e = absurd (cc e)
-  not_false false e = refl
-
-  apart : not (this == own) ≡ true → this ≢ own
-  apart e same = cc (sym e ∙ ap not (eq-eqb this own same))
 
   pub asked_step : (later : List ℕ) → later ≡ queue ++ cond ((not (this == own) && not (get_or marks this false)) && can this) (this ∷ []) [] → AreAsked can own old candidates (i + 1) later
   asked_step later is = go ((not (this == own) && not (get_or marks this false)) && can this) refl
@@ -360,11 +362,10 @@ module _ (can : ℕ → Bool) (own : ℕ) (old candidates : List ℕ) (sorted : 
       go true e =
           let able = and_right (not (this == own) && not (get_or marks this false)) (can this) e in
           let fresh = and_left (not (this == own) && not (get_or marks this false)) (can this) e in
-          let differs = apart (and_left (not (this == own)) (not (get_or marks this false)) fresh) in
           let unmarked = not_false (get_or marks this false) (and_right (not (this == own)) (not (get_or marks this false)) fresh) in
           let absent : Among this queue → ⊥ = λ h. cc (sym unmarked ∙ marked.marked this (within able) ∙ is_among_from queue this h) in
           let new_one : newly can own old this ≡ true =
-          both (is_new own old this) (can this) (both (not (this == own)) (not (is_among old this)) (and_left (not (this == own)) (not (get_or marks this false)) fresh) (ap not (not_true (is_among old this) (λ h. absent (among_old differs h))))) able in
+          both (is_new own old this) (can this) (both (not (this == own)) (not (is_among old this)) (and_left (not (this == own)) (not (get_or marks this false)) fresh) (ap not (not_true (is_among old this) (λ h. absent (among_old h))))) able in
           subst (AreAsked can own old candidates (i + 1)) (sym (is ∙ ap (λ (b : Bool). queue ++ cond b (this ∷ []) []) e))
           (asked_new can own old candidates sorted whole i d low queue asked new_one absent)
       go false e =
@@ -382,9 +383,33 @@ module _ (can : ℕ → Bool) (own : ℕ) (old candidates : List ℕ) (sorted : 
           why true new_one = inr (there new_one (get_or marks this false) refl)
           why false not_new = inl not_new
 
--- those of the queue can step still where one that can step is put behind them
-pub able_more : (can : ℕ → Bool) (queue later : List ℕ) (x : ℕ) (b : Bool) → later ≡ queue ++ cond (b && can x) (x ∷ []) [] → ((n : ℕ) → Among n queue → can n ≡ true) → (n : ℕ) → Among n later → can n ≡ true
-able_more can queue later x b is all n h = go (among_either n queue (cond (b && can x) (x ∷ []) []) (subst (Among n) is h))
+-- a number that isn't marked isn't in the queue, so it isn't there twice where it's put behind the others
+pub once_more : (can : ℕ → Bool) (count : ℕ) → ((n : ℕ) → count ≤ n → can n ≡ false) → (marks : List Bool) (queue later : List ℕ) (x : ℕ) (b : Bool) → AreMarked count marks queue
+    → later ≡ queue ++ cond ((b && not (get_or marks x false)) && can x) (x ∷ []) [] → EachOnce queue → EachOnce later
+once_more can count high marks queue later x b marked is once = subst EachOnce (sym is) (go ((b && not (get_or marks x false)) && can x) refl)
+  where
+    low_or_high : (a b : ℕ) → (a < b) ⊎ (b ≤ a)
+    low_or_high a b = grind arith
+
+    within : can x ≡ true → x < count
+    within e = elim (low_or_high x count) [ inl l ↦ l | inr h ↦ absurd (cc (sym (high x h) ∙ e)) ]
+
+    absent : get_or marks x false ≡ false → can x ≡ true → Among x queue → ⊥
+    absent unmarked able h = cc (sym unmarked ∙ marked.marked x (within able) ∙ is_among_from queue x h)
+
+    apart : ((b && not (get_or marks x false)) && can x) ≡ true → (n : ℕ) → Among n queue → Among n (x ∷ []) → ⊥
+    apart e n h (inl same) =
+        let fresh = and_left (b && not (get_or marks x false)) (can x) e in
+        absent (not_false (get_or marks x false) (and_right b (not (get_or marks x false)) fresh)) (and_right (b && not (get_or marks x false)) (can x) e) (subst (λ (m : ℕ). Among m queue) same h)
+    apart e n h (inr none) = none
+
+    go : (p : Bool) → ((b && not (get_or marks x false)) && can x) ≡ p → EachOnce (queue ++ cond p (x ∷ []) [])
+    go true e = once_append queue (x ∷ []) once (λ h. h, tt) (apart e)
+    go false e = subst EachOnce (sym (append-nil queue)) once
+
+-- those of the queue but the one that made the steps can step still where one that can step is put behind them
+pub able_more : (can : ℕ → Bool) (own : ℕ) (queue later : List ℕ) (x : ℕ) (b : Bool) → later ≡ queue ++ cond (b && can x) (x ∷ []) [] → ((n : ℕ) → n ≢ own → Among n queue → can n ≡ true) → (n : ℕ) → n ≢ own → Among n later → can n ≡ true
+able_more can own queue later x b is all n differs h = go (among_either n queue (cond (b && can x) (x ∷ []) []) (subst (Among n) is h))
   where
     one : (c : Bool) → (b && can x) ≡ c → Among n (cond c (x ∷ []) []) → can n ≡ true
     one true e (inl same) = ap can same ∙ and_right b (can x) e
@@ -392,7 +417,7 @@ able_more can queue later x b is all n h = go (among_either n queue (cond (b && 
     one false e none = absurd none
 
     go : Among n queue ⊎ Among n (cond (b && can x) (x ∷ []) []) → can n ≡ true
-    go (inl k) = all n k
+    go (inl k) = all n differs k
     go (inr k) = one (b && can x) refl k
 
 pub some_then : (o : Option ℕ) (P : Type 0) → OnSome o P → IsSome o → P
@@ -418,3 +443,16 @@ module _ (queue : List ℕ) (x own : ℕ) (m c : Bool) where
       ap (λ (b : Bool). queue ++ cond ((not b && not m) && c) (x ∷ []) []) (ne_eqb x own differs)
       ∙ ap (λ (b : Bool). queue ++ cond (not b && c) (x ∷ []) []) unmarked
       )
+
+-- ---- the front of the queue
+
+-- where it's as it was
+pub front_same : (old new : List ℕ) → new ≡ old → KeepsFront old new
+front_same old new is = ([], is ∙ sym (append-nil old))
+
+-- where more is put behind it
+pub front_then : (old mid new more : List ℕ) → KeepsFront old mid → new ≡ mid ++ more → KeepsFront old new
+front_then old mid new more kept is = (kept.0 ++ more, is ∙ ap (λ (ns : List ℕ). ns ++ more) kept.1 ∙ append_assoc old kept.0 more)
+
+pub front_stays : (old mid new : List ℕ) → KeepsFront old mid → new ≡ mid → KeepsFront old new
+front_stays old mid new kept is = (kept.0, is ∙ kept.1)

@@ -1,6 +1,7 @@
 -- The queue after a piece, and who is noted then.
-use Rattle.std.proofs.Common.{◌≡◌, ◌≢◌, ◌⊎◌, inl, inr, ℕ, ◌+◌, ◌<◌, ◌≤◌, Bool, true, false, cond, Option, Some, None, List, [], ◌∷◌, ◌++◌, length, length-append, filter, replicate, refl, sym, ap, ◌∙◌, subst, arith}
+use Rattle.std.proofs.Common.{◌≡◌, ◌≢◌, ◌⊎◌, inl, inr, ℕ, ◌+◌, ◌<◌, ◌≤◌, Bool, true, false, cond, not, ◌==◌, Option, Some, None, List, [], ◌∷◌, ◌++◌, length, length-append, filter, replicate, refl, sym, ap, ◌∙◌, subst, arith}
 use Rattle.std.specs.Prelude.{is_some, Contains, slice_get, slice_index_or}
+use Rattle.std.proofs.lemmas.Bool.{ne_eqb}
 use Rattle.std.proofs.lemmas.Option.{get_or_from_slice_get, slice_get_within}
 use Rattle.std.specs.FinMap.{get}
 use Rattle.std.specs.List.{range_with_len}
@@ -25,8 +26,8 @@ use Rattle.fm_run.specs.Entries.{turn_of}
 use Rattle.fm_run.specs.Runs.{AreAble, IsEntry, IsPlayedBy, place_of, steps_of}
 use Rattle.fm_run.proofs.Becomes.{all_candidates, all_there, noted_after, one_number, others_can}
 use Rattle.fm_run.proofs.Playing.{kept_owned}
-use Rattle.fm_run.proofs.Numbers.{among_is}
-use Rattle.fm_run.proofs.Queueing.{any_given, not_true, ready_is}
+use Rattle.fm_run.proofs.Numbers.{among_filter, among_is}
+use Rattle.fm_run.proofs.Queueing.{any_given, not_true, others_after, ready_is}
 use native.Mathlib.Decide.{ℕ_discrete}
 
 -- ---- who is noted
@@ -113,7 +114,7 @@ beyond program s places n high = go (slice_get places n) refl
     go (Some p) e = absurd (omega (arith, high, slice_get_within places n p e))
 
 module _ (program : Program) (s : State Proc) (places : List Place) (own : ℕ) (candidates : List ℕ) (i : ℕ) (low : i < length candidates) (queue : List ℕ) (marks : List Bool) (marked : AreMarked (length places) marks queue)
-    (able : (n : ℕ) → Among n queue → can_at program s places n ≡ true) (new : Channels) where
+    (able : (n : ℕ) → n ≢ own → Among n queue → can_at program s places n ≡ true) (new : Channels) where
   -- who was asked is noted where it can't step
   pub ask_noted : ((slice_index_or candidates i 0 ≢ own) → slice_index_or marks (slice_index_or candidates i 0) false ≡ false → (q : Place) (x : Proc) → slice_get places (slice_index_or candidates i 0) ≡ Some q → get s.procs q ≡ Some x
       → is_some (step program s q) ≡ false → IsNoted program new (slice_index_or candidates i 0) x)
@@ -123,12 +124,12 @@ module _ (program : Program) (s : State Proc) (places : List Place) (own : ℕ) 
       c : ℕ
       c = slice_index_or candidates i 0
 
-      unmarked : (q : Place) → slice_get places c ≡ Some q → is_some (step program s q) ≡ false → slice_index_or marks c false ≡ false
-      unmarked q at unable = not_true (slice_index_or marks c false) (λ e.
-          cc (sym unable ∙ sym (ap (can_in program s) at) ∙ able c (among_is queue c (sym (marked.marked c (slice_get_within places c q at)) ∙ e))))
+      unmarked : (c ≢ own) → (q : Place) → slice_get places c ≡ Some q → is_some (step program s q) ≡ false → slice_index_or marks c false ≡ false
+      unmarked differs q at unable = not_true (slice_index_or marks c false) (λ e.
+          cc (sym unable ∙ sym (ap (can_in program s) at) ∙ able c differs (among_is queue c (sym (marked.marked c (slice_get_within places c q at)) ∙ e))))
 
       here : (c ≢ own) → (q : Place) (x : Proc) → slice_get places c ≡ Some q → get s.procs q ≡ Some x → is_some (step program s q) ≡ false → IsNoted program new c x
-      here differs q x at is unable = asked differs (unmarked q at unable) q x at is unable
+      here differs q x at is unable = asked differs (unmarked differs q at unable) q x at is unable
 
 -- ---- a piece
 
@@ -203,9 +204,14 @@ module _ (program : Program) (number steps : ℕ) (s t : State Proc) (places lat
       subst (λ (ps : List Place). (n : ℕ) → Among n (others_in number able) → can_at program t ps n ≡ true) (sym entry.places_are)
       (others_can program s t places number own_place own_at.1 steps owned legal played_to old new of_old of_new waking (one_number program hs places s paid kept) (all_there program hs places s paid kept) noted able exact more)
 
+  -- so the others in the queue can step
+  pub queue_ready : (n : ℕ) → n ≢ number → Among n able → can_at program t later_places n ≡ true
+  queue_ready n differs h = others_ready n (among_filter (λ m. not (m == number)) able n h (ap not (ne_eqb n number differs)))
+
   -- the queue, once all is settled
-  pub queue_is : (served all : List ℕ) → served ≡ others_in number able ++ filter (newly (can_at program t later_places) number able) (range_with_len 0 (length later_places)) → all ≡ served ++ cond (can_at program t later_places number) (number ∷ []) []
-      → all ≡ ready_after program t later_places able number
+  pub queue_is : (served all : List ℕ) → served ≡ able ++ filter (newly (can_at program t later_places) number able) (range_with_len 0 (length later_places))
+      → all ≡ others_in number served ++ cond (can_at program t later_places number) (number ∷ []) [] → all ≡ ready_after program t later_places able number
   queue_is served all is last =
-      last ∙ ap (λ (ns : List ℕ). ns ++ cond (can_at program t later_places number) (number ∷ []) []) is
+      last
+      ∙ ap (λ (ns : List ℕ). ns ++ cond (can_at program t later_places number) (number ∷ []) []) (ap (others_in number) is ∙ others_after (can_at program t later_places) number able (length later_places))
       ∙ ready_is (can_at program t later_places) number able (length later_places) others_ready

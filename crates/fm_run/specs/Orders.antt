@@ -85,6 +85,10 @@ abbrev pub EachOnce : List ℕ → Type 0
 EachOnce [] = Unit {0}
 EachOnce (n ∷ ns) = (Among n ns → ⊥) × EachOnce ns
 
+-- the list, with perhaps more behind it
+abbrev pub KeepsFront : (old new : List ℕ) → Type 0
+KeepsFront old new = (more : List ℕ) × (new ≡ old ++ more)
+
 -- ---- marks
 
 -- a mark for each of so many processes that is in the list, and for no other

@@ -1,6 +1,6 @@
 //! Who became able to step by a piece of a process, and who is noted then.
 
-ghost use Rattle.std.specs.Prelude.{◌≡◌, ◌≢◌, ◌≤◌, ◌<◌, ◌++◌, ◌∷◌, ◌==◌, ◌&&◌, ℕ, true, false, cond, not, [], Some, List, Contains, filter, is_some, length, option_to_list, slice_get, slice_index_or, IfOk, OnOk};
+ghost use Rattle.std.specs.Prelude.{◌≡◌, ◌≢◌, ◌≤◌, ◌<◌, ◌++◌, ◌∷◌, ◌==◌, ◌&&◌, ℕ, true, false, cond, not, [], Some, List, Contains, filter, is_some, length, option_to_list, slice_get, slice_index_or, IfOk, OnErr, OnOk};
 ghost use Rattle.std.specs.FinMap.{get};
 ghost use Rattle.std.specs.List.{range_with_len};
 ghost use Rattle.std.specs.List.Sorted.{IsNonDecreasing};
@@ -13,7 +13,7 @@ ghost use Rattle.fm_mean.specs.Outcome.{ended_at};
 ghost use Rattle.fm_mean.specs.Process.{Proc};
 ghost use Rattle.fm_mean.specs.Steps.{language, step};
 ghost use Rattle.fm_run.specs.Noted.{AreNotedBut, IsNoted, OwnOrLeft};
-ghost use Rattle.fm_run.specs.Orders.{Among, AreMarked, can_at, newly, others_in};
+ghost use Rattle.fm_run.specs.Orders.{Among, AreMarked, EachOnce, KeepsFront, can_at, newly, others_in};
 
 use crate::net::{Awaited, Net};
 use crate::orders::Queue;
@@ -144,7 +144,8 @@ pub(crate) fn candidates<N: Net>(
     Ok(numbers)
 }
 
-/// The process of a number goes behind the others where it can step, and is noted where it waits.
+/// The process of a number goes behind the others where it can step, and is noted where it waits. After want of memory
+/// the queue is as it was.
 pub(crate) fn settle<N: Net>(
     net: &mut N,
     program: &Program,
@@ -154,6 +155,7 @@ pub(crate) fn settle<N: Net>(
     requires owned { IsOwned (language program.now) (N.state program.now net.old) }
     requires sound { N.IsSound program.now net.old }
     ensures queue { OnOk result (able.new.numbers.items ≡ able.old.numbers.items ++ cond (can_at program.now (N.state program.now net.old) (N.order net.old) number) (number ∷ []) []) }
+    ensures kept { OnErr result (able.new.numbers.items ≡ able.old.numbers.items) }
     ensures marks { OnOk result ((count : ℕ) → AreMarked count able.old.marks.items able.old.numbers.items → AreMarked count able.new.marks.items able.new.numbers.items) }
     ensures order { OnOk result (N.order net.new ≡ N.order net.old) }
     ensures history { N.history net.new ≡ N.history net.old }
@@ -168,6 +170,37 @@ pub(crate) fn settle<N: Net>(
     net.note(program, number)
 }
 
+/// The process that made the steps leaves its place in the queue: it goes behind the others where it can step, and is
+/// noted where it waits. After want of memory the queue is as it was.
+pub(crate) fn settle_own<N: Net>(
+    net: &mut N,
+    program: &Program,
+    able: &mut Queue,
+    own: u32,
+) -> Result<(), NoMemory>
+    requires owned { IsOwned (language program.now) (N.state program.now net.old) }
+    requires sound { N.IsSound program.now net.old }
+    requires once { EachOnce able.old.numbers.items }
+    requires there { Among own able.old.numbers.items }
+    ensures queue { OnOk result (able.new.numbers.items ≡ others_in own able.old.numbers.items ++ cond (can_at program.now (N.state program.now net.old) (N.order net.old) own) (own ∷ []) []) }
+    ensures kept { OnErr result (able.new.numbers.items ≡ able.old.numbers.items) }
+    ensures marks { OnOk result ((count : ℕ) → AreMarked count able.old.marks.items able.old.numbers.items → AreMarked count able.new.marks.items able.new.numbers.items) }
+    ensures order { OnOk result (N.order net.new ≡ N.order net.old) }
+    ensures history { N.history net.new ≡ N.history net.old }
+    ensures state { OnOk result (N.state program.now net.new ≡ N.state program.now net.old) }
+    ensures sound { OnOk result (N.IsSound program.now net.new) }
+    ensures waking { OnOk result (WakesAll (N.channels net.old) (N.channels net.new)) }
+    ensures noted { OnOk result ((q : Place) (x : Proc) → slice_get (N.order net.old) own ≡ Some q → get (N.state program.now net.old).procs q ≡ Some x → is_some (step program.now (N.state program.now net.old) q) ≡ false → IsNoted program.now (N.channels net.new) own x) }
+{
+    if net.can_step(program, own)? {
+        able.requeue(own);
+        return Ok(());
+    }
+    net.note(program, own)?;
+    able.leave(own);
+    Ok(())
+}
+
 // A candidate is settled, unless it's the one that made the piece or is in the queue.
 fn ask<N: Net>(
     net: &mut N,
@@ -179,6 +212,7 @@ fn ask<N: Net>(
     requires owned { IsOwned (language program.now) (N.state program.now net.old) }
     requires sound { N.IsSound program.now net.old }
     ensures queue { OnOk result (able.new.numbers.items ≡ able.old.numbers.items ++ cond ((not (number == own) && not (slice_index_or able.old.marks.items number false)) && can_at program.now (N.state program.now net.old) (N.order net.old) number) (number ∷ []) []) }
+    ensures kept { OnErr result (able.new.numbers.items ≡ able.old.numbers.items) }
     ensures marks { OnOk result ((count : ℕ) → AreMarked count able.old.marks.items able.old.numbers.items → AreMarked count able.new.marks.items able.new.numbers.items) }
     ensures order { OnOk result (N.order net.new ≡ N.order net.old) }
     ensures history { N.history net.new ≡ N.history net.old }
@@ -196,7 +230,8 @@ fn ask<N: Net>(
     settle(net, program, able, number)
 }
 
-/// The candidates that became able go behind the others, in the order of starting, and those that wait are noted.
+/// The candidates that became able go behind the others, in the order of starting, and those that wait are noted. The one that made
+/// the steps isn't asked.
 pub(crate) fn settle_all<N: Net>(
     net: &mut N,
     program: &Program,
@@ -208,14 +243,16 @@ pub(crate) fn settle_all<N: Net>(
     requires sound { N.IsSound program.now net.old }
     requires sorted { IsNonDecreasing candidates.now }
     requires marked { AreMarked (length (N.order net.old)) able.old.marks.items able.old.numbers.items }
-    ensures queue { OnOk result ((old : List ℕ) → able.old.numbers.items ≡ others_in own old → ((n : ℕ) → newly (can_at program.now (N.state program.now net.old) (N.order net.old)) own old n ≡ true → Contains candidates.now n)
-        → able.new.numbers.items ≡ others_in own old ++ filter (newly (can_at program.now (N.state program.now net.old) (N.order net.old)) own old) (range_with_len 0 (length (N.order net.old)))) }
+    ensures queue { OnOk result (((n : ℕ) → newly (can_at program.now (N.state program.now net.old) (N.order net.old)) own able.old.numbers.items n ≡ true → Contains candidates.now n)
+        → able.new.numbers.items ≡ able.old.numbers.items ++ filter (newly (can_at program.now (N.state program.now net.old) (N.order net.old)) own able.old.numbers.items) (range_with_len 0 (length (N.order net.old)))) }
+    ensures front { KeepsFront able.old.numbers.items able.new.numbers.items }
+    ensures once { OnOk result (EachOnce able.old.numbers.items → EachOnce able.new.numbers.items) }
     ensures marks { OnOk result (AreMarked (length (N.order net.old)) able.new.marks.items able.new.numbers.items) }
     ensures order { OnOk result (N.order net.new ≡ N.order net.old) }
     ensures history { N.history net.new ≡ N.history net.old }
     ensures state { OnOk result (N.state program.now net.new ≡ N.state program.now net.old) }
     ensures sound { OnOk result (N.IsSound program.now net.new) }
-    ensures noted { OnOk result (((n : ℕ) → Among n able.old.numbers.items → can_at program.now (N.state program.now net.old) (N.order net.old) n ≡ true)
+    ensures noted { OnOk result (((n : ℕ) → n ≢ own → Among n able.old.numbers.items → can_at program.now (N.state program.now net.old) (N.order net.old) n ≡ true)
         → AreNotedBut program.now (N.state program.now net.old) (N.channels net.old) (N.order net.old) (OwnOrLeft own candidates.now 0)
         → AreNotedBut program.now (N.state program.now net.old) (N.channels net.new) (N.order net.old) (OwnOrLeft own candidates.now (length candidates.now))) }
 {

@@ -14,6 +14,7 @@ mod gathering;
 mod history;
 mod net;
 mod orders;
+mod outside;
 mod player;
 mod run;
 
@@ -23,5 +24,6 @@ pub use gathering::{
 pub use history::{History, put_piece};
 pub use net::{Awaited, Kind, Net, Piece};
 pub use orders::Queue;
+pub use outside::OutsideNet;
 pub use player::Player;
 pub use run::{Ending, Run, run_program};

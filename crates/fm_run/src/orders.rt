@@ -1,6 +1,6 @@
 //! Who can step, and in which order they are served.
 
-ghost use Rattle.std.specs.Prelude.{◌≡◌, ◌<◌, ◌≤◌, ◌++◌, ◌∷◌, ◌==◌, ◌&&◌, ◌||◌, ℕ, not, false, [], length, slice_index_or, OnOk};
+ghost use Rattle.std.specs.Prelude.{◌≡◌, ◌<◌, ◌≤◌, ◌++◌, ◌∷◌, ◌==◌, ◌&&◌, ◌||◌, ℕ, not, false, [], length, take, slice_index_or, OnErr, OnOk};
 ghost use Rattle.fm_run.specs.Orders.{Among, AreMarked, EachOnce, IsPlaceOf, chosen, others_in};
 
 use fm_base::NoMemory;
@@ -91,9 +91,10 @@ impl Queue {
         is_marked(&self.marks, number)
     }
 
-    /// Puts a process behind the others.
+    /// Puts a process behind the others. After want of memory nothing has changed.
     pub fn put(&mut self, number: u32) -> Result<(), NoMemory>
         ensures numbers { OnOk result (self.new.numbers.items ≡ self.old.numbers.items ++ number ∷ []) }
+        ensures kept { OnErr result (self.new.numbers.items ≡ self.old.numbers.items) }
         ensures marks { OnOk result ((count : ℕ) → AreMarked count self.old.marks.items self.old.numbers.items → AreMarked count self.new.marks.items self.new.numbers.items) }
     {
         self.numbers.push_back(number)?;
@@ -114,6 +115,30 @@ impl Queue {
             }
             None => {}
         }
+    }
+
+    /// A process leaves its place and goes behind the others. Takes no memory.
+    pub fn requeue(&mut self, number: u32)
+        requires once { EachOnce self.old.numbers.items }
+        requires there { Among number self.old.numbers.items }
+        ensures numbers { self.new.numbers.items ≡ others_in number self.old.numbers.items ++ number ∷ [] }
+        ensures marks { (count : ℕ) → AreMarked count self.old.marks.items self.old.numbers.items → AreMarked count self.new.marks.items self.new.numbers.items }
+    {
+        match place_of(&self.numbers, number) {
+            Some(place) => {
+                self.numbers.remove(place);
+                self.numbers.push_back_reserved(number);
+            }
+            None => unreachable!(),
+        }
+    }
+
+    /// Only the first so many stay. Takes no memory. Marks stay as they are, also of those that leave.
+    pub fn shorten(&mut self, count: usize)
+        ensures numbers { self.new.numbers.items ≡ take count self.old.numbers.items }
+        ensures marks { self.new.marks.items ≡ self.old.marks.items }
+    {
+        self.numbers.truncate(count);
     }
 
     /// There are so many processes, and who is new isn't in the queue.

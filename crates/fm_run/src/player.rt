@@ -1,15 +1,18 @@
 //! A run as it stands between two pieces.
 
-ghost use Rattle.std.specs.Prelude.{◌≡◌, ◌+◌, ℕ, ◌<◌, ◌≤◌, true, false, [], length, slice_get, slice_index_or, IfOk, OnErr, OnOk};
-ghost use Rattle.fm_run.specs.Orders.{Among, AreMarked, can_at, chosen, is_among, ready_after};
+ghost use Rattle.std.specs.Prelude.{◌≡◌, ◌⊎◌, ◌+◌, ◌++◌, ℕ, ◌<◌, ◌≤◌, true, false, List, [], Some, length, slice_get, slice_index_or, IfOk, OnErr, OnOk};
+ghost use Rattle.fm_net.specs.Machine.{Place};
+ghost use Rattle.fm_net.specs.Starts.{child_places};
+ghost use Rattle.fm_run.specs.Orders.{Among, AreMarked, KeepsFront, can_at, chosen, is_among, ready_after};
 ghost use Rattle.fm_run.specs.Pieces.{IsFull};
 ghost use Rattle.fm_run.specs.Entries.{EndsWith, MayHaveEntry, MayHavePiece, turn_of, with_piece};
 ghost use Rattle.fm_run.specs.Runs.{AreMade, AreNumbered, IsFrontWithin, IsMoved, IsPlayedBy, IsPlayed, IsEntry, first_stand, stand_at};
 ghost use Rattle.fm_chan.specs.Woken.{WakesAll};
 
-use crate::becoming::{candidates, keep_count, settle, settle_all};
-use crate::net::{Kind, Net};
+use crate::becoming::{candidates, keep_count, settle, settle_all, settle_own};
+use crate::net::{Kind, Net, Piece};
 use crate::orders::{Queue, chosen};
+use crate::outside::OutsideNet;
 use fm_base::NoMemory;
 use fm_rules::Program;
 use std::alloc::Global;
@@ -105,6 +108,24 @@ impl<N: Net> Player<N> {
         chosen(&self.able.numbers, choice)
     }
 
+    // Keeps a piece that the net has made: the processes that it started get their numbers, and it is paid.
+    fn keep_made(&mut self, number: u32, piece: Piece) -> Result<(), NoMemory>
+        ensures net { self.new.net ≡ self.old.net }
+        ensures able { self.new.able.numbers.items ≡ self.old.able.numbers.items }
+        ensures used { OnOk result (self.new.used ≡ self.old.used + piece.cost) }
+        ensures numbered { OnOk result ((places : List Place) (p : Place) → slice_get places number ≡ Some p → N.order self.old.net ≡ places ++ child_places p piece.block 1 piece.started
+            → ((n : ℕ) → Among n self.old.able.numbers.items → n < length places) → AreNumbered places self.old.parents.items self.old.able.marks.items self.old.able.numbers.items
+            → AreNumbered (N.order self.new.net) self.new.parents.items self.new.able.marks.items self.new.able.numbers.items) }
+    {
+        let count = self.net.count();
+        self.parents.resize(count, number)?;
+        self.ended.resize(count, 0)?;
+        keep_count(&mut self.ended, number, 0);
+        self.able.grow(count)?;
+        self.used = both(self.used, piece.cost)?;
+        Ok(())
+    }
+
     // Makes a piece of a process, which the net keeps: how many steps it has.
     fn keep_piece(
         &mut self,
@@ -128,18 +149,13 @@ impl<N: Net> Player<N> {
         ensures made { IfOk result (λ steps. AreMade program.now number steps (N.state program.now self.old.net) (N.order self.old.net) (N.state program.now self.new.net) (N.order self.new.net)) }
         ensures full { IfOk result (λ steps. IsFull program.now slice kind.spare (N.state program.now self.old.net) (slice_index_or (N.order self.old.net) number []) steps) }
         ensures some_steps { IfOk result (λ steps. 1 ≤ steps) }
-        ensures able { OnOk result (self.new.able.numbers.items ≡ self.old.able.numbers.items) }
+        ensures able { self.new.able.numbers.items ≡ self.old.able.numbers.items }
         ensures numbered { OnOk result (AreNumbered (N.order self.new.net) self.new.parents.items self.new.able.marks.items self.new.able.numbers.items) }
         ensures waking { OnOk result (WakesAll (N.channels self.old.net) (N.channels self.new.net)) }
         ensures stays { OnErr result (MayHavePiece kind.joins number (N.history self.old.net) (N.history self.new.net)) }
     {
         let piece = self.net.make_piece(alloc, program, number, slice, kind)?;
-        let count = self.net.count();
-        self.parents.resize(count, number)?;
-        self.ended.resize(count, 0)?;
-        keep_count(&mut self.ended, number, 0);
-        self.able.grow(count)?;
-        self.used = both(self.used, piece.cost)?;
+        self.keep_made(number, piece)?;
         Ok(piece.steps)
     }
 
@@ -164,7 +180,7 @@ impl<N: Net> Player<N> {
         ensures some_steps { IfOk result (λ done. 1 ≤ done) }
         ensures few { IfOk result (λ done. done ≤ steps) }
         ensures stops { IfOk result (λ done. done < steps → can_at program.now (N.state program.now self.new.net) (N.order self.new.net) number ≡ false) }
-        ensures able { OnOk result (self.new.able.numbers.items ≡ self.old.able.numbers.items) }
+        ensures able { self.new.able.numbers.items ≡ self.old.able.numbers.items }
         ensures numbered { OnOk result (AreNumbered (N.order self.new.net) self.new.parents.items self.new.able.marks.items self.new.able.numbers.items) }
         ensures waking { OnOk result (WakesAll (N.channels self.old.net) (N.channels self.new.net)) }
         ensures stays { OnErr result (MayHaveEntry (N.history self.old.net) (N.history self.new.net)) }
@@ -180,7 +196,8 @@ impl<N: Net> Player<N> {
         Ok(done)
     }
 
-    // Looks who can step, behind an entry of a process: `before` tells how many processes there were before it.
+    // Looks who can step, behind an entry of a process: `before` tells how many processes there were before it. The process
+    // itself keeps its place until those that became able stand behind the others.
     fn serve(
         &mut self,
         alloc: Global,
@@ -197,8 +214,8 @@ impl<N: Net> Player<N> {
         ensures order { OnOk result (N.order self.new.net ≡ N.order self.old.net) }
         ensures history { N.history self.new.net ≡ N.history self.old.net }
         ensures able { OnOk result (self.new.able.numbers.items ≡ ready_after program.now (N.state program.now self.old.net) (N.order self.old.net) self.old.able.numbers.items number) }
+        ensures front { OnErr result (KeepsFront self.old.able.numbers.items self.new.able.numbers.items) }
     {
-        self.able.leave(number);
         let parents = self.parents.as_slice();
         let asked = candidates(
             alloc,
@@ -215,13 +232,13 @@ impl<N: Net> Player<N> {
             number,
             asked.as_slice(),
         )?;
-        settle(&mut self.net, program, &mut self.able, number)
+        settle_own(&mut self.net, program, &mut self.able, number)
     }
 
     /// Makes a piece of a process that can step: `slice` local steps at most, and one step more where that isn't
     /// local and the process can make it. Looks who can step then. Answers how many steps the piece has.
     ///
-    /// After want of memory the run isn't to be used any more.
+    /// After want of memory the run isn't to be used any more, and the queue is as it was, with perhaps more behind it.
     pub fn play(
         &mut self,
         alloc: Global,
@@ -241,6 +258,7 @@ impl<N: Net> Player<N> {
         ensures full { IfOk result (λ steps. IsFull program.now slice true (N.state program.now self.old.net) (slice_index_or (N.order self.old.net) number []) steps) }
         ensures some_steps { IfOk result (λ steps. 1 ≤ steps) }
         ensures stays { OnErr result (MayHaveEntry (N.history self.old.net) (N.history self.new.net)) }
+        ensures queue { OnErr result (KeepsFront self.old.able.numbers.items self.new.able.numbers.items) }
         ensures able { OnOk result (self.new.able.numbers.items ≡ ready_after program.now (N.state program.now self.new.net) (N.order self.new.net) self.old.able.numbers.items number) }
     {
         let before = self.net.count();
@@ -252,7 +270,7 @@ impl<N: Net> Player<N> {
     /// Makes steps of a process that can step, as many as asked for at most, as one entry, and looks who can step then.
     /// Answers how many there were. They are fewer only where the process can't step behind them.
     ///
-    /// After want of memory the run isn't to be used any more.
+    /// After want of memory the run isn't to be used any more, and the queue is as it was, with perhaps more behind it.
     pub fn play_steps(
         &mut self,
         alloc: Global,
@@ -273,11 +291,80 @@ impl<N: Net> Player<N> {
         ensures few { IfOk result (λ done. done ≤ steps) }
         ensures stops { IfOk result (λ done. done < steps → can_at program.now (N.state program.now self.new.net) (N.order self.new.net) number ≡ false) }
         ensures stays { OnErr result (MayHaveEntry (N.history self.old.net) (N.history self.new.net)) }
+        ensures queue { OnErr result (KeepsFront self.old.able.numbers.items self.new.able.numbers.items) }
         ensures able { OnOk result (self.new.able.numbers.items ≡ ready_after program.now (N.state program.now self.new.net) (N.order self.new.net) self.old.able.numbers.items number) }
     {
         let before = self.net.count();
         let done = self.keep_steps(alloc, program, number, steps)?;
         self.serve(alloc, program, number, before)?;
         Ok(done)
+    }
+}
+
+impl<N: OutsideNet> Player<N> {
+    // Makes a piece of a process by what came of a slice outside, which the net keeps as an entry: how many steps it has.
+    fn keep_given(
+        &mut self,
+        alloc: Global,
+        program: &Program,
+        number: u32,
+        done: &N::Done,
+    ) -> Result<u32, NoMemory>
+        requires sound { N.IsSound program.now self.old.net }
+        requires kept { IsPlayedBy program.now (N.history self.old.net) (N.order self.old.net) (N.state program.now self.old.net) self.old.used }
+        requires able { can_at program.now (N.state program.now self.old.net) (N.order self.old.net) number ≡ true }
+        requires within { (n : ℕ) → Among n self.old.able.numbers.items → n < length (N.order self.old.net) }
+        requires numbered { AreNumbered (N.order self.old.net) self.old.parents.items self.old.able.marks.items self.old.able.numbers.items }
+        requires own { N.is_own self.old.net number done.now }
+        ensures sound { OnOk result (N.IsSound program.now self.new.net) }
+        ensures kept { OnOk result (IsPlayedBy program.now (N.history self.new.net) (N.order self.new.net) (N.state program.now self.new.net) self.new.used) }
+        ensures used { OnOk result (self.old.used < self.new.used) }
+        ensures history { IfOk result (λ steps. N.history self.new.net ≡ with_piece false (N.history self.old.net) number steps) }
+        ensures made { IfOk result (λ steps. AreMade program.now number steps (N.state program.now self.old.net) (N.order self.old.net) (N.state program.now self.new.net) (N.order self.new.net)) }
+        ensures full { IfOk result (λ steps. IsFull program.now (N.steps_of done.now) true (N.state program.now self.old.net) (slice_index_or (N.order self.old.net) number []) steps) }
+        ensures some_steps { IfOk result (λ steps. 1 ≤ steps) }
+        ensures steps { IfOk result (λ steps. (steps ≡ N.steps_of done.now) ⊎ (steps ≡ N.steps_of done.now + 1)) }
+        ensures able { self.new.able.numbers.items ≡ self.old.able.numbers.items }
+        ensures numbered { OnOk result (AreNumbered (N.order self.new.net) self.new.parents.items self.new.able.marks.items self.new.able.numbers.items) }
+        ensures waking { OnOk result (WakesAll (N.channels self.old.net) (N.channels self.new.net)) }
+        ensures stays { OnErr result (MayHavePiece false number (N.history self.old.net) (N.history self.new.net)) }
+    {
+        let piece = self.net.give_piece(alloc, program, number, done)?;
+        self.keep_made(number, piece)?;
+        Ok(piece.steps)
+    }
+
+    /// Makes a piece of a process that can step, by what came of a slice that was made of it outside: its local steps, and one
+    /// step more where that isn't local and the process can make it. Looks who can step then. Answers how many steps the
+    /// piece has.
+    ///
+    /// After want of memory the run isn't to be used any more, and the queue is as it was, with perhaps more behind it.
+    pub fn give(
+        &mut self,
+        alloc: Global,
+        program: &Program,
+        number: u32,
+        done: &N::Done,
+    ) -> Result<u32, NoMemory>
+        requires sound { N.IsSound program.now self.old.net }
+        requires played { IsPlayed program.now (stand_at (N.state program.now self.old.net) (N.order self.old.net) self.old.able.numbers.items) (N.channels self.old.net) (N.history self.old.net) self.old.parents.items self.old.able.marks.items self.old.used }
+        requires able { Among number self.old.able.numbers.items }
+        requires own { N.is_own self.old.net number done.now }
+        ensures sound { OnOk result (N.IsSound program.now self.new.net) }
+        ensures played { OnOk result (IsPlayed program.now (stand_at (N.state program.now self.new.net) (N.order self.new.net) self.new.able.numbers.items) (N.channels self.new.net) (N.history self.new.net) self.new.parents.items self.new.able.marks.items self.new.used) }
+        ensures used { OnOk result (self.old.used < self.new.used) }
+        ensures front { OnOk result ((turns : ℕ) → self.old.used ≤ turns → IsFrontWithin program.now turns (N.history self.new.net) (N.order self.new.net)) }
+        ensures entry { IfOk result (λ steps. IsEntry program.now (turn_of number steps) (N.state program.now self.old.net) (N.order self.old.net) (N.history self.old.net) (N.state program.now self.new.net) (N.order self.new.net) (N.history self.new.net)) }
+        ensures full { IfOk result (λ steps. IsFull program.now (N.steps_of done.now) true (N.state program.now self.old.net) (slice_index_or (N.order self.old.net) number []) steps) }
+        ensures some_steps { IfOk result (λ steps. 1 ≤ steps) }
+        ensures steps { IfOk result (λ steps. (steps ≡ N.steps_of done.now) ⊎ (steps ≡ N.steps_of done.now + 1)) }
+        ensures stays { OnErr result (MayHaveEntry (N.history self.old.net) (N.history self.new.net)) }
+        ensures queue { OnErr result (KeepsFront self.old.able.numbers.items self.new.able.numbers.items) }
+        ensures able { OnOk result (self.new.able.numbers.items ≡ ready_after program.now (N.state program.now self.new.net) (N.order self.new.net) self.old.able.numbers.items number) }
+    {
+        let before = self.net.count();
+        let steps = self.keep_given(alloc, program, number, done)?;
+        self.serve(alloc, program, number, before)?;
+        Ok(steps)
     }
 }

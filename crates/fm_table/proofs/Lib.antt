@@ -1,8 +1,11 @@
-pub mod Stands
-pub mod Tables
-pub mod Paths
-pub mod Runs
 pub mod Counts
 pub mod Fairness
 pub mod SamePlaces
 pub mod Fewness
+pub mod Paths
+pub mod Outs
+pub mod Standings
+pub mod Others
+pub mod Tables
+pub mod Runs
+pub mod Turns

@@ -1,5 +1,5 @@
 -- The paths of the processes, as they are copied.
-use Rattle.std.proofs.Common.{◌≡◌, ℕ, suc, ◌+◌, ◌<◌, ◌≤◌, List, [], ◌∷◌, ◌++◌, length, take, get_or, append-nil, append_assoc, sym, ap, ap₂, ◌∙◌, arith}
+use Rattle.std.proofs.Common.{◌≡◌, ℕ, zero, suc, ◌+◌, ◌<◌, ◌≤◌, List, [], ◌∷◌, ◌++◌, length, take, drop, get_or, append-nil, append_assoc, refl, sym, ap, ap₂, ◌∙◌, arith}
 use Rattle.std.specs.declared.alloc.Global.{Global}
 use Rattle.std.specs.declared.sync.Arc.{Arc}
 use Rattle.std.proofs.Math.Seq.{take-append_seam, take-suc}
@@ -41,5 +41,10 @@ all_put all old now count put high =
     let counted : length (places_of all) ≡ length all = length-map all place_in in
     put.there ∙ take_all count (places_of all) (omega (arith, high, counted))
 
-pub still_first : (all old now : List (Arc Path Global)) (count : ℕ) → ArePut all old now count → take (length old) now ≡ old
-still_first all old now count put = ap (take (length old)) put.grown ∙ take-append_seam old put.more
+pub still_first : (all old now : List (Arc Path Global)) (count : ℕ) → ArePut all old now count → (more : List Place) × (places_of all ≡ places_of now ++ more)
+still_first all old now count put = (drop count (places_of all), sym (split count (places_of all)) ∙ ap (λ (ps : List Place). ps ++ drop count (places_of all)) (sym put.there))
+  where
+    split : (n : ℕ) (ps : List Place) → take n ps ++ drop n ps ≡ ps
+    split zero ps = refl
+    split (suc n) [] = refl
+    split (suc n) (p ∷ ps) = ap (λ (qs : List Place). p ∷ qs) (split n ps)

@@ -1,30 +1,45 @@
 -- A table, by what stands in memory and by what is told of it.
-use Rattle.std.proofs.Common.{◌≡◌, ◌⊎◌, inl, inr, ℕ, zero, suc, ◌+◌, ◌==◌, ◌<◌, ◌≤◌, Bool, true, false, List, [], ◌∷◌, ◌++◌, length, refl, sym, ap, ◌∙◌, subst, arith}
-use Rattle.std.specs.Prelude.{nat_lt, is_some, Option, Some, None, slice_get}
-use Rattle.std.specs.declared.alloc.Global.{Global}
-use Rattle.std.specs.declared.sync.Arc.{Arc}
+use Rattle.std.proofs.Common.{◌≡◌, ◌⊎◌, inl, inr, ℕ, zero, suc, ◌+◌, ◌==◌, ◌<◌, ◌≤◌, Bool, true, false, List, [], ◌∷◌, ◌++◌, length, replicate, refl, sym, ap, ap₂, ◌∙◌, subst, arith}
+use Rattle.std.specs.Prelude.{nat_lt, is_some, Option, Some, None, IfSome, slice_get}
 use Rattle.std.proofs.lemmas.Bool.{ltb-false, ltb-true}
-use Rattle.fm_base.specs.declared.path.Path.{Path}
+use Rattle.std.proofs.lemmas.Option.{get_or_from_slice_get}
 use Rattle.fm_base.specs.declared.schedule.Setup.{Setup}
 use Rattle.fm_base.specs.declared.schedule.Turn.{Turn}
-use Rattle.fm_sched.specs.Schedule.{IsFinal}
-use Rattle.fm_net.specs.Machine.{Place}
+use Rattle.fm_sched.specs.Schedule.{IsFinal, play}
+use Rattle.fm_net.specs.Machine.{Place, State}
+use Rattle.fm_net.specs.Starts.{starts_along}
+use Rattle.fm_net.proofs.Histories.{longer_at}
 use Rattle.fm_rules.specs.declared.program.Program.{Program}
-use Rattle.fm_mean.specs.Outcome.{outcome_of}
-use Rattle.fm_mean.specs.Steps.{step}
+use Rattle.fm_mean.specs.Process.{Proc}
+use Rattle.fm_mean.specs.Steps.{language, step}
 use Rattle.fm_run.specs.Entries.{turn_of}
-use Rattle.fm_run.specs.Orders.{Among, can_in, chosen, places_of}
-use Rattle.fm_run.specs.Runs.{AreAble, Follows, IsNext, Stand, first_stand}
-use Rattle.fm_run.specs.declared.player.Player.{Player}
-use Rattle.fm_run.proofs.Following.{follows_more}
+use Rattle.fm_run.specs.Orders.{Among, EachOnce, can_at, can_in, chosen}
+use Rattle.fm_run.specs.Pieces.{after_steps}
+use Rattle.fm_run.specs.Runs.{AreAble, Follows, IsFrontWithin, IsNext, Stand, after_entry, first_stand, place_of, steps_of}
+use Rattle.fm_run.proofs.Following.{entries_more, follows_more}
 use Rattle.fm_run.proofs.Playing.{front_none, nobody_can, started_all}
-use Rattle.fm_outcome_code.specs.declared.compiled.Compiled.{Compiled}
-use Rattle.fm_table.specs.Inside.{HasMade, HasTurned, IsLive, IsTable, stand_in}
-use Rattle.fm_table.specs.Told.{IsIdle, IsKept, Told, cost_of, has_some, phase_by, phase_of, stand_of}
-use Rattle.fm_table.specs.Turning.{MakesSteps, PlaysTo, TurnsTo}
-use Rattle.fm_table.specs.declared.phase.Phase.{Phase}
-use Rattle.fm_table.specs.declared.phase.Phase.TheVariants.{Going, Ended, Spent}
-use Rattle.fm_table.proofs.Stands.{live_table, live_used, made_cost, told_in, turned_to}
+use Rattle.fm_table.specs.Inside.{EntersTo, IsAsItWas, IsStanding, IsTable, outs_of, stand_kept, told_in}
+use Rattle.fm_table.specs.Told.{IsIdle, IsKept, Out, Told, cost_of, has_some, led_by, numbers_out, phase_by, phase_of, ready_in, ready_of, stand_of, told_at, with_entry}
+use Rattle.fm_table.specs.Turning.{CantStepBehind, MakesSteps, PlaysTo, TurnsTo}
+use Rattle.fm_table.specs.declared.making.Way.{Way}
+use Rattle.fm_table.specs.declared.making.Way.TheVariants as way
+use Rattle.fm_table.specs.declared.outside.Taken.{Taken}
+use Rattle.fm_workers.specs.declared.shared.Phase.{Phase}
+use Rattle.fm_workers.specs.declared.shared.Phase.TheVariants.{Going, Ended, Spent}
+use Rattle.fm_table.specs.declared.standing.Standing.{Standing}
+use Rattle.fm_table.proofs.Standings.{entry_stand}
+use Rattle.fm_table.proofs.Outs.{all_ready}
+
+-- what is so of a value that is there
+pub of_some : {A : Type 0} (P : A → Type 0) (o : Option A) (x : A) → o ≡ Some x → IfSome o P → P x
+of_some P None x e h = absurd (cc e)
+of_some P (Some y) x e h =
+    let same : y ≡ x = cc e in
+    subst P same h
+
+none_from : {A : Type 0} (o : Option A) → is_some o ≡ false → o ≡ None
+none_from None e = refl
+none_from (Some x) e = absurd (cc e)
 
 -- an entry that isn't empty
 pub some_steps : (n : ℕ) → (n == 0) ≡ false → 1 ≤ n
@@ -59,127 +74,140 @@ spent_by true can_step e = refl
 spent_by false true e = absurd (cc e)
 spent_by false false e = absurd (cc e)
 
--- where nobody who is told can step, nobody can
-pub ended_final : (a : Told) → IsKept a → (stand_of a).able ≡ [] → IsFinal (step a.program) (stand_of a).state
+-- where nobody is in the queue, nobody can step
+pub ended_final : (a : Told) → IsKept a → a.queue ≡ [] → IsFinal (step a.program) (stand_of a).state
 ended_final a kept none =
     nobody_can a.program (stand_of a).state (stand_of a).places (subst (λ (ns : List ℕ). AreAble a.program (stand_of a).state (stand_of a).places ns) none kept.able)
     (started_all a.program a.history (stand_of a).places (stand_of a).state (cost_of a) kept.played)
 
 pub phase_final : (a : Told) → IsKept a → phase_of a ≡ Ended → IsFinal (step a.program) (stand_of a).state
-phase_final a kept e = ended_final a kept (none_of (stand_of a).able (ended_by (nat_lt a.setup.turns (cost_of a)) (has_some (stand_of a).able) e).1)
+phase_final a kept e = ended_final a kept (none_of a.queue (ended_by (nat_lt a.setup.turns (cost_of a)) (has_some a.queue) e).1)
 
 pub phase_within : (a : Told) (p : Phase) → p ≡ phase_of a → (p ≡ Going) ⊎ (p ≡ Ended) → cost_of a ≤ a.setup.turns
-phase_within a p is (inl e) = ltb-false a.setup.turns (cost_of a) (going_by (nat_lt a.setup.turns (cost_of a)) (has_some (stand_of a).able) (sym is ∙ e)).0
-phase_within a p is (inr e) = ltb-false a.setup.turns (cost_of a) (ended_by (nat_lt a.setup.turns (cost_of a)) (has_some (stand_of a).able) (sym is ∙ e)).0
+phase_within a p is (inl e) = ltb-false a.setup.turns (cost_of a) (going_by (nat_lt a.setup.turns (cost_of a)) (has_some a.queue) (sym is ∙ e)).0
+phase_within a p is (inr e) = ltb-false a.setup.turns (cost_of a) (ended_by (nat_lt a.setup.turns (cost_of a)) (has_some a.queue) (sym is ∙ e)).0
 
 pub phase_over : (a : Told) (p : Phase) → p ≡ phase_of a → p ≡ Spent → a.setup.turns < cost_of a
-phase_over a p is e = ltb-true a.setup.turns (cost_of a) (spent_by (nat_lt a.setup.turns (cost_of a)) (has_some (stand_of a).able) (sym is ∙ e))
+phase_over a p is e = ltb-true a.setup.turns (cost_of a) (spent_by (nat_lt a.setup.turns (cost_of a)) (has_some a.queue) (sym is ∙ e))
 
 -- where it goes on, somebody can step
 pub going_on : (a : Told) → IsKept a → (p : Phase) → p ≡ phase_of a → p ≡ Going → IsFinal (step a.program) (stand_of a).state → ⊥
-going_on a kept p is e final = somebody (stand_of a).able refl (going_by (nat_lt a.setup.turns (cost_of a)) (has_some (stand_of a).able) (sym is ∙ e)).1
+going_on a kept p is e final = somebody a.queue refl (going_by (nat_lt a.setup.turns (cost_of a)) (has_some a.queue) (sym is ∙ e)).1
   where
     at_place : (n : ℕ) (o : Option Place) → slice_get (stand_of a).places n ≡ o → can_in a.program (stand_of a).state o ≡ true → ⊥
     at_place n None at can = cc can
     at_place n (Some q) at can = let none = ap is_some (final q) in cc (sym can ∙ none)
 
-    somebody : (ns : List ℕ) → (stand_of a).able ≡ ns → has_some ns ≡ true → ⊥
+    somebody : (ns : List ℕ) → a.queue ≡ ns → has_some ns ≡ true → ⊥
     somebody [] ready some = cc some
     somebody (n ∷ ns) ready some = at_place n (slice_get (stand_of a).places n) refl (kept.able.within n (subst (λ (ms : List ℕ). Among n ms) (sym ready) (inl refl)))
 
--- where nothing can be made and the turns aren't spent, nobody can step
-pub idle_none : (a : Told) (b : Bool) → IsIdle a → b ≡ nat_lt a.setup.turns (cost_of a) → b ≡ false → (cost_of a ≤ a.setup.turns) × ((stand_of a).able ≡ [])
-idle_none a b (inl over) is none = let within = within_turns a.setup.turns (cost_of a) b is none in absurd (omega (arith, over, within))
-idle_none a b (inr empty) is none = (within_turns a.setup.turns (cost_of a) b is none, empty)
+-- where nothing can be made, nobody is out, and the turns aren't spent, nobody can step
+pub idle_none : (a : Told) (b : Bool) → IsIdle a → a.out ≡ [] → b ≡ nat_lt a.setup.turns (cost_of a) → b ≡ false → (cost_of a ≤ a.setup.turns) × (a.queue ≡ [])
+idle_none a b (inl over) free is none = let within = within_turns a.setup.turns (cost_of a) b is none in absurd (omega (arith, over, within))
+idle_none a b (inr empty) free is none = (within_turns a.setup.turns (cost_of a) b is none, sym (all_ready a.queue) ∙ ap (λ (os : List Out). ready_in os a.queue) (sym free) ∙ empty)
 
--- ---- the processes were made again
+-- ---- what a table keeps, as it is told
 
-module _ (program : Program) (setup : Setup) (player revived : Player Compiled) (same : revived.net.history ≡ player.net.history) where
-  pub told_again : told_in program setup revived ≡ told_in program setup player
-  told_again = ap (λ (ts : List Turn). record { program = program; setup = setup; history = ts }) same
+pub table_kept : (program : Program) (setup : Setup) (s : Standing) (out : List Out) → IsTable program setup s out → IsKept (told_in program setup s out)
+table_kept program setup s out t = record { played = t.standing.played; able = t.standing.able; front = t.front; out_able = t.out_able; out_once = t.out_once }
 
-  pub kept_again : IsKept (told_in program setup player) → IsKept (told_in program setup revived)
-  kept_again kept = subst IsKept (sym told_again) kept
+pub told_same : (program : Program) (setup : Setup) (old new : Standing) (out : List Out) → IsAsItWas old new → told_in program setup new out ≡ told_in program setup old out
+told_same program setup old new out same = ap₂ (λ (ts : List Turn) (ns : List ℕ). record { program = program; setup = setup; history = ts; queue = ns; out = out }) same.history same.queue
 
-  pub going_again : (paid : ℕ) → paid ≡ cost_of (told_in program setup player) → paid ≤ setup.turns → cost_of (told_in program setup revived) ≤ setup.turns
-  going_again paid is within = let again = ap cost_of told_again in omega (arith, is, within, again)
+pub table_same : (program : Program) (setup : Setup) (old new : Standing) (out : List Out) → IsAsItWas old new → IsStanding program new → IsTable program setup old out → IsTable program setup new out
+table_same program setup old new out same standing t = record {
+  standing = standing;
+  front = subst (λ (a : Told). IsFrontOf a) (sym (told_same program setup old new out same)) t.front;
+  out_able = λ n h. subst (λ (ns : List ℕ). Among n ns) (sym same.queue) (t.out_able n h);
+  out_once = t.out_once;
+}
+  where
+    IsFrontOf : Told → Type 0
+    IsFrontOf a = IsFrontWithin a.program a.setup.turns a.history (stand_of a).places
 
-  pub paths_again : IsLive program revived → (ps : List (Arc Path Global)) → places_of ps ≡ (stand_of (told_in program setup player)).places → places_of ps ≡ (stand_in program revived).places
-  paths_again live ps is = is ∙ ap (λ (a : Told). (stand_of a).places) (sym told_again) ∙ ap (λ (b : Stand). b.places) (sym live.stand_is)
+-- ---- what was made of an entry
 
-  -- the processes were let go
-  pub table_gone : (is_live : Bool) (paths later : List (Arc Path Global)) (paid : ℕ) (is_ready : Bool) → IsTable (told_in program setup player) player is_live paths paid is_ready → later ≡ paths
-      → IsTable (told_in program setup revived) revived false later paid is_ready
-  table_gone is_live paths later paid is_ready t is = record {
-    kept = kept_again t.kept;
-    live = λ e. absurd (cc e);
-    paths_are = ap places_of is ∙ t.paths_are ∙ ap (λ (a : Told). (stand_of a).places) (sym told_again);
-    paid_is = t.paid_is ∙ ap cost_of (sym told_again);
-    ready_is = t.ready_is ∙ ap (λ (a : Told). has_some (stand_of a).able) (sym told_again);
-  }
+-- where a table stands with an entry more
+pub stand_more : (a : Told) (t : Turn) → stand_of (with_entry a t) ≡ after_entry a.program (stand_of a) t
+stand_more a t = entry_stand a.program a.history a.queue (after_entry a.program (stand_of a) t).able t refl
 
--- ---- turns
+module _ (a b : Told) (number : ℕ) where
+  -- so many steps, as an entry
+  pub steps_made : (w : Way) (done : ℕ) → (done ≡ 0 → b ≡ a) → (1 ≤ done → EntersTo w number done a b) → MakesSteps number done a b
+  steps_made w zero none made = record { there = λ some. absurd (omega (arith, some)); can = tt; told = none refl }
+  steps_made w (suc n) none made = let h = made (omega arith) in record { there = λ some. h.known; can = h.can; told = h.told }
 
-module _ (program : Program) (setup : Setup) (a : Told) (player revived new : Player Compiled) (view : told_in program setup player ≡ a) (same : revived.net.history ≡ player.net.history) (was : IsLive program revived) (live : IsLive program new) where
-  was_told : told_in program setup revived ≡ a
-  was_told = told_again program setup player revived same ∙ view
+  -- the process can't step then, or isn't there
+  pub cant_step : (w : Way) (done : ℕ) → (done ≡ 0 → can_at a.program (stand_of a).state (stand_of a).places number ≡ false) → (1 ≤ done → EntersTo w number done a b) → (1 ≤ done → can_at a.program (stand_of b).state (stand_of b).places number ≡ false) → CantStepBehind number done a
+  cant_step w zero none made cant q at =
+      none_from (step a.program (stand_of a).state q) (sym (ap (can_in a.program (stand_of a).state) at) ∙ none refl)
+  cant_step w (suc n) none made cant q at =
+      let h = made (omega arith) in
+      let t = turn_of number (suc n) in
+      let s = stand_of a in
+      let is : stand_of b ≡ after_entry a.program s t = ap stand_of h.told ∙ stand_more a t in
+      let place : place_of s.places t ≡ q = get_or_from_slice_get s.places number q [] at in
+      let later : slice_get (stand_of b).places number ≡ Some q = ap (λ (c : Stand). slice_get c.places number) is ∙ longer_at s.places (starts_along (language a.program) s.state (steps_of s.places t)) number q at in
+      let there : (stand_of b).state ≡ after_steps a.program s.state q (suc n) = ap (λ (c : Stand). c.state) is ∙ ap (λ (p : Place). play (step a.program) s.state (replicate (suc n) p)) place in
+      none_from (step a.program (after_steps a.program s.state q (suc n)) q)
+      (ap (λ (u : State Proc). is_some (step a.program u q)) (sym there) ∙ sym (ap (can_in a.program (stand_of b).state) later) ∙ cant (omega arith))
 
-  pub turn_made : (choice : ℕ) → HasTurned program setup.slice choice revived new → cost_of (told_in program setup revived) ≤ setup.turns → TurnsTo choice a (told_in program setup new)
-  turn_made choice h going = subst (λ (b : Told). TurnsTo choice b (told_in program setup new)) was_told (turned_to program setup revived new was live choice h going)
+-- what came of an entry, by how many steps were made
+pub played_to : (a b : Told) (t : Turn) (done : ℕ) → (done ≡ 0 → (b ≡ a) × (can_at a.program (stand_of a).state (stand_of a).places t.number ≡ false)) → (1 ≤ done → EntersTo (way.Steps t.steps) t.number done a b)
+    → (r : Option ℕ) → (r ≡ None → done ≡ t.steps) → ((k : ℕ) → r ≡ Some k → (k ≡ done) × (k < t.steps)) → PlaysTo t a b r
+played_to a b t done none made None all part =
+    subst (λ (n : ℕ). MakesSteps t.number n a b) (all refl) (steps_made a b t.number (way.Steps t.steps) done (λ e. (none e).0) made)
+played_to a b t done none made (Some k) all part =
+    let h = part k refl in
+    let low : done < t.steps = subst (λ (n : ℕ). n < t.steps) h.0 h.1 in
+    subst (λ (n : ℕ). (n < t.steps) × MakesSteps t.number n a b × CantStepBehind t.number n a) (sym h.0)
+    (low, steps_made a b t.number (way.Steps t.steps) done (λ e. (none e).0) made, cant_step a b t.number (way.Steps t.steps) done (λ e. (none e).1) made (λ some. (made some).so.1 low))
 
-  pub turn_costs : (choice : ℕ) → HasTurned program setup.slice choice revived new → cost_of a < cost_of (told_in program setup new)
-  turn_costs choice h = subst (λ (b : Told). cost_of b < cost_of (told_in program setup new)) was_told (made_cost program setup revived new was live h.entry h.made)
-
-  pub turn_none : (new ≡ revived) × ((stand_in program revived).able ≡ []) → IsIdle a × (told_in program setup new ≡ a)
-  turn_none h = (
-    inr (sym (ap (λ (b : Told). (stand_of b).able) was_told) ∙ sym (ap (λ (b : Stand). b.able) was.stand_is) ∙ h.1),
-    ap (told_in program setup) h.0 ∙ was_told,
-  )
-
--- what is asked for of a table, of what stands in it
-pub within_view : (program : Program) (setup : Setup) (player : Player Compiled) (a : Told) → told_in program setup player ≡ a → (paid : ℕ) → paid ≡ cost_of (told_in program setup player) → cost_of a ≤ a.setup.turns → paid ≤ setup.turns
-within_view program setup player a view paid is within =
-    let here = subst (λ (b : Told). cost_of b ≤ b.setup.turns) (sym view) within in
-    omega (arith, is, here)
-
--- what was played of an entry, of the table before
-pub played_from : (program : Program) (setup : Setup) (a : Told) (player revived : Player Compiled) → told_in program setup player ≡ a → revived.net.history ≡ player.net.history → (t : Turn) (b : Told) (r : Option ℕ) → PlaysTo t (told_in program setup revived) b r
-    → PlaysTo t a b r
-played_from program setup a player revived view same t b r h = subst (λ (c : Told). PlaysTo t c b r) (told_again program setup player revived same ∙ view) h
-
--- all steps of an entry were made
-pub whole_entry : (program : Program) (t : Turn) (old new : Player Compiled) (done : ℕ) → 1 ≤ t.steps → done ≡ t.steps → (1 ≤ done → HasMade program (turn_of t.number done) old new) → new.net.history ≡ old.net.history ++ t ∷ []
-whole_entry program t old new done some all made =
-    let h = made (omega (arith, some, all)) in
-    h.entry.history_is ∙ ap (λ (n : ℕ). old.net.history ++ turn_of t.number n ∷ []) all
-
--- what the processes show is what is told
-pub told_outcome : (program : Program) (setup : Setup) (player : Player Compiled) (a : Told) → IsLive program player → told_in program setup player ≡ a → outcome_of program player.used (stand_in program player).state ≡ outcome_of a.program (cost_of a) (stand_of a).state
-told_outcome program setup player a live view =
-    ap (λ (n : ℕ). outcome_of program n (stand_in program player).state) (live_used program setup player live)
-    ∙ ap (λ (b : Stand). outcome_of program (cost_of (told_in program setup player)) b.state) live.stand_is
-    ∙ ap (λ (b : Told). outcome_of b.program (cost_of b) (stand_of b).state) view
+-- at most as many steps as were asked for
+pub few_steps : (a b : Told) (t : Turn) (done : ℕ) → (1 ≤ done → EntersTo (way.Steps t.steps) t.number done a b) → done ≤ t.steps
+few_steps a b t zero made = omega arith
+few_steps a b t (suc n) made = (made (omega arith)).so.0
 
 -- an entry without a step
 pub no_steps : (t : Turn) (a : Told) → t.steps ≡ 0 → PlaysTo t a a None
 no_steps t a none = subst (λ (n : ℕ). MakesSteps t.number n a a) (sym none) (record { there = λ some. absurd (omega (arith, some)); can = tt; told = refl })
 
--- ---- the first table
+-- ---- tables where nobody was ever out
 
-pub first_table : (program : Program) (setup : Setup) (player : Player Compiled) → IsLive program player → player.net.history ≡ [] → player.used ≡ 0 → (paths : List (Arc Path Global)) → places_of paths ≡ (stand_in program player).places → (is_ready : Bool) → is_ready ≡ has_some player.able.numbers.items
-    → IsTable (told_in program setup player) player true paths 0 is_ready
-first_table program setup player live none paid paths paths_are is_ready ready_is =
-    subst (λ (n : ℕ). IsTable (told_in program setup player) player true paths n is_ready) paid
-    (live_table program setup player live (front_none program setup.turns player.net.history (stand_of (told_in program setup player)).places none) paths paths_are is_ready ready_is)
-
--- ---- runs of turns
+-- an entry more of a table to which entries alone led
+pub entry_at : (program : Program) (setup : Setup) (ts : List Turn) (t : Turn) → with_entry (told_at program setup ts) t ≡ told_at program setup (ts ++ t ∷ [])
+entry_at program setup ts t = ap (λ (b : Stand). record { program = program; setup = setup; history = ts ++ t ∷ []; queue = b.able; out = [] }) (sym (entries_more program (first_stand program) ts t))
 
 -- a turn more follows the choices
-pub turn_follows : (choices : List ℕ) (choice : ℕ) (a b : Told) → ((able : List ℕ) → chosen (Some choice) able ≡ chosen (slice_get choices (length a.history)) able) → Follows a.program a.setup.slice choices a.history → TurnsTo choice a b
+pub turn_follows : (choices : List ℕ) (choice : ℕ) (a b : Told) → ((able : List ℕ) → chosen (Some choice) able ≡ chosen (slice_get choices (length a.history)) able) → a ≡ told_at a.program a.setup a.history → Follows a.program a.setup.slice choices a.history → TurnsTo choice a b
     → Follows a.program a.setup.slice choices b.history
-turn_follows choices choice a b same follows h =
-    let next : IsNext a.program a.setup.slice (slice_get choices (length a.history)) (stand_of a) h.entry = record { who = sym (same (stand_of a).able) ∙ h.next.who; full = h.next.full } in
+turn_follows choices choice a b same alone follows h =
+    let led = led_by a.program a.history in
+    let queue : a.queue ≡ led.able = ap (λ (c : Told). c.queue) alone in
+    let ready : ready_of a ≡ led.able = ap (λ (os : List Out). ready_in os a.queue) (ap (λ (c : Told). c.out) alone) ∙ all_ready a.queue ∙ queue in
+    let next : IsNext a.program a.setup.slice (slice_get choices (length a.history)) led h.entry = record { who = sym (same led.able) ∙ ap (chosen (Some choice)) (sym ready) ∙ h.who; full = h.full } in
     let here : 0 + length a.history ≡ length a.history = omega arith in
-    let next_here = subst (λ (k : ℕ). IsNext a.program a.setup.slice (slice_get choices k) (stand_of a) h.entry) (sym here) next in
+    let next_here = subst (λ (k : ℕ). IsNext a.program a.setup.slice (slice_get choices k) led h.entry) (sym here) next in
     subst (λ (ts : List Turn). Follows a.program a.setup.slice choices ts) (sym (ap (λ (c : Told). c.history) h.told))
     (follows_more a.program a.setup.slice choices 0 (first_stand a.program) a.history h.entry follows next_here)
+
+-- behind a turn it is such a table still
+pub turn_alone : (choice : ℕ) (a b : Told) → a ≡ told_at a.program a.setup a.history → TurnsTo choice a b → b ≡ told_at a.program a.setup b.history
+turn_alone choice a b alone h =
+    h.told ∙ ap (λ (c : Told). with_entry c h.entry) alone ∙ entry_at a.program a.setup a.history h.entry ∙ ap (told_at a.program a.setup) (sym (ap (λ (c : Told). c.history) h.told))
+
+-- ---- the first table
+
+pub first_table : (program : Program) (setup : Setup) (s : Standing) → IsStanding program s → s.player.net.history ≡ [] → (out : List Taken) → out ≡ [] → IsTable program setup s (outs_of out)
+first_table program setup s standing none out free = record {
+  standing = standing;
+  front = front_none program setup.turns s.player.net.history (stand_kept program s).places none;
+  out_able = λ n h. absurd (subst (λ (os : List Taken). Among n (numbers_out (outs_of os))) free h);
+  out_once = subst (λ (os : List Taken). EachOnce (numbers_out (outs_of os))) (sym free) tt;
+}
+
+pub first_is : (program : Program) (setup : Setup) (s : Standing) → s.player.net.history ≡ [] → s.player.able.numbers.items ≡ (first_stand program).able → (out : List Taken) → out ≡ [] → told_in program setup s (outs_of out) ≡ told_at program setup []
+first_is program setup s none queue out free =
+    ap₂ (λ (ts : List Turn) (ns : List ℕ). record { program = program; setup = setup; history = ts; queue = ns; out = outs_of out }) none queue
+    ∙ ap (λ (os : List Taken). record { program = program; setup = setup; history = []; queue = (first_stand program).able; out = outs_of os }) free

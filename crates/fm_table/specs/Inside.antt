@@ -1,20 +1,27 @@
 -- The processes in memory as what the kept schedule leads to.
 -- Source: this profile.
-use Rattle.std.specs.Prelude.{◌≡◌, ℕ, ◌<◌, ◌≤◌, Bool, true, is_some, Some, List, slice_get}
-use Rattle.std.specs.declared.alloc.Global.{Global}
-use Rattle.std.specs.declared.sync.Arc.{Arc}
-use Rattle.fm_base.specs.declared.path.Path.{Path}
+use Rattle.std.specs.Prelude.{◌≡◌, ◌⊎◌, ℕ, ◌+◌, ◌<◌, ◌≤◌, true, false, is_some, List, ◌++◌, map, slice_get}
+use Rattle.fm_base.specs.declared.schedule.Setup.{Setup}
 use Rattle.fm_base.specs.declared.schedule.Turn.{Turn}
+use Rattle.fm_sched.specs.Schedule.{IsLegal}
+use Rattle.fm_net.specs.Machine.{Place}
 use Rattle.fm_rules.specs.declared.program.Program.{Program}
+use Rattle.fm_mean.specs.Steps.{step}
+use Rattle.fm_machine.specs.declared.done.Done.{Done}
 use Rattle.fm_procs.specs.Readings.{order_of}
-use Rattle.fm_run.specs.Orders.{chosen, places_of, ready_after}
+use Rattle.fm_run.specs.Entries.{turn_of}
+use Rattle.fm_run.specs.Orders.{Among, EachOnce, can_at, places_of, ready_after}
 use Rattle.fm_run.specs.Pieces.{IsFull}
-use Rattle.fm_run.specs.Runs.{IsEntry, IsFrontWithin, IsPlayed, Stand, after_entries, first_stand, place_of, stand_at}
+use Rattle.fm_run.specs.Runs.{AreAble, IsEntry, IsFrontWithin, IsPlayed, IsPlayedBy, Stand, place_of, stand_at, steps_of}
 use Rattle.fm_run.specs.declared.player.Player.{Player}
 use Rattle.fm_outcome_code.specs.Played.{played}
 use Rattle.fm_outcome_code.specs.Sound.{IsSound}
 use Rattle.fm_outcome_code.specs.declared.compiled.Compiled.{Compiled}
-use Rattle.fm_table.specs.Told.{IsKept, Told, cost_of, has_some, stand_of}
+use Rattle.fm_table.specs.Told.{Out, Told, cost_by, cost_of, has_some, numbers_out, stand_of, stand_with, with_entry}
+use Rattle.fm_table.specs.declared.outside.Taken.{Taken}
+use Rattle.fm_table.specs.declared.standing.Standing.{Standing}
+use Rattle.fm_table.specs.declared.making.Way.{Way}
+use Rattle.fm_table.specs.declared.making.Way.TheVariants as way
 
 -- where the processes in memory stand
 abbrev pub stand_in : Program → Player Compiled → Stand
@@ -26,7 +33,7 @@ stand_in program player =
 pub record IsLive (program : Program) (player : Player Compiled) : Type 0 where
   pub sound : IsSound program player.net.stacks player.net.history
   pub played : IsPlayed program (stand_in program player) player.net.stacks.channels player.net.history player.parents.items player.able.marks.items player.used
-  pub stand_is : stand_in program player ≡ after_entries program (first_stand program) player.net.history
+  pub stand_is : stand_in program player ≡ stand_with program player.net.history player.able.numbers.items
 
 -- an entry more was made in memory
 pub record HasMade (program : Program) (t : Turn) (old new : Player Compiled) : Type 0 where
@@ -37,17 +44,73 @@ pub record HasMade (program : Program) (t : Turn) (old new : Player Compiled) : 
   pub front : (turns : ℕ) → old.used ≤ turns → IsFrontWithin program turns new.net.history (stand_in program new).places
   pub used : old.used < new.used
 
--- it is a full piece of the process that a choice tells
-pub record HasTurned (program : Program) (slice choice : ℕ) (old new : Player Compiled) : Type 0 where
-  pub entry : Turn
-  pub who : chosen (Some choice) (stand_in program old).able ≡ Some entry.number
-  pub full : IsFull program slice true (stand_in program old).state (place_of (stand_in program old).places entry) entry.steps
-  pub made : HasMade program entry old new
+-- the steps of a slice that was made outside, and one more where that isn't local and the process can make it
+abbrev pub IsGivenSo : Program → Done → (a : Stand) → (number steps : ℕ) → Type 0
+IsGivenSo program done a number steps = ((steps ≡ done.steps) ⊎ (steps ≡ done.steps + 1)) × IsFull program done.steps true a.state (place_of a.places (turn_of number steps)) steps
 
--- what a table keeps: it is kept, the processes in memory, if they are there, stand where it leads, and the rest is told of where it leads
-pub record IsTable (a : Told) (player : Player Compiled) (is_live : Bool) (paths : List (Arc Path Global)) (paid : ℕ) (is_ready : Bool) : Type 0 where
-  pub kept : IsKept a
-  pub live : is_live ≡ true → IsLive a.program player
-  pub paths_are : places_of paths ≡ (stand_of a).places
-  pub paid_is : paid ≡ cost_of a
-  pub ready_is : is_ready ≡ has_some (stand_of a).able
+-- what is so of the steps of a process, by how they are asked for: a full piece; so many, or fewer, behind which it can't step; or as
+-- a slice gives them that was made outside
+abbrev pub MakesSo : Way → Program → (a b : Stand) → (number steps : ℕ) → Type 0
+MakesSo (way.Slice slice) program a b number steps = IsFull program slice true a.state (place_of a.places (turn_of number steps)) steps
+MakesSo (way.Steps most) program a b number steps = (steps ≤ most) × (steps < most → can_at program b.state b.places number ≡ false)
+MakesSo (way.Given done) program a b number steps = IsGivenSo program done.now a number steps
+
+-- at least one step is asked for, or what came of a slice
+abbrev pub IsAsked : Way → Type 0
+IsAsked (way.Slice slice) = 1 ≤ slice
+IsAsked (way.Steps most) = 1 ≤ most
+IsAsked (way.Given done) = Unit {0}
+
+-- where the schedule leads that stands in memory
+abbrev pub stand_kept : Program → Standing → Stand
+stand_kept program s = stand_with program s.player.net.history s.player.able.numbers.items
+
+-- the schedule is one of the program; those that can step are in the queue; the processes in memory, if they are there, stand where it
+-- leads; the paths are those of the first processes, and of all where these aren't there; and the rest is told of where it leads
+pub record IsStanding (program : Program) (s : Standing) : Type 0 where
+  pub live : s.is_live ≡ true → IsLive program s.player
+  pub played : IsPlayedBy program s.player.net.history (stand_kept program s).places (stand_kept program s).state (cost_by program s.player.net.history)
+  pub able : AreAble program (stand_kept program s).state (stand_kept program s).places s.player.able.numbers.items
+  pub paths_first : (more : List Place) × ((stand_kept program s).places ≡ places_of s.paths.items ++ more)
+  pub paths_whole : s.is_live ≡ false → places_of s.paths.items ≡ (stand_kept program s).places
+  pub paid_is : s.used ≡ cost_by program s.player.net.history
+  pub ready_is : s.is_ready ≡ has_some s.player.able.numbers.items
+
+-- the schedule and the queue are as they were
+pub record IsAsItWas (old new : Standing) : Type 0 where
+  pub history : new.player.net.history ≡ old.player.net.history
+  pub queue : new.player.able.numbers.items ≡ old.player.able.numbers.items
+
+-- an entry more was made
+pub record HasEntered (program : Program) (t : Turn) (old new : Standing) : Type 0 where
+  pub entry : IsEntry program t (stand_kept program old).state (stand_kept program old).places old.player.net.history (stand_kept program new).state (stand_kept program new).places new.player.net.history
+  pub queue : new.player.able.numbers.items ≡ ready_after program (stand_kept program new).state (stand_kept program new).places old.player.able.numbers.items t.number
+  pub known : is_some (slice_get (stand_kept program old).places t.number) ≡ true
+  pub some_steps : 1 ≤ t.steps
+  pub front : (turns : ℕ) → old.used ≤ turns → IsFrontWithin program turns new.player.net.history (stand_kept program new).places
+  pub used : old.used < new.used
+
+abbrev pub out_of : Taken → Out
+out_of t = record { number = t.number; start = t.start.value }
+
+abbrev pub outs_of : List Taken → List Out
+outs_of = map out_of
+
+-- what is told of what stands in memory
+abbrev pub told_in : Program → Setup → Standing → List Out → Told
+told_in program setup s out = record { program = program; setup = setup; history = s.player.net.history; queue = s.player.able.numbers.items; out = out }
+
+-- what a table keeps
+pub record IsTable (program : Program) (setup : Setup) (s : Standing) (out : List Out) : Type 0 where
+  pub standing : IsStanding program s
+  pub front : IsFrontWithin program setup.turns s.player.net.history (stand_kept program s).places
+  pub out_able : (n : ℕ) → Among n (numbers_out out) → Among n s.player.able.numbers.items
+  pub out_once : EachOnce (numbers_out out)
+
+-- so many steps of a process were made, as they were asked for, and are an entry
+pub record EntersTo (w : Way) (number steps : ℕ) (a b : Told) : Type 0 where
+  pub known : is_some (slice_get (stand_of a).places number) ≡ true
+  pub can : IsLegal (step a.program) (stand_of a).state (steps_of (stand_of a).places (turn_of number steps))
+  pub so : MakesSo w a.program (stand_of a) (stand_of b) number steps
+  pub used : cost_of a < cost_of b
+  pub told : b ≡ with_entry a (turn_of number steps)

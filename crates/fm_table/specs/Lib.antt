@@ -1,4 +1,6 @@
 pub mod Told
 pub mod Turning
+pub mod Giving
+pub mod Outs
 pub mod Inside
 pub mod Fair

@@ -6,15 +6,17 @@ use Rattle.fm_sched.specs.Schedule.{IsLegal}
 use Rattle.fm_net.specs.Machine.{Place}
 use Rattle.fm_mean.specs.Steps.{step}
 use Rattle.fm_run.specs.Entries.{turn_of}
-use Rattle.fm_run.specs.Pieces.{after_steps}
-use Rattle.fm_run.specs.Runs.{IsNext, steps_of}
-use Rattle.fm_table.specs.Told.{Told, cost_of, stand_of, with_entry}
+use Rattle.fm_run.specs.Orders.{chosen}
+use Rattle.fm_run.specs.Pieces.{IsFull, after_steps}
+use Rattle.fm_run.specs.Runs.{place_of, steps_of}
+use Rattle.fm_table.specs.Told.{Told, cost_of, ready_of, stand_of, with_entry}
 
--- the process that the choice tells among those that can step makes a full piece, which is an entry more
+-- the process that the choice tells among those that are ready makes a full piece, which is an entry more
 pub record TurnsTo (choice : ℕ) (a b : Told) : Type 0 where
   pub going : cost_of a ≤ a.setup.turns
   pub entry : Turn
-  pub next : IsNext a.program a.setup.slice (Some choice) (stand_of a) entry
+  pub who : chosen (Some choice) (ready_of a) ≡ Some entry.number
+  pub full : IsFull a.program a.setup.slice true (stand_of a).state (place_of (stand_of a).places entry) entry.steps
   pub told : b ≡ with_entry a entry
 
 -- with so many steps of the process of a number, which are no entry where there are none

@@ -1,21 +1,28 @@
 //! The table of a run: whose turn it is, and the schedule that was kept.
 //!
-//! Contracts see a table as a program, the setup of its run and the schedule (`Told`): where that leads is a function of it
-//! (`stand_of`). The processes in memory are a cache of it. So want of memory changes nothing, whatever it left undone in memory:
-//! the table lets the processes go, and plays its schedule again when it needs them.
+//! Contracts see a table as a program, the setup of its run, the schedule, the queue of those that can step, and those whose pieces are
+//! made outside (`Told`): where the schedule leads is a function of it (`stand_of`). The processes in memory are a cache of it. So want
+//! of memory changes nothing, whatever it left undone in memory: the table lets the processes go, and plays its schedule again when it
+//! needs them.
 //!
-//! `turn` makes a piece of a process that can step, chosen by its place in the order in which they are served; `play` makes the
-//! steps of an entry that is handed in; `run_table` turns until nobody can step or the turns are spent.
+//! `turn` makes a piece of a process that is ready, chosen by its place among these; `play` makes the steps of an entry that is handed in;
+//! `take` hands a process out, so that its piece can be made outside, `give` plays what came of it, and `recall` makes ready again who is
+//! out; `run_table` turns until nobody can step or the turns are spent.
 #![tactic(auto)]
 
 mod laws;
-mod phase;
+mod making;
+mod outside;
+mod piece;
 mod reviving;
 mod running;
+mod shared;
+mod standing;
 mod table;
-mod turning;
+mod taking;
 
+pub use fm_workers::{Given, Phase};
 pub use laws::{first_come_is_fair, run_is_fair};
-pub use phase::Phase;
+pub use piece::Piece;
 pub use running::run_table;
 pub use table::Table;

@@ -1,14 +1,21 @@
 //! The processes of a schedule, made again.
 
-ghost use Rattle.std.specs.Prelude.{◌≡◌, ◌==◌, ◌++◌, ◌∷◌, [], true, IfOk, OnErr, OnOk};
+ghost use Rattle.std.specs.Prelude.{◌≡◌, ◌==◌, ◌++◌, ◌∷◌, [], IfOk, OnOk};
 ghost use Rattle.fm_table.specs.Inside.{IsLive};
 
-use crate::turning::{is_empty, make_steps};
+use crate::making::{Way, make_steps};
 use fm_base::{NoMemory, Turn};
 use fm_outcome_code::Compiled;
 use fm_rules::Program;
 use fm_run::Player;
 use std::alloc::Global;
+
+/// Whether an entry has no step.
+pub(crate) fn is_empty(entry: Turn) -> bool
+    ensures { result ≡ (entry.steps == 0) }
+{
+    entry.steps == 0
+}
 
 // Whether all of so many steps were made.
 fn is_whole(done: u32, steps: u32) -> bool
@@ -32,7 +39,13 @@ fn play_entry(
     if is_empty(entry) {
         return Err(NoMemory);
     }
-    let done = make_steps(alloc, program, player, entry)?;
+    let done = make_steps(
+        alloc,
+        program,
+        player,
+        entry.number,
+        Way::Steps(entry.steps),
+    )?;
     if is_whole(done, entry.steps) {
         Ok(())
     } else {
@@ -54,24 +67,4 @@ pub(crate) fn play_again(
         play_entry(alloc, program, &mut player, *entry)?;
     }
     Ok(player)
-}
-
-/// Makes the processes of the kept schedule again where they were let go. After want of memory nothing has changed.
-pub(crate) fn revive(
-    alloc: Global,
-    program: &Program,
-    player: &mut Player<Compiled>,
-    is_live: bool,
-) -> Result<(), NoMemory>
-    requires { is_live ≡ true → IsLive program.now player.old }
-    ensures live { OnOk result (IsLive program.now player.new) }
-    ensures history { player.new.net.history ≡ player.old.net.history }
-    ensures stays { OnErr result (player.new ≡ player.old) }
-{
-    if is_live {
-        return Ok(());
-    }
-    let entries = player.net.history.copied(alloc)?;
-    *player = play_again(alloc, program, entries.as_slice())?;
-    Ok(())
 }

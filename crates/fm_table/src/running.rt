@@ -1,6 +1,6 @@
 //! A run from its first piece to its end.
 
-ghost use Rattle.std.specs.Prelude.{◌≡◌, ℕ, List, Some, slice_get, IfOk};
+ghost use Rattle.std.specs.Prelude.{◌≡◌, ℕ, List, [], Some, slice_get, IfOk};
 ghost use Rattle.fm_run.specs.Orders.{chosen};
 ghost use Rattle.fm_run.specs.Runs.{Follows, IsRun};
 ghost use Rattle.fm_table.specs.Told.{IsEndingOf, IsIdle};
@@ -24,7 +24,8 @@ fn choice_at(choices: &[u64], place: usize) -> u64
 
 // How a table ended in which no piece can be made.
 fn ending_of(alloc: Global, table: &Table) -> Result<Ending, NoMemory>
-    requires { IsIdle table.now }
+    requires idle { IsIdle table.now }
+    requires alone { table.now.out ≡ [] }
     ensures { IfOk result (λ e. IsEndingOf table.now e) }
 {
     if table.is_spent() {
@@ -36,7 +37,8 @@ fn ending_of(alloc: Global, table: &Table) -> Result<Ending, NoMemory>
 
 // The run of a table in which no piece can be made.
 fn run_of(alloc: Global, table: Table) -> Result<Run, NoMemory>
-    requires { IsIdle table }
+    requires idle { IsIdle table }
+    requires alone { table.out ≡ [] }
     ensures run { IfOk result (λ r. IsRun table.program table.setup.turns r) }
     ensures history { IfOk result (λ r. r.history.items ≡ table.history) }
 {

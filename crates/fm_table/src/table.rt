@@ -1,37 +1,38 @@
 //! The table.
 
-ghost use Rattle.std.specs.Prelude.{◌≡◌, ◌≤◌, ◌<◌, ℕ, nat_lt, true, false, Some, None, IfOk, OnErr};
+ghost use Rattle.std.specs.Prelude.{◌≡◌, ◌≤◌, ◌<◌, ℕ, nat_lt, true, false, Ok, Some, None, IfErr, IfOk, IfSome, OnErr};
 ghost use Rattle.fm_sched.specs.Schedule.{IsFinal};
 ghost use Rattle.fm_mean.specs.Outcome.{outcome_of};
 ghost use Rattle.fm_mean.specs.Steps.{step};
-ghost use Rattle.fm_run.specs.Orders.{places_of};
-ghost use Rattle.fm_table.specs.Told.{IsIdle, IsKept, cost_of, first_told, has_some, phase_by, phase_of, stand_of};
+ghost use Rattle.fm_run.specs.Orders.{can_at, places_of};
+ghost use Rattle.fm_table.specs.Giving.{CallsBack, GivenTo, TakesTo};
+ghost use Rattle.fm_table.specs.Inside.{EntersTo, IsAsked};
+ghost use Rattle.fm_table.specs.Told.{IsIdle, IsKept, cost_of, first_told, phase_by, phase_of, stand_of};
 ghost use Rattle.fm_table.specs.Turning.{PlaysTo, TurnsTo};
 
-use crate::phase::Phase;
-use crate::reviving::{play_again, revive};
-use crate::turning::{is_empty, let_go, outcome_in, put_paths, steps_in, turn_in};
+use crate::making::Way;
+use crate::outside::{Taken, call_back, choose_ready, forget, is_taken, put_back};
+use crate::piece::{Piece, slice_for};
+use crate::reviving::is_empty;
+use crate::standing::Standing;
+use crate::taking::{Start, start_of};
 use fm_base::{NoMemory, Path, Setup, Turn};
+use fm_machine::Done;
 use fm_mean::Outcome;
-use fm_outcome_code::Compiled;
 use fm_rules::Program;
-use fm_run::{History, Net, Player, Queue};
+use fm_run::History;
+use fm_workers::{Given, Phase};
 use std::alloc::Global;
 use std::marker::Model;
 use std::sync::Arc;
 
-/// The table of a run: its program and setup, the schedule that was kept, and where that leads. Contracts see program, setup and
-/// schedule; the rest is a function of them.
+/// The table of a run: its program and setup, the schedule that was kept, in which order those that can step are served, and whose pieces
+/// are made outside. Contracts see these; where the schedule leads is a function of it.
 pub struct Table {
     program: Arc<Program>,
     setup: Setup,
-    // the processes, while `is_live`, and the schedule
-    player: Player<Compiled>,
-    is_live: bool,
-    // the processes' paths, the cost, and whether a process can step: told of the schedule, also where the processes were let go
-    paths: Vec<Arc<Path>>,
-    used: u64,
-    is_ready: bool,
+    standing: Standing,
+    out: Vec<Taken>,
 }
 
 impl Drop for Table {
@@ -39,11 +40,8 @@ impl Drop for Table {
         let Table {
             program: _program,
             setup: _setup,
-            player: _player,
-            is_live: _is_live,
-            paths: _paths,
-            used: _used,
-            is_ready: _is_ready,
+            standing: _standing,
+            out: _out,
         } = self;
     }
 }
@@ -52,22 +50,17 @@ impl Model for Table {
     ghost use Rattle.std.specs.Coded.{codes};
     ghost use Rattle.fm_rules.specs.contracts.program.Program as e;
     ghost use Rattle.fm_base.specs.contracts.schedule.Setup as f;
+    ghost use Rattle.fm_code.specs.contracts.body.Body as b;
     ghost use Rattle.fm_table.specs.Told.{Told};
-    ghost use Rattle.fm_table.specs.Inside.{IsTable};
+    ghost use Rattle.fm_table.specs.Inside.{IsTable, outs_of, told_in};
 
     ghost Value = { Told };
 
-    ghost coded = { Prim.hlevel (codes, e.the_row.coded, f.the_row.coded) };
+    ghost coded = { Prim.hlevel (codes, e.the_row.coded, f.the_row.coded, b.the_row.coded) };
 
-    ghost view = { λ t. record { program = t.program.value; setup = t.setup; history = t.player.net.history } };
+    ghost view = { λ t. told_in t.program.value t.setup t.standing (outs_of t.out.items) };
 
-    ghost invariant = { λ t. IsTable (record { program = t.program.value; setup = t.setup; history = t.player.net.history }) t.player t.is_live t.paths.items t.used t.is_ready };
-}
-
-fn has_some(queue: &Queue) -> bool
-    ensures { result ≡ has_some queue.now.numbers.items }
-{
-    !queue.numbers.is_empty()
+    ghost invariant = { λ t. IsTable t.program.value t.setup t.standing (outs_of t.out.items) };
 }
 
 // Whether a cost is over the turns.
@@ -103,27 +96,22 @@ impl Table {
     pub fn new(alloc: Global, program: Arc<Program>, setup: Setup) -> Result<Table, NoMemory>
         ensures { IfOk result (λ t. t ≡ first_told program.value setup) }
     {
-        let player: Player<Compiled> = Player::new(alloc, &program)?;
-        let mut paths = Vec::new(alloc);
-        put_paths(&mut paths, player.net.stacks.entries.rows.paths())?;
-        let is_ready = has_some(&player.able);
+        let standing = Standing::first(alloc, &program)?;
+        let out = Vec::new(alloc);
         Ok(Table {
             program,
             setup,
-            player,
-            is_live: true,
-            paths,
-            used: 0,
-            is_ready,
+            standing,
+            out,
         })
     }
 
     /// What is so of every table: the schedule is one of the program, and leads to the stand that is told; it costs more than the
-    /// turns by its last entry at most; and those that can step are told, each once.
+    /// turns by its last entry at most; those that can step are told, each once, and those that are out are among them.
     pub fn promise(&self)
         ensures { IsKept self.now }
     {
-        let _ = &self.used;
+        let _ = &self.setup;
     }
 
     /// How far it is.
@@ -132,21 +120,24 @@ impl Table {
         // Where it has ended, no process can step.
         ensures ended { result ≡ Phase.Ended → IsFinal (step self.now.program) (stand_of self.now).state }
     {
-        phase_by(is_over(self.used, self.setup.turns), self.is_ready)
+        phase_by(
+            is_over(self.standing.used, self.setup.turns),
+            self.standing.is_ready,
+        )
     }
 
     /// Whether the schedule costs more than the turns.
     pub fn is_spent(&self) -> bool
         ensures { result ≡ nat_lt self.now.setup.turns (cost_of self.now) }
     {
-        is_over(self.used, self.setup.turns)
+        is_over(self.standing.used, self.setup.turns)
     }
 
-    /// Makes a piece of the process at a place among those that can step, modulo their number, and looks who can step then. Where
-    /// no piece can be made, for the turns are spent or nobody can step, it answers false, and nothing changes.
+    /// Makes a piece of the process at a place among those that are ready, modulo their number, and looks who can step then. Where
+    /// no piece can be made, for the turns are spent or nobody is ready, it answers false, and nothing changes.
     ///
     /// Those that can step stand in a queue: the one that made its piece leaves its place; others that have become able come behind,
-    /// in the order of starting, and behind them the one itself, where it can step still.
+    /// in the order of starting, and behind them the one itself, where it can step still. Those of them are ready that aren't out.
     ///
     /// # Errors
     /// `NoMemory` is want of memory, and changes nothing.
@@ -157,36 +148,24 @@ impl Table {
         ensures used { IfOk result (λ r. r ≡ true → cost_of self.old < cost_of self.new) }
         ensures stays { OnErr result (self.new ≡ self.old) }
     {
-        if is_over(self.used, self.setup.turns) {
+        if is_over(self.standing.used, self.setup.turns) {
             return Ok(false);
         }
-        revive(alloc, &self.program, &mut self.player, self.is_live)?;
-        self.is_live = true;
-        let entries = self.player.net.history.len();
-        let known = self.paths.len();
-        match turn_in(
-            alloc,
-            &self.program,
-            &mut self.player,
-            &mut self.paths,
-            choice,
-            self.setup.slice,
-        ) {
-            Ok(turned) => {
-                self.used = self.player.used;
-                self.is_ready = has_some(&self.player.able);
-                Ok(turned)
-            }
-            Err(want) => {
-                let_go(alloc, &mut self.player, &mut self.paths, entries, known);
-                self.is_live = false;
-                Err(want)
+        self.promise();
+        let queue = &self.standing.player.able.numbers;
+        match choose_ready(queue, self.out.as_slice(), choice) {
+            None => Ok(false),
+            Some(number) => {
+                let slice = Way::Slice(self.setup.slice);
+                let steps = self.enter(alloc, number, slice)?;
+                Ok(steps != 0)
             }
         }
     }
 
     /// Makes the steps of an entry, one behind the other. None where all were made; else so many, behind which the process has no
-    /// step more, or where there is no process of this number. What was made is an entry of the schedule, where it is a step or more.
+    /// step more, or where there is no process of this number. What was made is an entry of the schedule, where it is a step or more;
+    /// the process isn't out then.
     ///
     /// # Errors
     /// `NoMemory` is want of memory, and changes nothing.
@@ -198,49 +177,127 @@ impl Table {
         if is_empty(entry) {
             return Ok(None);
         }
-        revive(alloc, &self.program, &mut self.player, self.is_live)?;
-        self.is_live = true;
-        let entries = self.player.net.history.len();
-        let known = self.paths.len();
-        match steps_in(
-            alloc,
-            &self.program,
-            &mut self.player,
-            &mut self.paths,
-            entry,
-        ) {
-            Ok(done) => {
-                self.used = self.player.used;
-                self.is_ready = has_some(&self.player.able);
-                Ok(missing(done, entry.steps))
-            }
-            Err(want) => {
-                let_go(alloc, &mut self.player, &mut self.paths, entries, known);
-                self.is_live = false;
-                Err(want)
+        let steps = Way::Steps(entry.steps);
+        let done = self.enter(alloc, entry.number, steps)?;
+        Ok(missing(done, entry.steps))
+    }
+
+    /// Takes the first process that is ready out, so that its piece can be made outside, from a copy of it. None where no piece can be
+    /// made, for the turns are spent or nobody is ready; then nothing changes.
+    ///
+    /// # Errors
+    /// `NoMemory` is want of memory, and changes nothing.
+    pub fn take(&mut self, alloc: Global) -> Result<Option<Piece>, NoMemory>
+        ensures taken { IfOk result (λ r. IfSome r (λ p. TakesTo p.process p.start.value self.old self.new)) }
+        ensures idle { IfOk result (λ r. r ≡ None → IsIdle self.old × (self.new ≡ self.old)) }
+        ensures stays { OnErr result (self.new ≡ self.old) }
+    {
+        if is_over(self.standing.used, self.setup.turns) {
+            return Ok(None);
+        }
+        let queue = &self.standing.player.able.numbers;
+        match choose_ready(queue, self.out.as_slice(), 0) {
+            None => Ok(None),
+            Some(number) => {
+                self.standing.revive(alloc, &self.program)?;
+                let Start { start, kept, path } = start_of(
+                    alloc,
+                    &self.standing.player.net,
+                    number,
+                )?;
+                let slice = slice_for(self.setup.slice, start.frame.words.len());
+                self.out.push(Taken {
+                    number,
+                    start: kept,
+                })?;
+                Ok(Some(Piece {
+                    process: number,
+                    path,
+                    start,
+                    slice,
+                }))
             }
         }
+    }
+
+    /// Plays what came of a piece that was made outside, as one entry: its statements, and one step more where that concerns others and
+    /// the process can make it. What wasn't made of a process that is out, from the body with which it was taken, is a stranger; then
+    /// the process, if it is out, is ready again, behind the others.
+    ///
+    /// # Errors
+    /// `NoMemory` is want of memory; it changes nothing, and what came of the piece is handed back.
+    pub fn give(&mut self, alloc: Global, done: Done) -> Result<Given, (Done, NoMemory)>
+        ensures given { IfOk result (λ g. GivenTo done self.old self.new g) }
+        ensures back { IfErr result (λ e. e.0 ≡ done) }
+        ensures stays { OnErr result (self.new ≡ self.old) }
+    {
+        match self.given(alloc, &done) {
+            Ok(given) => Ok(given),
+            Err(want) => Err((done, want)),
+        }
+    }
+
+    // What comes of a piece that was made outside.
+    fn given(&mut self, alloc: Global, done: &Done) -> Result<Given, NoMemory>
+        ensures given { IfOk result (λ g. GivenTo done.now self.old self.new g) }
+        ensures stays { OnErr result (self.new ≡ self.old) }
+    {
+        if is_over(self.standing.used, self.setup.turns) {
+            return Ok(Given::Over);
+        }
+        self.promise();
+        let number = done.process();
+        if !is_taken(self.out.as_slice(), done) {
+            put_back(&mut self.standing.player.able, &mut self.out, number);
+            return Ok(Given::Stranger);
+        }
+        self.enter(alloc, number, Way::Given(done))?;
+        Ok(Given::Played)
+    }
+
+    // Makes steps of the process of a number, as they are asked for, which are an entry more: how many. None where it can't step; then
+    // nothing changes. The process isn't out then.
+    fn enter(&mut self, alloc: Global, number: u32, way: Way) -> Result<u32, NoMemory>
+        requires some { IsAsked way }
+        requires going { cost_of self.old ≤ self.old.setup.turns }
+        ensures none { result ≡ Ok 0 → (self.new ≡ self.old) × (can_at self.old.program (stand_of self.old).state (stand_of self.old).places number ≡ false) }
+        ensures made { IfOk result (λ steps. 1 ≤ steps → EntersTo way.entry number steps self.old self.new) }
+        ensures stays { OnErr result (self.new ≡ self.old) }
+    {
+        let steps = self.standing.make(alloc, &self.program, number, way)?;
+        if steps == 0 {
+            return Ok(0);
+        }
+        forget(&mut self.out, number);
+        Ok(steps)
+    }
+
+    /// All processes that are out are ready again, behind the others, in the order of their numbers. Takes no memory.
+    pub fn recall(&mut self)
+        ensures { CallsBack self.old self.new }
+    {
+        call_back(&mut self.standing.player.able, &mut self.out);
     }
 
     /// The schedule.
     pub fn history(&self) -> &History
         ensures { result.now ≡ self.now.history }
     {
-        &self.player.net.history
+        &self.standing.player.net.history
     }
 
     /// The paths of the processes, in the order of starting.
     pub fn paths(&self) -> &[Arc<Path>]
         ensures { places_of result.now ≡ (stand_of self.now).places }
     {
-        self.paths.as_slice()
+        self.standing.paths()
     }
 
     /// What the schedule costs.
     pub fn used(&self) -> u64
         ensures { result ≡ cost_of self.now }
     {
-        self.used
+        self.standing.used
     }
 
     /// What a run shows that ended here.
@@ -250,12 +307,7 @@ impl Table {
     pub fn outcome(&self, alloc: Global) -> Result<Outcome, NoMemory>
         ensures { IfOk result (λ o. o ≡ outcome_of self.now.program (cost_of self.now) (stand_of self.now).state) }
     {
-        if self.is_live {
-            return outcome_in(alloc, &self.program, &self.player);
-        }
-        let entries = self.player.net.history.copied(alloc)?;
-        let player = play_again(alloc, &self.program, entries.as_slice())?;
-        outcome_in(alloc, &self.program, &player)
+        self.standing.outcome(alloc, &self.program)
     }
 
     /// The schedule, and the paths of the processes. Takes no memory.
@@ -266,13 +318,9 @@ impl Table {
         let Table {
             program: _program,
             setup: _setup,
-            player,
-            is_live: _is_live,
-            paths,
-            used: _used,
-            is_ready: _is_ready,
+            standing,
+            out: _out,
         } = self;
-        let (history, _) = player.net.into_parts();
-        (history, paths)
+        standing.into_parts()
     }
 }

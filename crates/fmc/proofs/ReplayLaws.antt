@@ -16,6 +16,7 @@ use Rattle.fm_rules.specs.declared.program.Program.{Program}
 use Rattle.fm_mean.specs.Process.{Proc}
 use Rattle.fm_mean.specs.Outcome.{outcome_of}
 use Rattle.fm_mean.specs.Steps.{first, language, step}
+use Rattle.fm_replay_law.specs.Entries.{AreSteps}
 use Rattle.fm_report.specs.Report.{report_text, spent_text}
 use Rattle.fm_run.specs.Entries.{turn_of}
 use Rattle.fm_run.specs.Orders.{places_of}
@@ -24,6 +25,7 @@ use Rattle.fm_run.specs.declared.run.Run as run
 use Rattle.fm_table.specs.Told.{IsKept, Told, cost_of as told_cost, stand_of, with_entry}
 use Rattle.fm_table.specs.Turning.{MakesSteps, PlaysTo, with_steps}
 use Rattle.fm_table.proofs.Fewness.{few_entries}
+use Rattle.fm_table.proofs.Tables.{entry_at}
 use Rattle.fm_trace.specs.Texts.{IsEntry, IsFirstMalformed, IsTraceText, IsTraceable, history_of, trace_of_history, trace_text}
 use Rattle.fm_trace.specs.declared.trace.Run as trace_run
 use Rattle.fm_trace.specs.declared.trace.Trace.{Trace}
@@ -38,7 +40,7 @@ use Rattle.fmc.specs.declared.answer.Reply.{Reply}
 use Rattle.fmc.specs.Reply.{IsReply, IsRunOf, bytes_of, exit_in, places_in}
 use Rattle.fmc.specs.Outcomes.{IsRefusedFor, IsUnplayed, source_limit, cost_of, exit_of, state_after}
 use Rattle.fmc.specs.Exits.{is_decided, is_end}
-use Rattle.fmc.specs.Replay.{AreSteps, ComesTo, CostsMore, EndsProgram, HasCome, IsLacking, IsReplayed, SaysReplay, SaysTable, told_after, trace_limit}
+use Rattle.fmc.specs.Replay.{ComesTo, CostsMore, EndsProgram, HasCome, IsLacking, IsReplayed, SaysReplay, SaysTable, told_after, trace_limit}
 use Rattle.fmc.specs.Answer.{IsEnded, IsPlayedExit, IsSpent, Says, SaysRun, SaysTrace, report_asked, trace_asked}
 use Rattle.fmc.proofs.AnswerLaws.{end_by, told_by_trace}
 
@@ -194,7 +196,7 @@ pub come_more : (program : Program) (setup : Setup) (ts : List Turn) (place : �
     → b ≡ told_after program setup (take (place + 1) ts)
 come_more program setup ts place t a b low at some is made =
     let next : suc place ≡ place + 1 = omega arith in
-    made.told ∙ with_all t.steps some ∙ ap (λ (c : Told). with_entry c t) is ∙ ap (told_after program setup) (take_one ts place t at ∙ ap (λ (n : ℕ). take n ts) next)
+    made.told ∙ with_all t.steps some ∙ ap (λ (c : Told). with_entry c t) is ∙ entry_at program setup (take place ts) t ∙ ap (told_after program setup) (take_one ts place t at ∙ ap (λ (n : ℕ). take n ts) next)
   where
     with_all : (n : ℕ) → 1 ≤ n → with_steps a t.number n ≡ with_entry a (turn_of t.number n)
     with_all zero e = absurd (omega (arith, e))

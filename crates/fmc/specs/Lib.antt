@@ -2,5 +2,6 @@ pub mod Exits
 pub mod Outcomes
 pub mod Listing
 pub mod Replay
+pub mod OneReplay
 pub mod Answer
 pub mod Reply

@@ -6,15 +6,16 @@ use Rattle.fm_base.specs.declared.schedule.Setup.{Setup}
 use Rattle.fm_base.specs.declared.schedule.Turn.{Turn}
 use Rattle.fm_sched.specs.Schedule.{play, IsFinal, IsLegal}
 use Rattle.fm_net.specs.Machine.{Place}
-use Rattle.fm_net.specs.Starts.{starts_of, choices_of}
+use Rattle.fm_net.specs.Starts.{starts_of}
 use Rattle.fm_rules.specs.declared.program.Program.{Program}
 use Rattle.fm_mean.specs.Outcome.{outcome_of}
 use Rattle.fm_mean.specs.Steps.{language, step, first}
+use Rattle.fm_replay_law.specs.Entries.{AreSteps}
 use Rattle.fm_report.specs.Report.{report_text, spent_text}
 use Rattle.fm_front.specs.Program.{IsCheckedOf}
 use Rattle.fm_trace.specs.Texts.{IsFirstMalformed, IsTraceText, history_of}
 use Rattle.fm_trace.specs.declared.trace.Trace.{Trace}
-use Rattle.fm_table.specs.Told.{IsKept, Told, cost_of as told_cost, stand_of}
+use Rattle.fm_table.specs.Told.{IsKept, Told, cost_of as told_cost, stand_of, told_at}
 use Rattle.fm_table.specs.Turning.{CantStepBehind, MakesSteps}
 use Rattle.fmc.specs.declared.answer.Exit.{Exit}
 use Rattle.fmc.specs.declared.answer.Exit.TheVariants.{Done, Faulted, Deadlocked, Refused, Spent, Usage, ReadFault, WriteFault, NoMemory, TooLong, Malformed, Illegal, Unfinished}
@@ -25,11 +26,6 @@ abbrev pub trace_limit : ℕ
 trace_limit = 100000000
 
 -- ---- what comes of entries
-
--- the entries are steps of the program, one behind the other from its first state: these choices
-pub record AreSteps (program : Program) (entries : List Turn) (choices : List Place) : Type 0 where
-  pub told : choices_of entries (starts_of (language program) (first program) choices) ≡ Some choices
-  pub legal : IsLegal (step program) (first program) choices
 
 -- the entries end the program within the turns, and exit and text are those of the state in which it ends
 pub record EndsProgram (vars : Bool) (exit : Exit) (program : Program) (turns : ℕ) (entries : List Turn) (text : List ℕ) : Type 0 where
@@ -151,7 +147,7 @@ SaysReplay vars b Unfinished h ps t = IsReplayed vars Unfinished b h ps t
 
 -- a program with its setup, behind entries
 abbrev pub told_after : Program → Setup → List Turn → Told
-told_after program setup entries = record { program = program; setup = setup; history = entries }
+told_after program setup entries = told_at program setup entries
 
 -- an entry asks for a step more than there are
 pub record IsLacking (a : Told) (t : Turn) : Type 0 where

@@ -3,6 +3,7 @@
 #![tactic(auto)]
 
 mod answer;
+mod laws;
 mod listing;
 mod replaying;
 mod replies;
@@ -10,4 +11,5 @@ mod response;
 mod top;
 
 pub use answer::{Exit, Ran};
+pub use laws::replay_has_one_answer;
 pub use top::{fmc, one_verdict, play_choices, replay_tells_the_run};

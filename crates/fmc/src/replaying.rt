@@ -2,7 +2,7 @@
 
 ghost use Rattle.std.specs.Prelude.{◌≡◌, ◌≤◌, ◌<◌, Some, slice_get, ◌++◌, ◌∷◌, ℕ, List, [], length, map, nat_lt, true, false, codes, All, IfOk};
 ghost use Rattle.std.specs.Fmt.{decimal};
-ghost use Rattle.fm_table.specs.Told.{cost_of as told_cost};
+ghost use Rattle.fm_table.specs.Told.{cost_of as told_cost, first_told};
 ghost use Rattle.fm_table.specs.Turning.{MakesSteps};
 ghost use Rattle.fm_trace.specs.Texts.{IsEntry, IsTrace, IsTraceText, history_of};
 ghost use Rattle.fm_words.specs.declared.command.Command.TheVariants as command;
@@ -81,7 +81,7 @@ fn play_entries(
     table: &mut Table,
     entries: &[Run],
 ) -> Result<Option<usize>, NoMemory>
-    requires fresh { table.old.history ≡ [] }
+    requires fresh { table.old ≡ first_told table.old.program table.old.setup }
     requires entries { All IsEntry entries.now }
     ensures { IfOk result (λ r. HasCome table.old.program table.old.setup (map (λ e. e.turn) entries.now) table.new r) }
 {

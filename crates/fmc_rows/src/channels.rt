@@ -1,7 +1,7 @@
 //! Channels with ample memory: that calls succeed, and worked examples of discarding, merging and room.
 
 use fm_base::{ChanName, NoMemory, Path, Seq};
-use fm_chan::{Channels, Got, Item, Message, Port};
+use fm_chan::{Channels, Content, Got, Item, Message, Port};
 use std::alloc::Global;
 use std::process::Abort;
 use std::test::Fail;
@@ -57,10 +57,20 @@ fn receive(rt: &impl Abort, channels: &mut Channels, port: &Port) -> Got {
 fn message(alloc: Global, item: Item) -> Result<Message, NoMemory> {
     let mut items = Seq::new(alloc);
     items.push(item)?;
-    Ok(Message { items })
+    Ok(Message {
+        content: Content::Items(items),
+    })
 }
 
-fn word(alloc: Global, word: i64) -> Result<Message, NoMemory> {
+// A word by itself.
+fn word(word: i64) -> Message {
+    Message {
+        content: Content::Word(word),
+    }
+}
+
+// A word in a list of items.
+fn listed_word(alloc: Global, word: i64) -> Result<Message, NoMemory> {
     let mut words = Seq::new(alloc);
     words.push(word)?;
     message(alloc, Item::Words(words))
@@ -76,9 +86,12 @@ fn with_port(alloc: Global, port: Port) -> Result<Message, NoMemory> {
 
 fn first_word(got: Got) -> Option<i64> {
     match got {
-        Got::Message(message) => match message.items.as_slice().first() {
-            Some(Item::Words(words)) => words.as_slice().first().copied(),
-            Some(Item::Ports(_)) | None => None,
+        Got::Message(message) => match message.content {
+            Content::Word(word) => Some(word),
+            Content::Items(items) => match items.as_slice().first() {
+                Some(Item::Words(words)) => words.as_slice().first().copied(),
+                Some(Item::Ports(_)) | None => None,
+            },
         },
         Got::Exceeds | Got::Wait | Got::End => None,
     }
@@ -108,10 +121,10 @@ fn come_in_order(
 ) -> Result<(), Fail> {
     assert!(rt; is_wait(receive(rt, channels, inport)));
     wait(rt, channels, inport, 3)?;
-    send(rt, channels, outport, word(alloc, 7)?)?;
+    send(rt, channels, outport, word(7))?;
     assert_eq!(rt; channels.next_woken(), Some(3));
     assert_eq!(rt; channels.next_woken(), None);
-    send(rt, channels, outport, word(alloc, 8)?)?;
+    send(rt, channels, outport, listed_word(alloc, 8)?)?;
     assert_eq!(rt; first_word(receive(rt, channels, inport)), Some(7));
     Ok(())
 }
@@ -178,7 +191,7 @@ fn goes_on(
     assert!(rt; channels.probe(inport));
     assert!(rt; writer.is_outport());
     channels.reserve(writer)?;
-    send(rt, channels, writer, word(alloc, 7)?)?;
+    send(rt, channels, writer, listed_word(alloc, 7)?)?;
     assert!(rt; !channels.probe(inport));
     assert_eq!(rt; first_word(receive(rt, channels, inport)), Some(7));
     wait(rt, channels, inport, 2)?;

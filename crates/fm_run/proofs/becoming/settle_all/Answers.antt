@@ -7,7 +7,7 @@ use Rattle.fm_mean.specs.Steps.{language, step}
 use Rattle.std.specs.Prelude.{is_some, slice_get, slice_index_or, not, ◌==◌, ◌&&◌}
 use Rattle.fm_run.specs.Noted.{AreNotedBut, IsNoted, OwnOrLeft}
 use Rattle.fm_run.specs.Orders.{can_at}
-use Rattle.fm_run.proofs.Queueing.{AreAsked, able_more, all_asked, asked_step, none_asked}
+use Rattle.fm_run.proofs.Queueing.{AreAsked, able_more, all_asked, asked_step, front_same, front_stays, front_then, none_asked, once_more}
 use Rattle.fm_run.proofs.Serving.{ask_noted, beyond, noted_more}
 use Rattle.fm_run.proofs.becoming.settle_all.Goals as goal
 
@@ -19,7 +19,9 @@ candidates-init g c = record {
   state = refl;
   sound = c.requires.sound;
   able = λ all. all;
-  queue = λ old first whole. none_asked _ c.args.own old c.args.candidates.now c.args.able.now.numbers.items first;
+  queue = λ whole. none_asked _ c.args.own c.args.able.now.numbers.items c.args.candidates.now c.args.able.now.numbers.items refl;
+  front = front_same c.args.able.now.numbers.items c.args.able.now.numbers.items refl;
+  once = λ once. once;
   noted = λ all before. before;
 }
 
@@ -44,8 +46,10 @@ candidates-preserved g c =
       history = c.in_ok-ask.ensures.history ∙ before.history;
       state = c.in_ok-ask.ensures.state ∙ before.state;
       sound = c.in_ok-ask.ensures.sound;
-      able = λ all. able_more can c.candidates.able.numbers.items c.ask.new.able.numbers.items _ _ is (before.able all);
-      queue = λ old first whole. asked_step can c.args.own old cs c.requires.sorted whole i 0 (omega arith) c.candidates.able.numbers.items (before.queue old first whole) (length ps) (beyond P s ps) marks before.marks c.ask.new.able.numbers.items is;
+      able = λ all. able_more can c.args.own c.candidates.able.numbers.items c.ask.new.able.numbers.items _ _ is (before.able all);
+      queue = λ whole. asked_step can c.args.own c.args.able.now.numbers.items cs c.requires.sorted whole i 0 (omega arith) c.candidates.able.numbers.items (before.queue whole) (length ps) (beyond P s ps) marks before.marks c.ask.new.able.numbers.items is;
+      front = front_then c.args.able.now.numbers.items c.candidates.able.numbers.items c.ask.new.able.numbers.items _ before.front is;
+      once = λ once. once_more can (length ps) (beyond P s ps) marks c.candidates.able.numbers.items c.ask.new.able.numbers.items (slice_index_or cs i 0) _ before.marks is (before.once once);
       noted = λ all noted.
           noted_more P s ps c.args.own cs i (omega arith) (g.N.Net.channels c.candidates.net) (g.N.Net.channels c.ask.new.net) c.in_ok-ask.ensures.waking (before.noted all noted)
           (ask_noted P s ps c.args.own cs i (omega arith) c.candidates.able.numbers.items marks before.marks (before.able all) (g.N.Net.channels c.ask.new.net)
@@ -56,12 +60,12 @@ candidates-preserved g c =
     }
 
 pub returns-clause-queue : goal.returns-clause-queue
-returns-clause-queue g c = λ old first whole.
+returns-clause-queue g c = λ whole.
     let P = c.args.program.now in
     let s = g.N.Net.state P c.args.net.now in
     let ps = g.N.Net.order c.args.net.now in
     let all : c.candidates.number-index ≡ length c.args.candidates.now = omega arith in
-    all_asked (can_at P s ps) c.args.own old c.args.candidates.now c.requires.sorted whole c.candidates.able.numbers.items (subst (λ (i : ℕ). AreAsked (can_at P s ps) c.args.own old c.args.candidates.now i c.candidates.able.numbers.items) all (c.candidates.invariant.queue old first whole)) (length ps) (beyond P s ps)
+    all_asked (can_at P s ps) c.args.own c.args.able.now.numbers.items c.args.candidates.now c.requires.sorted whole c.candidates.able.numbers.items (subst (λ (i : ℕ). AreAsked (can_at P s ps) c.args.own c.args.able.now.numbers.items c.args.candidates.now i c.candidates.able.numbers.items) all (c.candidates.invariant.queue whole)) (length ps) (beyond P s ps)
 
 pub returns-clause-noted : goal.returns-clause-noted
 returns-clause-noted g c = λ all before.
@@ -71,3 +75,6 @@ returns-clause-noted g c = λ all before.
 
 pub returns-in_err-ask-clause-history : goal.returns-in_err-ask-clause-history
 returns-in_err-ask-clause-history g c = c.ask.ensures.history ∙ c.candidates.invariant.history
+
+pub returns-in_err-ask-clause-front : goal.returns-in_err-ask-clause-front
+returns-in_err-ask-clause-front g c = front_stays c.args.able.now.numbers.items c.candidates.able.numbers.items c.ask.new.able.numbers.items c.candidates.invariant.front c.in_err-ask.ensures.kept

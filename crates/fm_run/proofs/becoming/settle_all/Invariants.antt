@@ -1,7 +1,7 @@
-use Rattle.std.proofs.Common.{◌≡◌, ℕ, true, List, length}
+use Rattle.std.proofs.Common.{◌≡◌, ◌≢◌, ℕ, true, length}
 use Rattle.std.specs.Prelude.{Contains}
 use Rattle.fm_run.specs.Noted.{AreNotedBut, OwnOrLeft}
-use Rattle.fm_run.specs.Orders.{Among, AreMarked, can_at, newly, others_in}
+use Rattle.fm_run.specs.Orders.{Among, AreMarked, EachOnce, KeepsFront, can_at, newly}
 use Rattle.fm_run.proofs.Queueing.{AreAsked}
 use Rattle.fm_run.proofs.becoming.settle_all.Given as goal
 
@@ -12,10 +12,12 @@ invariant-candidates g l = record {
   history : g.N.Net.history l.net ≡ g.N.Net.history l.fn.net;
   state : g.N.Net.state l.program l.net ≡ g.N.Net.state l.program l.fn.net;
   sound : g.N.Net.IsSound l.program l.net;
-  able : ((n : ℕ) → Among n l.fn.able.numbers.items → can_at l.program (g.N.Net.state l.program l.fn.net) (g.N.Net.order l.fn.net) n ≡ true) → (n : ℕ) → Among n l.able.numbers.items → can_at l.program (g.N.Net.state l.program l.fn.net) (g.N.Net.order l.fn.net) n ≡ true;
-  queue : (old : List ℕ) → l.fn.able.numbers.items ≡ others_in l.own old → ((n : ℕ) → newly (can_at l.program (g.N.Net.state l.program l.fn.net) (g.N.Net.order l.fn.net)) l.own old n ≡ true → Contains l.candidates n)
-      → AreAsked (can_at l.program (g.N.Net.state l.program l.fn.net) (g.N.Net.order l.fn.net)) l.own old l.candidates l.number-index l.able.numbers.items;
-  noted : ((n : ℕ) → Among n l.fn.able.numbers.items → can_at l.program (g.N.Net.state l.program l.fn.net) (g.N.Net.order l.fn.net) n ≡ true)
+  able : ((n : ℕ) → n ≢ l.own → Among n l.fn.able.numbers.items → can_at l.program (g.N.Net.state l.program l.fn.net) (g.N.Net.order l.fn.net) n ≡ true) → (n : ℕ) → n ≢ l.own → Among n l.able.numbers.items → can_at l.program (g.N.Net.state l.program l.fn.net) (g.N.Net.order l.fn.net) n ≡ true;
+  queue : ((n : ℕ) → newly (can_at l.program (g.N.Net.state l.program l.fn.net) (g.N.Net.order l.fn.net)) l.own l.fn.able.numbers.items n ≡ true → Contains l.candidates n)
+      → AreAsked (can_at l.program (g.N.Net.state l.program l.fn.net) (g.N.Net.order l.fn.net)) l.own l.fn.able.numbers.items l.candidates l.number-index l.able.numbers.items;
+  front : KeepsFront l.fn.able.numbers.items l.able.numbers.items;
+  once : EachOnce l.fn.able.numbers.items → EachOnce l.able.numbers.items;
+  noted : ((n : ℕ) → n ≢ l.own → Among n l.fn.able.numbers.items → can_at l.program (g.N.Net.state l.program l.fn.net) (g.N.Net.order l.fn.net) n ≡ true)
       → AreNotedBut l.program (g.N.Net.state l.program l.fn.net) (g.N.Net.channels l.fn.net) (g.N.Net.order l.fn.net) (OwnOrLeft l.own l.candidates 0)
       → AreNotedBut l.program (g.N.Net.state l.program l.fn.net) (g.N.Net.channels l.net) (g.N.Net.order l.fn.net) (OwnOrLeft l.own l.candidates l.number-index);
 }

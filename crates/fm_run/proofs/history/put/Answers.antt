@@ -1,4 +1,4 @@
-use Rattle.std.proofs.Common.{List, Vec, Global, [], ◌∷◌, ◌++◌, ap, ◌∙◌}
+use Rattle.std.proofs.Common.{Vec, Global, [], ◌∷◌, ◌++◌, ap, ◌∙◌}
 use Rattle.std.specs.List.{flat_map}
 use Rattle.fm_base.specs.declared.schedule.Turn.{Turn}
 use Rattle.fm_run.proofs.EntryLaws.{chunk_more}

@@ -1,20 +1,13 @@
-use Rattle.std.proofs.Common.{ap, sym, ◌∙◌, arith}
+use Rattle.std.proofs.Common.{◌∙◌, arith}
 use Rattle.std.proofs.lemmas.List.{take_all}
-use Rattle.fm_run.specs.Runs.{after_entries, first_stand}
-use Rattle.fm_table.proofs.Stands.{one_entry_more}
+use Rattle.fm_table.proofs.Standings.{first_live, one_entry_more}
 use Rattle.fm_table.proofs.reviving.play_again.Goals as goal
 
 pub entries-init : goal.entries-init
-entries-init c =
-    let P = c.args.program.now in
-    record {
-      live = record {
-        sound = c.in_ok-player.ensures.sound;
-        played = c.in_ok-player.ensures.played;
-        stand_is = c.in_ok-player.ensures.stand ∙ ap (after_entries P (first_stand P)) (sym c.in_ok-player.ensures.history);
-      };
-      history = c.in_ok-player.ensures.history;
-    }
+entries-init c = record {
+  live = first_live c.args.program.now c.in_ok-player.player c.in_ok-player.ensures.sound c.in_ok-player.ensures.played c.in_ok-player.ensures.stand c.in_ok-player.ensures.history;
+  history = c.in_ok-player.ensures.history;
+}
 
 pub play_entry-requires : goal.play_entry-requires
 play_entry-requires c = c.entries.invariant.live

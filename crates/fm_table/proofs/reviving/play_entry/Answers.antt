@@ -1,6 +1,7 @@
 use Rattle.std.proofs.Common.{sym, ◌∙◌}
 use Rattle.std.proofs.lemmas.Bool.{eqb-true}
-use Rattle.fm_table.proofs.Tables.{some_steps, whole_entry}
+use Rattle.fm_table.proofs.Tables.{some_steps}
+use Rattle.fm_table.proofs.Turns.{whole_entry}
 use Rattle.fm_table.proofs.reviving.play_entry.Goals as goal
 
 pub make_steps-requires-clause-some : goal.make_steps-requires-clause-some

@@ -8,5 +8,5 @@ returns-then-is_spent c = let a = c.args.table.now in over_turns a.setup.turns (
 pub returns : goal.returns
 returns c =
     let a = c.args.table.now in
-    let none = idle_none a c.is_spent.result c.requires c.is_spent.ensures c.if-is_spent.false in
+    let none = idle_none a c.is_spent.result c.requires.idle c.requires.alone c.is_spent.ensures c.if-is_spent.false in
     (none.0, none.1, c.in_ok-outcome.ensures)

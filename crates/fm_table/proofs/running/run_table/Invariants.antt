@@ -1,6 +1,6 @@
 use Rattle.std.proofs.Common.{◌≡◌, false}
 use Rattle.fm_run.specs.Runs.{Follows}
-use Rattle.fm_table.specs.Told.{IsIdle}
+use Rattle.fm_table.specs.Told.{IsIdle, told_at}
 use Rattle.fm_table.proofs.Runs.{left_of}
 use Rattle.fm_table.proofs.running.run_table.Given as goal
 
@@ -8,6 +8,7 @@ abbrev pub invariant-pieces : goal.invariant-pieces
 invariant-pieces l = record {
   program : l.table.program ≡ l.fn.program.value;
   setup : l.table.setup ≡ l.fn.setup;
+  alone : l.table ≡ told_at l.table.program l.table.setup l.table.history;
   follows : Follows l.table.program l.table.setup.slice l.choices l.table.history;
   idle : l.goes_on ≡ false → IsIdle l.table;
 }

@@ -1,14 +1,13 @@
-use Rattle.std.proofs.Common.{◌≡◌, length, map, ap, arith, rules}
+use Rattle.std.proofs.Common.{◌≡◌, length, map, arith, rules}
 use Rattle.std.proofs.lemmas.List.{length-map}
 use Rattle.fm_table.specs.Told.{cost_of as told_cost}
 use Rattle.fm_table.proofs.Tables.{over_turns, within_turns}
 use Rattle.fm_trace.specs.declared.trace.Run.{Run}
-use Rattle.fmc.specs.Replay.{told_after}
 use Rattle.fmc.proofs.ReplayLaws.{come_all, come_lacking, come_more, come_spent, entry_steps}
 use Rattle.fmc.proofs.replaying.play_entries.Goals as goal
 
 pub entries-init : goal.entries-init
-entries-init c = let a = c.args.table.now in ap (told_after a.program a.setup) c.requires.fresh
+entries-init c = c.requires.fresh
 
 pub lacks_step-requires : goal.lacks_step-requires
 lacks_step-requires c = let now = c.entries.table in within_turns now.setup.turns (told_cost now) c.is_spent.result c.is_spent.ensures c.if-is_spent.false

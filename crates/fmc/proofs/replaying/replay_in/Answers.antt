@@ -1,7 +1,7 @@
 use Rattle.std.proofs.Common.{ℕ, List, ap, map, sym, subst, ◌∙◌}
 use Rattle.std.specs.Prelude.{Option}
 use Rattle.std.proofs.lemmas.Result.{IfOk-weaker}
-use Rattle.fm_table.specs.Told.{Told}
+use Rattle.fm_table.specs.Told.{Told, first_told}
 use Rattle.fm_trace.specs.declared.trace.Run.{Run}
 use Rattle.fmc.specs.declared.answer.Exit.TheVariants.{Illegal}
 use Rattle.fmc.specs.Replay.{ComesTo, HasCome}
@@ -10,7 +10,7 @@ use Rattle.fmc.proofs.ReplayLaws.{lacking_comes, table_comes}
 use Rattle.fmc.proofs.replaying.replay_in.Goals as goal
 
 pub play_entries-requires-clause-fresh : goal.play_entries-requires-clause-fresh
-play_entries-requires-clause-fresh c = ap (λ (a : Told). a.history) c.in_ok-table.ensures
+play_entries-requires-clause-fresh c = c.in_ok-table.ensures ∙ ap (λ (a : Told). first_told a.program a.setup) (sym c.in_ok-table.ensures)
 
 pub end_of-requires : goal.end_of-requires
 end_of-requires c =

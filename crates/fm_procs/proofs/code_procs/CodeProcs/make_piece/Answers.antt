@@ -32,6 +32,6 @@ returns-in-Asks-clause-piece c =
     let state : record { procs = procs_of c.take_next.new.self; chans = s.chans } ≡ s = ap (λ (n : Procs CodeProc). record { procs = n; chans = s.chans }) c.take_next.ensures.processes in
     let shared = asks_shared who.0 c.in-Asks.ask (sym (c.take_next.ensures.next who.0 c.requires.kept.told who.1) ∙ c.in-Asks.is) in
     IfOk-weaker c.event_piece.result _ _ (λ r made.
-    one_piece c.args.slice c.args.spare s t p who.0 who.1 c.requires.some shared r made.paid
+    one_piece c.args.slice c.args.spare s t p who.0 who.1 (λ whole. c.requires.some) shared r made.paid
     (ap (λ (u : State CodeProc). code_step u p) (sym state) ∙ made.leads) (ap (λ (u : State CodeProc). starts_at code_language u p) (sym state) ∙ made.starts)
     made.steps_are made.cost_is) c.event_piece.ensures.steps

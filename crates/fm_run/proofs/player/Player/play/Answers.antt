@@ -3,11 +3,12 @@ use Rattle.std.specs.Prelude.{List}
 use Rattle.fm_base.specs.declared.schedule.Turn.{Turn}
 use Rattle.fm_net.specs.Machine.{Place, State}
 use Rattle.fm_mean.specs.Process.{Proc}
-use Rattle.fm_run.specs.Orders.{Among, ready_after}
+use Rattle.fm_run.specs.Orders.{Among, KeepsFront, ready_after}
 use Rattle.fm_run.specs.Entries.{turn_of}
 use Rattle.fm_run.specs.Runs.{AreAble, IsEntry}
 use Rattle.fm_run.proofs.Joined.{entry_may, entry_of}
 use Rattle.fm_run.proofs.Playing.{front_more, known}
+use Rattle.fm_run.proofs.Queueing.{front_same}
 use Rattle.fm_run.proofs.Results.{on_err}
 use Rattle.fm_run.proofs.player.Player.play.Goals as goal
 
@@ -88,3 +89,9 @@ returns-in_err-steps-clause-stays g c = on_err c.from_residual.result (entry_may
 
 pub returns-in_err-serve-clause-stays : goal.returns-in_err-serve-clause-stays
 returns-in_err-serve-clause-stays g c = on_err c.from_residual-in_err-serve.result (inr (turn_of c.args.number c.in_ok-steps.steps, c.serve.ensures.history ∙ c.in_ok-steps.ensures.history))
+
+pub returns-in_err-steps-clause-queue : goal.returns-in_err-steps-clause-queue
+returns-in_err-steps-clause-queue g c = on_err c.from_residual.result (front_same c.args.self.now.able.numbers.items c.keep_piece.new.self.able.numbers.items c.keep_piece.ensures.able)
+
+pub returns-in_err-serve-clause-queue : goal.returns-in_err-serve-clause-queue
+returns-in_err-serve-clause-queue g c = on_err c.from_residual-in_err-serve.result (subst (λ (ns : List ℕ). KeepsFront ns c.serve.new.self.able.numbers.items) c.in_ok-steps.ensures.able c.in_err-serve.ensures.front)

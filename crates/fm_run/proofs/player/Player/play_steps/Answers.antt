@@ -3,10 +3,11 @@ use Rattle.std.specs.Prelude.{List}
 use Rattle.fm_base.specs.declared.schedule.Turn.{Turn}
 use Rattle.fm_net.specs.Machine.{Place, State}
 use Rattle.fm_mean.specs.Process.{Proc}
-use Rattle.fm_run.specs.Orders.{Among, can_at, ready_after}
+use Rattle.fm_run.specs.Orders.{Among, KeepsFront, can_at, ready_after}
 use Rattle.fm_run.specs.Entries.{turn_of}
 use Rattle.fm_run.specs.Runs.{AreAble, IsEntry}
 use Rattle.fm_run.proofs.Playing.{front_more, known}
+use Rattle.fm_run.proofs.Queueing.{front_same}
 use Rattle.fm_run.proofs.Results.{on_err}
 use Rattle.fm_run.proofs.player.Player.play_steps.Goals as goal
 
@@ -86,3 +87,9 @@ pub returns-clause-stops : goal.returns-clause-stops
 returns-clause-stops g c = λ few.
     let P = c.args.program.now in
     ap₂ (λ (u : State Proc) (us : List Place). can_at P u us c.args.number) c.in_ok-serve.ensures.state c.in_ok-serve.ensures.order ∙ c.in_ok-done.ensures.stops few
+
+pub returns-in_err-done-clause-queue : goal.returns-in_err-done-clause-queue
+returns-in_err-done-clause-queue g c = on_err c.from_residual.result (front_same c.args.self.now.able.numbers.items c.keep_steps.new.self.able.numbers.items c.keep_steps.ensures.able)
+
+pub returns-in_err-serve-clause-queue : goal.returns-in_err-serve-clause-queue
+returns-in_err-serve-clause-queue g c = on_err c.from_residual-in_err-serve.result (subst (λ (ns : List ℕ). KeepsFront ns c.serve.new.self.able.numbers.items) c.in_ok-done.ensures.able c.in_err-serve.ensures.front)

@@ -1,4 +1,4 @@
-use Rattle.std.proofs.Common.{◌≡◌, ◌∷◌, ◌++◌, ℕ, [], List, cond, length, true, false, ◌≤◌, ◌<◌, ap, ap₂, sym, subst, ◌∙◌, arith, rules}
+use Rattle.std.proofs.Common.{◌≡◌, ◌∷◌, ◌++◌, ℕ, [], List, cond, length, true, false, ◌≤◌, ◌<◌, refl, ap, ap₂, sym, subst, ◌∙◌, arith, rules}
 use Rattle.fm_base.specs.declared.schedule.Turn.{Turn}
 use Rattle.fm_chan.specs.Bodies.{chans_of}
 use Rattle.fm_chan.specs.Woken.{woken_of}
@@ -14,14 +14,12 @@ use Rattle.fm_run.specs.Noted.{AreNoted, AreParents, IsNoted}
 use Rattle.fm_run.specs.Entries.{turn_of}
 use Rattle.fm_run.specs.Runs.{AreAble, IsEntry, IsPlayedBy}
 use Rattle.fm_run.specs.Orders.{Among, AreMarked, can_at, in_turn, others_in, ready_after}
-use Rattle.fm_run.proofs.Numbers.{all_in_turn, once_in_turn}
+use Rattle.fm_run.proofs.Numbers.{all_in_turn, among_left, once_in_turn}
 use Rattle.fm_run.proofs.Playing.{are_able, kept_owned}
-use Rattle.fm_run.proofs.Results.{on_ok_one, on_ok_six}
-use Rattle.fm_run.proofs.Serving.{candidates_whole, noted_all, noted_taken, others_ready, queue_is, stands_later}
+use Rattle.fm_run.proofs.Queueing.{front_same, front_stays}
+use Rattle.fm_run.proofs.Results.{on_err, on_err_one, on_ok_one, on_ok_six}
+use Rattle.fm_run.proofs.Serving.{candidates_whole, noted_all, noted_taken, queue_is, queue_ready, stands_later}
 use Rattle.fm_run.proofs.player.Player.serve.Goals as goal
-
-pub leave-requires : goal.leave-requires
-leave-requires g c = c.requires.moved.exact.once
 
 pub settle_all-requires-clause-owned : goal.settle_all-requires-clause-owned
 settle_all-requires-clause-owned g c =
@@ -37,18 +35,25 @@ settle_all-requires-clause-sorted g c = subst IsNonDecreasing (sym c.as_slice.en
 
 pub settle_all-requires-clause-marked : goal.settle_all-requires-clause-marked
 settle_all-requires-clause-marked g c =
-    subst (λ (rs : List Place). AreMarked (length rs) c.leave.new.self.marks.items c.leave.new.self.numbers.items) (sym c.in_ok-asked.ensures.order)
-    (c.leave.ensures.marks (length (g.N.Net.order c.args.self.now.net)) c.requires.moved.numbered.marked)
+    subst (λ (rs : List Place). AreMarked (length rs) c.args.self.now.able.marks.items c.args.self.now.able.numbers.items) (sym c.in_ok-asked.ensures.order) c.requires.moved.numbered.marked
 
-pub settle-requires-clause-owned : goal.settle-requires-clause-owned
-settle-requires-clause-owned g c =
+pub settle_own-requires-clause-once : goal.settle_own-requires-clause-once
+settle_own-requires-clause-once g c = c.in_ok-settle_all.ensures.once c.requires.moved.exact.once
+
+pub settle_own-requires-clause-there : goal.settle_own-requires-clause-there
+settle_own-requires-clause-there g c =
+    let front = c.in_ok-settle_all.ensures.front in
+    subst (Among c.args.number) (sym front.1) (among_left c.args.number c.args.self.now.able.numbers.items front.0 c.requires.moved.among)
+
+pub settle_own-requires-clause-owned : goal.settle_own-requires-clause-owned
+settle_own-requires-clause-owned g c =
     let P = c.args.program.now in
     let old = c.args.self.now in
     subst (IsOwned (language P)) (sym (c.in_ok-settle_all.ensures.state ∙ c.in_ok-asked.ensures.state P))
     (kept_owned P (g.N.Net.history old.net) (g.N.Net.order old.net) (g.N.Net.state P old.net) old.used c.requires.moved.kept_later)
 
--- `candidates`, `settle_all` and `settle` leave the state as it is. `leave` leaves the others in the queue, `settle_all` puts those that became able
--- behind them, and `settle` the process itself: this is `ready_after`. Who can't step is noted, or left, until `settle`
+-- `candidates`, `settle_all` and `settle_own` leave the state as it is. `settle_all` puts those that became able behind the queue, and `settle_own`
+-- takes the process itself out and puts it behind them: this is `ready_after`. Who can't step is noted, or left, until `settle_own`
 pub returns : goal.returns
 returns g c =
     let P = c.args.program.now in
@@ -79,35 +84,34 @@ returns g c =
     (subst (λ (rs : List Place). can_at P (g.N.Net.state P mid.net) rs n ≡ true) whole (subst (λ (u : State Proc). can_at P u qs n ≡ true) same can))) in
     let new_in : (n : ℕ) → length m.places ≤ n → n < length qs → Contains cs n = λ n high within.
     subst (λ (ns : List ℕ). Contains ns n) (sym c.as_slice.ensures.value) (c.in_ok-asked.ensures.new n (omega (arith, high, m.counted)) (subst (λ (rs : List Place). n < length rs) whole within)) in
-    let others : c.leave.new.self.numbers.items ≡ others_in number able = c.leave.ensures.numbers in
-    let served = c.in_ok-settle_all.ensures.queue able others (candidates_whole P number m.steps m.state t m.places qs m.history later_hs m.spent m.kept entry able m.exact m.among m.old mid_chans m.old_chans of_new m.waking m.noted mid.used later parents started cs woken_in parent_in new_in) in
-    let ready : (n : ℕ) → Among n c.leave.new.self.numbers.items → can_at P t qs n ≡ true = subst (λ (ns : List ℕ). (n : ℕ) → Among n ns → can_at P t qs n ≡ true) (sym others) (others_ready P number m.steps m.state t m.places qs m.history later_hs m.spent m.kept entry able m.exact m.among m.old mid_chans m.old_chans of_new m.waking m.noted) in
+    let served = c.in_ok-settle_all.ensures.queue (candidates_whole P number m.steps m.state t m.places qs m.history later_hs m.spent m.kept entry able m.exact m.among m.old mid_chans m.old_chans of_new m.waking m.noted mid.used later parents started cs woken_in parent_in new_in) in
+    let ready = queue_ready P number m.steps m.state t m.places qs m.history later_hs m.spent m.kept entry able m.exact m.among m.old mid_chans m.old_chans of_new m.waking m.noted in
     let left = c.in_ok-settle_all.ensures.noted ready (noted_taken P number m.steps m.state t m.places qs m.history later_hs m.spent m.kept entry able m.exact m.among m.old mid_chans m.old_chans of_new m.waking m.noted mid.used later parents started cs woken_in parent_in new_in (g.N.Net.channels c.candidates.new.net) c.in_ok-asked.ensures.readers) in
     let stays = c.in_ok-settle_all.ensures.state in
     let rs = g.N.Net.order c.settle_all.new.net in
     let listed : rs ≡ qs = c.in_ok-settle_all.ensures.order in
     let pieces : g.N.Net.history c.settle_all.new.net ≡ later_hs = c.in_ok-settle_all.ensures.history ∙ c.in_ok-asked.ensures.history in
-    let queued : c.settle.new.able.numbers.items ≡ c.settle_all.new.able.numbers.items ++ cond (can_at P (g.N.Net.state P c.settle_all.new.net) rs number) (number ∷ []) [] → c.settle.new.able.numbers.items ≡ ready_after P t qs able number = λ last.
-    queue_is P number m.steps m.state t m.places qs m.history later_hs m.spent m.kept entry able m.exact m.among m.old mid_chans m.old_chans of_new m.waking m.noted c.settle_all.new.able.numbers.items c.settle.new.able.numbers.items served
-    (last ∙ ap₂ (λ (u : State Proc) (os : List Place). c.settle_all.new.able.numbers.items ++ cond (can_at P u os number) (number ∷ []) []) stays listed) in
-    let final_chans = g.N.Net.channels c.settle.new.net in
+    let queued : c.settle_own.new.able.numbers.items ≡ others_in number c.settle_all.new.able.numbers.items ++ cond (can_at P (g.N.Net.state P c.settle_all.new.net) rs number) (number ∷ []) [] → c.settle_own.new.able.numbers.items ≡ ready_after P t qs able number = λ last.
+    queue_is P number m.steps m.state t m.places qs m.history later_hs m.spent m.kept entry able m.exact m.among m.old mid_chans m.old_chans of_new m.waking m.noted c.settle_all.new.able.numbers.items c.settle_own.new.able.numbers.items served
+    (last ∙ ap₂ (λ (u : State Proc) (os : List Place). others_in number c.settle_all.new.able.numbers.items ++ cond (can_at P u os number) (number ∷ []) []) stays listed) in
+    let final_chans = g.N.Net.channels c.settle_own.new.net in
     record {
-      sound = c.settle.ensures.sound;
-      played = on_ok_six c.settle.result c.settle.ensures.order c.settle.ensures.state c.settle.ensures.queue c.settle.ensures.noted c.settle.ensures.waking c.settle.ensures.marks (λ alike ends last own wakes marks.
-          let told = c.settle.ensures.history in
+      sound = c.settle_own.ensures.sound;
+      played = on_ok_six c.settle_own.result c.settle_own.ensures.order c.settle_own.ensures.state c.settle_own.ensures.queue c.settle_own.ensures.noted c.settle_own.ensures.waking c.settle_own.ensures.marks (λ alike ends last own wakes marks.
+          let told = c.settle_own.ensures.history in
           let final = ends ∙ stays in
-          let same_order : g.N.Net.order c.settle.new.net ≡ qs = alike ∙ listed in
+          let same_order : g.N.Net.order c.settle_own.new.net ≡ qs = alike ∙ listed in
           record {
             history =
-                subst (λ (ts : List Turn). IsPlayedBy P ts (g.N.Net.order c.settle.new.net) (g.N.Net.state P c.settle.new.net) mid.used) (sym (told ∙ pieces))
-                (subst (λ (us : List Place). IsPlayedBy P later_hs us (g.N.Net.state P c.settle.new.net) mid.used) (sym (same_order ∙ whole))
+                subst (λ (ts : List Turn). IsPlayedBy P ts (g.N.Net.order c.settle_own.new.net) (g.N.Net.state P c.settle_own.new.net) mid.used) (sym (told ∙ pieces))
+                (subst (λ (us : List Place). IsPlayedBy P later_hs us (g.N.Net.state P c.settle_own.new.net) mid.used) (sym (same_order ∙ whole))
                 (subst (λ (u : State Proc). IsPlayedBy P later_hs (g.N.Net.order mid.net) u mid.used) (sym (final ∙ same)) m.kept_later));
             able =
-                subst (λ (us : List Place). AreAble P (g.N.Net.state P c.settle.new.net) us c.settle.new.able.numbers.items) (sym same_order)
-                (subst (λ (u : State Proc). AreAble P u qs c.settle.new.able.numbers.items) (sym final)
-                (are_able P t qs (in_turn number able (length qs)) c.settle.new.able.numbers.items (queued last) (all_in_turn number able (length qs)) (once_in_turn number able (length qs) m.exact.once)));
+                subst (λ (us : List Place). AreAble P (g.N.Net.state P c.settle_own.new.net) us c.settle_own.new.able.numbers.items) (sym same_order)
+                (subst (λ (u : State Proc). AreAble P u qs c.settle_own.new.able.numbers.items) (sym final)
+                (are_able P t qs (in_turn number able (length qs)) c.settle_own.new.able.numbers.items (queued last) (all_in_turn number able (length qs)) (once_in_turn number able (length qs) m.exact.once)));
             noted =
-                subst (λ (us : List Place). AreNoted P (g.N.Net.state P c.settle.new.net) final_chans us) (sym same_order)
+                subst (λ (us : List Place). AreNoted P (g.N.Net.state P c.settle_own.new.net) final_chans us) (sym same_order)
                 (subst (λ (u : State Proc). AreNoted P u final_chans qs) (sym final)
                 (noted_all P t qs number cs (g.N.Net.channels c.settle_all.new.net) final_chans wakes left
                 (subst (λ (u : State Proc). (q : Place) (x : Proc) → slice_get qs number ≡ Some q → get u.procs q ≡ Some x → is_some (step P u q) ≡ false → IsNoted P final_chans number x) stays
@@ -115,12 +119,19 @@ returns g c =
             numbered = record {
               started = subst (λ (us : List Place). AreParents us mid.parents.items) (sym (same_order ∙ whole)) m.numbered.started;
               counted = m.numbered.counted ∙ ap length (sym (same_order ∙ whole));
-              marked = subst (λ (us : List Place). AreMarked (length us) c.settle.new.able.marks.items c.settle.new.able.numbers.items) (sym same_order) (marks (length qs) c.in_ok-settle_all.ensures.marks);
+              marked = subst (λ (us : List Place). AreMarked (length us) c.settle_own.new.able.marks.items c.settle_own.new.able.numbers.items) (sym same_order) (marks (length qs) c.in_ok-settle_all.ensures.marks);
             };
           });
       used = search rules;
-      state = on_ok_one c.settle.result c.settle.ensures.state (λ ends. ends ∙ stays ∙ same);
-      order = on_ok_one c.settle.result c.settle.ensures.order (λ alike. alike ∙ listed ∙ whole);
-      history = c.settle.ensures.history ∙ pieces;
-      able = on_ok_one c.settle.result c.settle.ensures.queue (λ last. queued last ∙ ap₂ (λ (u : State Proc) (us : List Place). ready_after P u us able number) same whole);
+      state = on_ok_one c.settle_own.result c.settle_own.ensures.state (λ ends. ends ∙ stays ∙ same);
+      order = on_ok_one c.settle_own.result c.settle_own.ensures.order (λ alike. alike ∙ listed ∙ whole);
+      history = c.settle_own.ensures.history ∙ pieces;
+      able = on_ok_one c.settle_own.result c.settle_own.ensures.queue (λ last. queued last ∙ ap₂ (λ (u : State Proc) (us : List Place). ready_after P u us able number) same whole);
+      front = on_err_one c.settle_own.result c.settle_own.ensures.kept (λ stays. front_stays able c.settle_all.new.able.numbers.items c.settle_own.new.able.numbers.items c.in_ok-settle_all.ensures.front stays);
     }
+
+pub returns-in_err-asked-clause-front : goal.returns-in_err-asked-clause-front
+returns-in_err-asked-clause-front g c = on_err c.from_residual.result (front_same c.args.self.now.able.numbers.items c.args.self.now.able.numbers.items refl)
+
+pub returns-in_err-settle_all-clause-front : goal.returns-in_err-settle_all-clause-front
+returns-in_err-settle_all-clause-front g c = on_err c.from_residual-in_err-settle_all.result c.settle_all.ensures.front

@@ -1,0 +1,13 @@
+pub mod Marked
+pub mod Edges
+pub mod Makers
+pub mod Cycles
+pub mod Walked
+pub mod PortPlaces
+pub mod Declared
+pub mod Judged
+pub mod Risks
+pub mod Wired
+pub mod Found
+pub mod Searched
+pub mod Promised

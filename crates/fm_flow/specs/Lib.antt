@@ -1,0 +1,4 @@
+pub mod Marks
+pub mod Arcs
+pub mod Units
+pub mod Walks

@@ -1,0 +1,12 @@
+use Rattle.std.proofs.Common.{◌≡◌}
+use Rattle.fm_nodes_rounds.proofs.driving.bring_all.Given as goal
+
+-- no process has made a step
+abbrev pub invariant-things : goal.invariant-things
+invariant-things g l = record {
+  used : g.H.Hosts.used l.hosts ≡ g.H.Hosts.used l.fn.hosts;
+  count : g.H.Hosts.count l.hosts ≡ g.H.Hosts.count l.fn.hosts;
+}
+
+abbrev pub decreases-things : goal.decreases-things
+decreases-things g l = l.wire.len

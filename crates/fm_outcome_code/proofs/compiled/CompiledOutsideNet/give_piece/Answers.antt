@@ -1,0 +1,64 @@
+use Rattle.std.proofs.Common.{◌≡◌, true, false, Some, [], ap, sym, subst, ◌∙◌, ◌++◌}
+use Rattle.std.specs.Prelude.{slice_get, slice_index_or}
+use Rattle.std.proofs.lemmas.Option.{get_or_from_slice_get}
+use Rattle.fm_net.specs.Machine.{Place}
+use Rattle.fm_net.specs.Starts.{child_places}
+use Rattle.fm_run.specs.declared.net.Piece.{Piece}
+use Rattle.fm_run.specs.Orders.{can_in}
+use Rattle.fm_run.specs.Pieces.{IsPiece}
+use Rattle.fm_procs.specs.Readings.{actor_place, order_of, state_of}
+use Rattle.fm_outcome_code.specs.Played.{played}
+use Rattle.fm_outcome_code.proofs.Standing.{steps_alike}
+use Rattle.fm_outcome_code.proofs.Pieces.{new_along}
+use Rattle.fm_outcome_code.proofs.Sound.{piece_made, sound_after}
+use Rattle.fm_outcome_code.proofs.compiled.CompiledOutsideNet.give_piece.Goals as goal
+
+pub give_piece-requires-clause-new : goal.give_piece-requires-clause-new
+give_piece-requires-clause-new c =
+    let net = c.args.self.now in
+    let p = c.args.program.now in
+    new_along p (played p net.history (order_of net.stacks.entries)) (state_of net.stacks) c.requires.sound.stands (actor_place c.in_ok-actor.actor)
+
+pub give_piece-requires-clause-can : goal.give_piece-requires-clause-can
+give_piece-requires-clause-can c =
+    let net = c.args.self.now in
+    let p = c.args.program.now in
+    let ps = order_of net.stacks.entries in
+    let s = played p net.history ps in
+    steps_alike p s (state_of net.stacks) c.requires.sound.stands (actor_place c.in_ok-actor.actor)
+    ∙ sym (ap (can_in p s) (ap (slice_get ps) (sym c.in_ok-actor.ensures.number) ∙ c.in_ok-actor.ensures.actor)) ∙ c.requires.able
+
+pub give_piece-requires-clause-own : goal.give_piece-requires-clause-own
+give_piece-requires-clause-own c =
+    let ps = order_of c.args.self.now.stacks.entries in
+    λ y is. c.requires.own (actor_place c.in_ok-actor.actor) y (ap (slice_get ps) (sym c.in_ok-actor.ensures.number) ∙ c.in_ok-actor.ensures.actor) is
+
+pub returns-clause-sound : goal.returns-clause-sound
+returns-clause-sound c =
+    let net = c.args.self.now in
+    let ps = order_of net.stacks.entries in
+    let q = actor_place c.in_ok-actor.actor in
+    let r = c.in_ok-piece.piece in
+    sound_after c.args.program.now net.stacks net.history c.requires.sound c.args.number q (ap (slice_get ps) (sym c.in_ok-actor.ensures.number) ∙ c.in_ok-actor.ensures.actor) c.args.done.now.steps true r
+    c.give_piece.new.self c.in_ok-piece.ensures.kept c.in_ok-piece.ensures.piece c.in_ok-piece.ensures.order false (λ e. absurd (cc e)) c.put_piece.new.history c.in_ok-put_piece.ensures.ok
+
+pub returns-clause-order : goal.returns-clause-order
+returns-clause-order c =
+    let ps = order_of c.args.self.now.stacks.entries in
+    let q = actor_place c.in_ok-actor.actor in
+    let r = c.in_ok-piece.piece in
+    let who : slice_get ps c.args.number ≡ Some q = ap (slice_get ps) (sym c.in_ok-actor.ensures.number) ∙ c.in_ok-actor.ensures.actor in
+    subst (λ (w : Piece). order_of c.give_piece.new.self.entries ≡ ps ++ child_places (slice_index_or ps c.args.number []) w.block 1 w.started) (sym c.as_piece.ensures)
+    (c.in_ok-piece.ensures.order ∙ ap (λ (z : Place). ps ++ child_places z r.block 1 r.started) (sym (get_or_from_slice_get ps c.args.number q [] who)))
+
+pub returns-clause-piece : goal.returns-clause-piece
+returns-clause-piece c =
+    let net = c.args.self.now in
+    let p = c.args.program.now in
+    let ps = order_of net.stacks.entries in
+    let q = actor_place c.in_ok-actor.actor in
+    let r = c.in_ok-piece.piece in
+    let who : slice_get ps c.args.number ≡ Some q = ap (slice_get ps) (sym c.in_ok-actor.ensures.number) ∙ c.in_ok-actor.ensures.actor in
+    subst (λ (z : Place). IsPiece p c.args.done.now.steps true (played p net.history ps) z c.as_piece.result (played p c.put_piece.new.history (order_of c.give_piece.new.self.entries))) (sym (get_or_from_slice_get ps c.args.number q [] who))
+    (piece_made p net.stacks net.history c.requires.sound c.args.number q who c.args.done.now.steps true r
+    c.give_piece.new.self c.in_ok-piece.ensures.kept c.in_ok-piece.ensures.piece c.in_ok-piece.ensures.order false (λ e. absurd (cc e)) c.put_piece.new.history c.in_ok-put_piece.ensures.ok c.as_piece.result c.as_piece.ensures)

@@ -1,0 +1,2 @@
+mod OnePrograms
+mod Sameness

@@ -1,0 +1,19 @@
+use Rattle.std.proofs.Common.{List, refl, sym, subst}
+use Rattle.fm_run.specs.Orders.{Among, EachOnce}
+use Rattle.fm_table.specs.Inside.{outs_of}
+use Rattle.fm_table.specs.Told.{numbers_out}
+use Rattle.fm_table.specs.declared.outside.Taken.{Taken}
+use Rattle.fm_table.proofs.Standings.{requeued}
+use Rattle.fm_table.proofs.table.Table.recall.Goals as goal
+
+pub invariant_of-self : goal.invariant_of-self
+invariant_of-self c =
+    let t = c.self.inside in
+    let k = c.self.invariant in
+    let e = c.call_back.ensures in
+    record {
+      standing = requeued t.program.value t.standing _ k.standing refl refl refl refl refl refl refl (λ n h. (e.same n).0 h) (λ n h. (e.same n).1 h) e.once e.marks;
+      front = k.front;
+      out_able = λ n h. absurd (subst (λ (ts : List Taken). Among n (numbers_out (outs_of ts))) e.out h);
+      out_once = subst (λ (ts : List Taken). EachOnce (numbers_out (outs_of ts))) (sym e.out) tt;
+    }

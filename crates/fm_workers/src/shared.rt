@@ -1,0 +1,79 @@
+//! A table that gives pieces out, and takes back what they came to.
+
+ghost use Rattle.std.specs.Prelude.{◌≡◌, ◌≤◌, ℕ, List, length, false, IfOk, IfErr, OnErr};
+ghost use Rattle.fm_base.specs.declared.schedule.Turn as declared_turn;
+ghost use Rattle.fm_workers.specs.Histories.{HasGrown, IsGiven};
+
+use fm_base::NoMemory;
+use std::alloc::Global;
+
+/// What a table answers to what a piece came to.
+#[derive(Clone, Copy, Debug, PartialEq, Eq)]
+pub enum Given {
+    /// The piece was played.
+    Played,
+    /// The piece isn't one that is out: nothing was played.
+    Stranger,
+    /// The turns had been spent before: nothing was played.
+    Over,
+}
+
+/// How far a table is.
+#[derive(Clone, Copy, Debug, PartialEq, Eq)]
+pub enum Phase {
+    /// A process can step, or a piece is out; the turns aren't spent.
+    Going,
+    /// No process can step, and no piece is out; the turns aren't spent.
+    Ended,
+    /// The schedule costs more than the turns.
+    Spent,
+}
+
+/// Something with a history.
+pub trait KeepsHistory {
+    /// The entries, from the first on.
+    ghost history_of: { Self → List declared_turn.Turn };
+
+    /// How many entries it has.
+    fn entries(&self) -> usize
+        ensures value { result ≡ length (history_of self.now) }
+        ensures few { result ≤ 1000000001 };
+}
+
+/// Processes whose pieces are computed outside.
+pub trait SharedTable: KeepsHistory {
+    /// A process that is out, with all that its piece needs.
+    type Piece: Drop + Send;
+
+    /// What a piece came to.
+    type Done: Drop + Send;
+
+    /// The process that made the piece, by its place in the order of starting.
+    ghost process_of: { Self.Done → ℕ };
+
+    /// Computes a piece.
+    fn advance(alloc: Global, piece: Self::Piece) -> Result<Self::Done, NoMemory>;
+
+    /// Gives out a piece, for this worker if it can choose. None comes where none is ready.
+    fn take(&mut self, alloc: Global, worker: u32) -> Result<Option<Self::Piece>, NoMemory>
+        ensures { Self.history_of self.new ≡ Self.history_of self.old };
+
+    /// Plays what a piece came to, or doesn't know it.
+    fn give(&mut self, alloc: Global, done: Self::Done) -> Result<Given, (Self::Done, NoMemory)>
+        ensures given { IfOk result (λ g. IsGiven g (process_of done) (Self.history_of self.old) (Self.history_of self.new)) }
+        ensures unchanged { OnErr result (Self.history_of self.new ≡ Self.history_of self.old) }
+        ensures back { IfErr result (λ e. e.0 ≡ done) };
+
+    /// Makes a piece by itself, of a process that isn't worth giving out. False where it made none.
+    fn turn_light(&mut self, alloc: Global, worker: u32) -> Result<bool, NoMemory>
+        ensures grown { IfOk result (λ _. HasGrown (Self.history_of self.old) (Self.history_of self.new)) }
+        ensures none { IfOk result (λ r. r ≡ false → Self.history_of self.new ≡ Self.history_of self.old) }
+        ensures unchanged { OnErr result (Self.history_of self.new ≡ Self.history_of self.old) };
+
+    /// Makes every process ready that is out.
+    fn recall(&mut self)
+        ensures { Self.history_of self.new ≡ Self.history_of self.old };
+
+    /// How far the table is.
+    fn phase(&self) -> Phase;
+}

@@ -1,0 +1,22 @@
+//! The answers of `replay` exclude each other.
+
+ghost use Rattle.std.specs.Prelude.{◌≡◌, ◌≢◌, ℕ, Bool, true, List};
+ghost use Rattle.fm_base.specs.declared.schedule.Turn.{Turn};
+ghost use Rattle.fm_net.specs.Machine.{Place};
+ghost use Rattle.fm_words.specs.declared.command.Command.TheVariants as command;
+ghost use Rattle.fmc.specs.declared.answer.Exit.{Exit};
+ghost use Rattle.fmc.specs.declared.answer.Exit.TheVariants as exits;
+ghost use Rattle.fmc.specs.Answer.{Says};
+ghost use Rattle.fmc.specs.Exits.{is_decided};
+ghost use Rattle.fmc.specs.OneReplay.{IsOneAnswer};
+
+/// Two answers of `replay` to the same bytes are one, where the bytes decide each, and memory was found: a report, a run that is
+/// spent, entry k that is illegal, an end that isn't reached, line k that is malformed, a refusal, or too long a text, and none beside.
+pub fn replay_has_one_answer()
+    ensures { (vars : Bool) (b : List ℕ) (x y : Exit) (h i : List Turn) (ps qs : List Place) (t u : List ℕ)
+        → is_decided x ≡ true → x ≢ exits.NoMemory → is_decided y ≡ true → y ≢ exits.NoMemory
+        → Says (command.Replay vars) b x h ps t → Says (command.Replay vars) b y i qs u → IsOneAnswer x y h i ps qs t u }
+{
+    fm_front::one_verdict();
+    fm_front::one_program();
+}
