@@ -33,7 +33,7 @@ CALLS = [
     ("run --turns=100", b"      PROGRAM P\n   10 GOTO 10\n      END\n"),
     ("trace", "merger"),
     ("replay --vars", "merger"),
-    ("replay", b"fmc trace 1\nturns ten\n"),
+    ("replay", b"fmc trace 2\nturns ten\n"),
     ("check", "merger"),
     ("list", "checked"),
     ("make 7", b""),

@@ -26,7 +26,7 @@ SOURCE_LIMIT, TRACE_LIMIT, PIPE, FRONT, TIMES = 1_000_000, 100_000_000, 65_536, 
 LAWFUL = b"      PROGRAM P\n      PRINT *, 1\n      END\n"
 SILENT = b"      PROGRAM P\n      END\n"
 REFUSED = b"      PROGRAM P\n      X = 1\n      END\n"
-TRACE = b"fmc trace 1\nturns 10000000\nentries 0\nsource\n"
+TRACE = b"fmc trace 2\nturns 10000000\nlines 0\nsource\n"
 # Lawful: its statements, and so its list, don't fit into a pipe.
 LONG = b"      PROGRAM P\n" + b"      PRINT *, 123456789\n" * 5000 + b"      END\n"
 READING = ["run", "trace", "check", "list", "replay"]

@@ -3,7 +3,7 @@
 
     bench/examples.py [BINARY]
 
-Of each NAME.f the files NAME.out, NAME.check and NAME.list hold what `run`, `check` and `list` write. Prints a line for
+Of each NAME.f the files NAME.out, NAME.check, NAME.list and NAME.flow hold what `run`, `check`, `list` and `flow` write. Prints a line for
 each that differs, and the number of those that don't. BINARY is the built program, by default
 crates/fmc_cli/out/fmc_cli.
 """
@@ -14,7 +14,7 @@ import sys
 
 HERE = os.path.dirname(os.path.abspath(__file__))
 EXAMPLES = os.path.join(HERE, "../examples")
-WORDS = {".out": "run", ".check": "check", ".list": "list"}
+WORDS = {".out": "run", ".check": "check", ".list": "list", ".flow": "flow"}
 
 
 def read(path):

@@ -62,7 +62,7 @@ FORMS = {
               rb"(?:cycle main[^\n]*\n)*(?:turns \d+\n)?",
     "check": rb"(?:not )?deterministic(?:: line \d+)?\n",
     "list": rb"(?:[ \d]{6} [ \d]{5} [^\n]+\n)+",
-    "trace": rb"fmc trace 1\nturns \d+\nentries \d+\n(?:\d+ \d+\n)*source\n(?s:.*)",
+    "trace": rb"fmc trace 2\nturns \d+\nlines \d+\n(?:\d+ \d+(?: \d+)?\n)*source\n(?s:.*)",
     3: rb"line \d+: E\d\d [^\n]+\n",
     4: rb"spent \d+\n",
     9: rb"source too long\n",
@@ -148,7 +148,7 @@ def try_trace(rng, binary, text, setup, wanted, is_deterministic):
     status, trace = call(binary, ["trace", "--turns", TURNS, *setup], text)
     same("trace " + " ".join(setup), (status, b""), (wanted[0], b""))
     same("replay of trace " + " ".join(setup), call(binary, ["replay", "--vars"], trace), wanted)
-    first, behind = trace.index(b"\n", trace.index(b"entries")) + 1, trace.index(b"source\n")
+    first, behind = trace.index(b"\n", trace.index(b"\nlines ") + 1) + 1, trace.index(b"source\n")
     for low, high in ((0, len(trace)), (first, behind)):
         at = rng.randrange(low, max(high, low + 1))
         byte = rng.choice([b"%d" % rng.randrange(10), bytes([rng.randrange(256)])])

@@ -20,7 +20,7 @@ pub fn entries_are_paid()
 {}
 
 /// Along every schedule the shape over which LOCATION counts has no more nodes than the machine of the process, whose nodes
-/// are numbered below 4,294,967,296: what `fm_map` tests before it looks for a node is always so.
+/// are numbered below 4,294,967,296. So subscripts within the shape always lead to a node: that the machine has no such node never comes.
 pub fn shapes_fit()
     ensures { (p : Program) → Throughout (step p) (ShapesFit p) (first p) }
 {}

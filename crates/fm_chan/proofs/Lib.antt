@@ -2,6 +2,7 @@ pub mod Packing
 pub mod Maps
 pub mod Numbers
 pub mod Receiving
+pub mod Returning
 pub mod Fitting
 pub mod Writers
 pub mod Waits

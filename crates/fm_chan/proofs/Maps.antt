@@ -127,6 +127,11 @@ pub maybe_more_noted : {T E : Type 0} (r : Result T E) (old new : Named) (q : Ch
 maybe_more_noted (Ok x) old new q b more same absent none = one_more_noted old new q b more absent none
 maybe_more_noted (Err x) old new q b more same absent none = ap noted_in same
 
+-- what has room at its name has room
+pub room_there : (bodies : Named) (q : ChanName) (b : Body) → Some b ≡ map.get (by_name bodies) q → HasRoomIn bodies q → IsRoomy b
+unfolding HasRoomIn
+room_there bodies q b is room = subst (λ (o : Option Body). RoomAt o) (sym is) room
+
 -- ---- a body that is there is changed
 
 module _ (old new : Named) (q : ChanName) (b d : Body) (is : Some b ≡ map.get (by_name old) q) (holds : IsSome (map.get (by_name old) q) → by_name new ≡ map.insert (by_name old) q d) where

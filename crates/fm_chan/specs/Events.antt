@@ -1,6 +1,6 @@
 -- What a process does to the channels by a port.
 -- Source: the Fortran M report (SEND, RECEIVE, ENDCHANNEL), with this profile's rules on discarding.
-use Rattle.std.specs.Prelude.{ℕ, Bool, true, false, Option, Some, None, List, [], map as map_list}
+use Rattle.std.specs.Prelude.{ℕ, Bool, true, false, cond, Option, Some, None, List, [], ◌∷◌, map as map_list}
 use Rattle.std.specs.FinMap as map
 use Rattle.fm_base.specs.declared.path.ChanName.{ChanName}
 use Rattle.fm_base.specs.declared.port.PortValue.{PortValue}
@@ -32,6 +32,10 @@ chan_at x m = map.get m (channel_of x)
 -- the channels after an event at the port's channel, before what it discards goes
 abbrev pub after_op : PortValue → ChannelOp → Chans → Chans
 after_op x a m = adjust m (channel_of x) (changed a)
+
+-- the channel with a message put first, where its inport lives
+abbrev pub put_first : Message → Chan → Chan
+put_first m ch = record ch { queue = cond ch.lives (m ∷ ch.queue) ch.queue }
 
 -- the ports in what comes back from a channel whose inport is gone
 abbrev pub ports_back : Put → List PortValue

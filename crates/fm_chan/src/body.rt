@@ -1,12 +1,12 @@
 //! What stands behind a channel's name.
 
-ghost use Rattle.std.specs.Prelude.{◌≡◌, ◌+◌, [], ◌++◌, Some, None, false, IfOk, OnOk, OnErr, IfErr, IsOk};
+ghost use Rattle.std.specs.Prelude.{◌≡◌, ◌+◌, [], ◌++◌, Some, None, true, false, IfOk, IfSome, OnOk, OnErr, IfErr, IsOk};
 ghost use Rattle.fm_base.specs.Channels.{numbers_from, fresh, Push, Pop, changed, gives, exceeds, spills, can_pop, without, discarded, freed, queue_ports};
 ghost use Rattle.fm_chan.specs.Kept.{chan_of};
 ghost use Rattle.fm_chan.specs.Readers.{IsReadyAt, IsClosedAt, WakesHere, count_of, woken_by};
 ghost use Rattle.fm_chan.specs.Rooms.{IsRoomy};
-ghost use Rattle.fm_chan.specs.Events.{ports_back};
-ghost use Rattle.fm_chan.specs.Received.{got_from};
+ghost use Rattle.fm_chan.specs.Events.{ports_back, put_first};
+ghost use Rattle.fm_chan.specs.Received.{brings, got_from};
 ghost use Rattle.fm_chan.specs.Rest.{left_ports};
 
 use crate::discarding::{Chain, Discarding};
@@ -164,6 +164,7 @@ impl Body {
         ensures rest { chan_of self.new ≡ changed (Pop []) (chan_of self.old) }
         ensures reader { self.new.reader ≡ self.old.reader }
         ensures room { IsRoomy self.old → IsRoomy self.new }
+        ensures taken { IfSome result (λ message. IsRoomy self.new) }
     {
         match &mut self.inport {
             None => None,
@@ -177,6 +178,7 @@ impl Body {
         ensures rest { chan_of self.new ≡ changed (Pop limits.now) (chan_of self.old) }
         ensures reader { self.new.reader ≡ self.old.reader }
         ensures room { IsRoomy self.old → IsRoomy self.new }
+        ensures taken { brings result ≡ true → IsRoomy self.new }
     {
         if !self.is_ready() {
             return Got::Wait;
@@ -187,6 +189,18 @@ impl Body {
         match self.take_first() {
             Some(message) => Got::Message(message),
             None => Got::End,
+        }
+    }
+
+    /// Puts a message first, where there is room for it.
+    pub fn put_back(&mut self, message: Message)
+        requires { IsRoomy self.old }
+        ensures chan { chan_of self.new ≡ put_first message (chan_of self.old) }
+        ensures reader { self.new.reader ≡ self.old.reader }
+    {
+        match &mut self.inport {
+            None => {}
+            Some(inport) => inport.queue.push_front_reserved(message),
         }
     }
 

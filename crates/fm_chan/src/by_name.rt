@@ -8,7 +8,7 @@ ghost use Rattle.fm_finmap.specs.Changes.{adjust};
 ghost use Rattle.fm_chan.specs.Kept.{chans_in};
 ghost use Rattle.fm_chan.specs.Readers.{IsReadyAt, IsClosedAt, WakesOne, count_of, noted_in, reader_at, woken_by};
 ghost use Rattle.fm_chan.specs.Rooms.{HasRoomIn, KeepsRoomIn, KeepsOthersRoomIn};
-ghost use Rattle.fm_chan.specs.Events.{chan_at, ports_back};
+ghost use Rattle.fm_chan.specs.Events.{chan_at, ports_back, put_first};
 ghost use Rattle.fm_chan.specs.Received.{got_at, brings, pops_at};
 ghost use Rattle.fm_chan.specs.Rest.{left_ports};
 
@@ -65,10 +65,23 @@ pub fn receive(bodies: &mut Bodies, name: &ChanName, limits: &[Option<u32>]) -> 
     ensures readers { WakesOne IsReadyAt bodies.old bodies.new None }
     ensures noted { noted_in bodies.new ≡ noted_in bodies.old }
     ensures room { KeepsRoomIn bodies.old bodies.new }
+    ensures taken { brings result ≡ true → HasRoomIn bodies.new name.now }
 {
     match bodies.get_mut(name) {
         Some(body) => body.receive(limits),
         None => Got::Wait,
+    }
+}
+
+/// Puts a message first, where there is room for it.
+pub fn put_back(bodies: &mut Bodies, name: &ChanName, message: Message)
+    requires { HasRoomIn bodies.old name.now }
+    ensures channels { chans_in bodies.new ≡ adjust (chans_in bodies.old) name.now (put_first message) }
+    ensures noted { noted_in bodies.new ≡ noted_in bodies.old }
+{
+    match bodies.get_mut(name) {
+        Some(body) => body.put_back(message),
+        None => {}
     }
 }
 

@@ -6,7 +6,7 @@ ghost use Rattle.fm_chan.specs.Events.{outports};
 ghost use Rattle.fm_chan.specs.Readers.{HasRoomToWake, count_of};
 
 use crate::body::{Body, Put};
-use crate::by_name::{Bodies, note, put, receive, reserve, shut};
+use crate::by_name::{Bodies, note, put, put_back, receive, reserve, shut};
 use crate::discarding::Discarding;
 use crate::message::{Got, Message};
 use crate::port::Port;
@@ -76,7 +76,8 @@ impl Channels {
     ghost use Rattle.fm_base.specs.Channels.{fresh, channel_of, Push, Pop, freed, shut, message_ports, all_shed};
     ghost use Rattle.fm_chan.specs.Bodies.{chans_of};
     ghost use Rattle.fm_chan.specs.Rooms.{HasRoom, KeepsRoom, KeepsOthersRoom};
-    ghost use Rattle.fm_chan.specs.Events.{is_outport, writer_number, chan_at, after_op, after_send, after_send_to};
+    ghost use Rattle.fm_chan.specs.Events.{is_outport, writer_number, chan_at, after_op, after_send, after_send_to, put_first};
+    ghost use Rattle.fm_finmap.specs.Changes.{adjust};
     ghost use Rattle.fm_chan.specs.Received.{got_at, brings, pops_at, waits_at};
     ghost use Rattle.fm_chan.specs.Rest.{left_ports};
     ghost use Rattle.fm_chan.specs.Woken.{waiting_reader, woken_of, Wakes, WakesAtEnd, WakesAll};
@@ -243,9 +244,19 @@ impl Channels {
         ensures channels { chans_of self.new ≡ after_op port.now (Pop limits.now) (chans_of self.old) }
         ensures unchanged { brings result ≡ false → chans_of self.new ≡ chans_of self.old }
         ensures room { KeepsRoom self.old self.new }
+        ensures taken { brings result ≡ true → HasRoom self.new (channel_of port.now) }
         ensures waking { Wakes self.old self.new }
     {
         receive(&mut self.bodies, port.channel(), limits)
+    }
+
+    /// Puts a message first, where there is room for it: one that was just received goes back to where it was. Takes no memory, and
+    /// wakes nobody.
+    pub fn put_back(&mut self, port: &Port, message: Message)
+        requires { HasRoom self.old (channel_of port.now) }
+        ensures { chans_of self.new ≡ adjust (chans_of self.old) (channel_of port.now) (put_first message) }
+    {
+        put_back(&mut self.bodies, port.channel(), message)
     }
 
     /// Notes that the process of this number waits for a message of the channel of this name, in place

@@ -6,6 +6,7 @@ use Rattle.fm_base.specs.declared.rule.Rule.TheVariants.{E45}
 use Rattle.fm_base.specs.Verdict.{place, when}
 use Rattle.fm_tree.specs.declared.program_unit.Entry.{Entry}
 use Rattle.fm_tree.specs.declared.program_unit.Unit.{Unit}
+use Rattle.fm_symbols.specs.declared.context.Scope.{Scope}
 use Rattle.fm_rules.specs.declared.calls.Call.{Call}
 use Rattle.fm_rules.specs.Race.{is_racy}
 
@@ -36,14 +37,15 @@ lower (Some best) line = Some (if nat_lt line.0 best.0 then line else best)
 abbrev pub lower_if : Bool → Option Line → Line → Option Line
 lower_if test best line = if test then lower best line else best
 
-abbrev pub racy_in : Option Line → List Entry → Option Line
-racy_in best [] = best
-racy_in best (e ∷ es) = racy_in (lower_if (is_racy e.stmt) best e.line) es
+-- of the racy entries of a unit
+abbrev pub racy_in : Option Scope → Option Line → List Entry → Option Line
+racy_in s best [] = best
+racy_in s best (e ∷ es) = racy_in s (lower_if (is_racy s e.stmt) best e.line) es
 
-abbrev pub racy_in_unit : Bool → Option Line → Unit → Option Line
-racy_in_unit flag best u = if flag then racy_in best u.body else best
+abbrev pub racy_in_unit : Option Scope → Bool → Option Line → Unit → Option Line
+racy_in_unit s flag best u = if flag then racy_in s best u.body else best
 
 -- in this unit and those behind it that have a flag
-abbrev pub racy_from : List Bool → ℕ → Option Line → List Unit → Option Line
-racy_from flags unit best [] = best
-racy_from flags unit best (u ∷ us) = racy_from flags (unit + 1) (racy_in_unit (slice_index_or flags unit false) best u) us
+abbrev pub racy_from : List Scope → List Bool → ℕ → Option Line → List Unit → Option Line
+racy_from scopes flags unit best [] = best
+racy_from scopes flags unit best (u ∷ us) = racy_from scopes flags (unit + 1) (racy_in_unit (slice_get scopes unit) (slice_index_or flags unit false) best u) us

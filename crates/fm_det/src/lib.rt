@@ -7,4 +7,4 @@ mod recursive;
 
 pub use calls::{all_calls, graph_of};
 pub use racing::{flag_at, lower_if, race};
-pub use recursive::recursion;
+pub use recursive::{recursion, same_name};

@@ -14,7 +14,8 @@ use fm_symbols::Context;
 use fm_tree::Units;
 use std::alloc::Global;
 
-fn same_name(first: Option<usize>, second: Option<usize>) -> bool
+/// Whether both are there and the same.
+pub fn same_name(first: Option<usize>, second: Option<usize>) -> bool
     ensures { result ≡ same_name first second }
 {
     match first {

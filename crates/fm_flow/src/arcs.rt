@@ -1,10 +1,10 @@
 //! Graphs by lists of arcs.
 
 ghost use Rattle.std.specs.Prelude.{◌≡◌, ◌+◌, [], replicate, OnOk, IfOk};
-ghost use Rattle.fm_det.specs.Search.{same_name};
 ghost use Rattle.fm_flow.specs.Arcs.{graph_by, is_together, with_arc};
 
 use fm_base::{NoMemory, Seq};
+use fm_det::same_name;
 use std::alloc::Global;
 
 /// The number of a node.
@@ -46,18 +46,6 @@ pub(crate) fn graph_by(
         add_arc(&mut graph, *arc)?;
     }
     Ok(graph)
-}
-
-fn same_name(first: Option<usize>, second: Option<usize>) -> bool
-    ensures { result ≡ same_name first second }
-{
-    match first {
-        None => false,
-        Some(first) => match second {
-            None => false,
-            Some(second) => first == second,
-        },
-    }
 }
 
 /// Whether two nodes are in one component, by the names of components.

@@ -2,14 +2,13 @@
 
 ghost use Rattle.std.specs.Prelude.{◌≡◌, ◌++◌, map, OnOk, IfOk};
 ghost use Rattle.std.specs.List.{flat_map};
-ghost use Rattle.fm_mean.specs.Actions.{arguments_in};
 ghost use Rattle.fm_plain_frame.specs.Units.{unit_of, variable_read};
 ghost use Rattle.fm_flow_law.specs.Flow.{channel_in, channel_out, channel_ports, given, is_outport, is_port, port_in, port_named, port_with};
 
 use fm_base::{Name, NoMemory, Seq};
-use fm_plain_frame::UnitView;
+use fm_plain_frame::{UnitView, arguments_in};
 use fm_symbols::Variable;
-use fm_tree::{CallPart, Expr, ExprNode, Kind, Simple, Stmt};
+use fm_tree::{Expr, ExprNode, Kind, Simple, Stmt};
 use std::alloc::Global;
 
 /// Whether a kind is that of a port.
@@ -68,15 +67,6 @@ fn add_argument(unit: &UnitView<'_>, tree: &Expr, ports: &mut Seq<usize>) -> Res
         ExprNode::Signed(_, _) => Ok(()),
         ExprNode::Not(_) => Ok(()),
         ExprNode::Binary(_, _, _) => Ok(()),
-    }
-}
-
-fn arguments_in(part: &Option<CallPart>) -> &[Expr]
-    ensures { result.now ≡ arguments_in part.now }
-{
-    match part {
-        None => &[],
-        Some(part) => part.arguments.as_slice(),
     }
 }
 

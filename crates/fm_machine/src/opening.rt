@@ -172,13 +172,13 @@ pub(crate) fn look_start(
     operands: &[Operand],
     place: &Place,
     body: &Body,
-) -> Result<Look, NoMemory>
-    ensures { IfOk result (λ l. l ≡ look_in (starts number (unit_at body.now number) body.now to operands.now place.now)) }
+) -> Look
+    ensures { result ≡ look_in (starts number (unit_at body.now number) body.now to operands.now place.now) }
 {
-    match seat_for(body, number, place)? {
-        None => Ok(Look::Stuck),
-        Some(Err(fault)) => Ok(Look::Asks(fail(body, fault))),
-        Some(Ok(seat)) => Ok(look_at_seat(number, to, operands, seat, body)),
+    match seat_for(body, number, place) {
+        None => Look::Stuck,
+        Some(Err(fault)) => Look::Asks(fail(body, fault)),
+        Some(Ok(seat)) => look_at_seat(number, to, operands, seat, body),
     }
 }
 
@@ -195,7 +195,7 @@ pub(crate) fn start(
     ensures tells { IfOk result (λ f. told f ≡ look_in (starts number (unit_at body.old number) body.old to operands.now place.now)) }
     ensures stays { IfOk result (λ f. Stays f body.old body.new) }
 {
-    match seat_for(body, number, place)? {
+    match seat_for(body, number, place) {
         None => Ok(Finish::Stuck),
         Some(Err(fault)) => Ok(Finish::Asks(fail(body, fault))),
         Some(Ok(seat)) => match add_start(alloc, number, to, operands, seat, body)? {

@@ -405,7 +405,9 @@ pub(crate) fn look(
         StatementEnd::Prints(_) => Ok(Look::Goes),
         StatementEnd::Calls(unit, to) => Ok(look_open(unit, to, false, operands, body)),
         StatementEnd::Refers(unit, to) => Ok(look_open(unit, to, true, operands, body)),
-        StatementEnd::Starts(unit, to) => look_start(unit, to, operands, &scratch.place, body),
+        StatementEnd::Starts(unit, to) => {
+            Ok(look_start(unit, to, operands, &scratch.place, body))
+        }
         StatementEnd::Over(ending) => look_at_ending(alloc, ending, body),
     }
 }

@@ -1,11 +1,11 @@
 //! Machines and nodes of processes.
 
-ghost use Rattle.std.specs.Prelude.{◌≡◌, IfOk};
-ghost use Rattle.fm_map.specs.Placement.{at_node, fitted, located, node_of, parted, product};
+ghost use Rattle.std.specs.Prelude.{◌≡◌, ◌*◌};
+ghost use Rattle.fm_map.specs.Placement.{at_first, at_node, fitted, located, no_more, parted, product};
 
 use crate::nodes::place;
-use crate::parts::{is_numbered, part};
-use fm_base::{Fault, Machine, NoMemory};
+use crate::parts::part;
+use fm_base::{Fault, Machine};
 
 /// A machine and a node of it, or why there is none.
 pub type Seat = Result<(Machine, u32), Fault>;
@@ -25,63 +25,69 @@ fn at_node(node: Option<u32>) -> Seat
     }
 }
 
-/// How many nodes a shape has.
-fn product(extents: &[u32]) -> Result<u32, NoMemory>
-    ensures { IfOk result (λ n. n ≡ product extents.now) }
+fn at_first(part: Option<Machine>) -> Seat
+    ensures { result ≡ at_first part }
 {
-    let mut product: u32 = 1;
-    'extents: for extent in extents {
-        product = product.checked_mul(*extent).ok_or(NoMemory)?;
+    match part {
+        Some(part) => Ok((part, part.first)),
+        None => Err(Fault::BadMachine),
     }
-    Ok(product)
 }
 
-// One node of the machine, by a shape. The machine of a process has the nodes of its shape: what has
-// fewer is no machine of a run.
-fn shaped(machine: Machine, extents: &[u32], subscripts: &[i64]) -> Result<Seat, NoMemory>
-    ensures { IfOk result (λ s. s ≡ at_node (node_of machine extents.now subscripts.now)) }
+// The product of two numbers that are no more than a limit, where it is no more either.
+fn times(limit: u32, extent: u32, behind: u32) -> Option<u32>
+    ensures { result ≡ no_more limit (extent * behind) }
 {
-    if machine.count < product(extents)? || !is_numbered(machine) {
-        return Err(NoMemory);
-    }
-    Ok(at_node(place(machine, extents, subscripts)))
-}
-
-/// LOCATION: one node of the machine, by the shape of the unit that calls.
-pub fn located(extents: &[u32], machine: Machine, subscripts: &[i64]) -> Result<Seat, NoMemory>
-    ensures { IfOk result (λ s. s ≡ located extents.now machine subscripts.now) }
-{
-    if extents.is_empty() {
-        shaped(machine, &[machine.count], subscripts)
+    let product = u64::from(extent) * u64::from(behind);
+    if product <= u64::from(limit) {
+        Some(product as u32)
     } else {
-        shaped(machine, extents, subscripts)
+        None
     }
 }
 
-/// SUBMACHINE: nodes of the machine from one to another, counted from 1.
-pub fn parted(machine: Machine, low: i64, high: i64) -> Result<Seat, NoMemory>
-    ensures { IfOk result (λ s. s ≡ parted machine low high) }
+/// How many nodes a shape has, where these are no more than a limit.
+fn product(limit: u32, extents: &[u32]) -> Option<u32>
+    ensures { result ≡ no_more limit (product extents.now) }
 {
-    if !is_numbered(machine) {
-        return Err(NoMemory);
+    let Some((extent, extents)) = extents.split_first() else {
+        return times(limit, 1, 1);
+    };
+    if *extent == 0 {
+        return Some(0);
     }
-    match part(machine, low, high) {
-        Some(part) => Ok(Ok((part, part.first))),
-        None => Ok(Err(Fault::BadMachine)),
-    }
+    let behind = product(limit, extents)?;
+    times(limit, *extent, behind)
 }
 
-/// What a unit takes of the machine at which it is put: as many nodes as its shape has, from the first on.
-pub fn fitted(extents: &[u32], machine: Machine, node: u32) -> Result<Seat, NoMemory>
-    ensures { IfOk result (λ s. s ≡ fitted extents.now (machine, node)) }
+/// LOCATION: one node of the machine, by the shape of the unit that calls. Takes no memory.
+pub fn located(extents: &[u32], machine: Machine, subscripts: &[i64]) -> Seat
+    ensures { result ≡ located extents.now machine subscripts.now }
 {
     if extents.is_empty() {
-        return Ok(Ok((machine, node)));
+        at_node(place(machine, &[machine.count], subscripts))
+    } else {
+        at_node(place(machine, extents, subscripts))
     }
-    let count = product(extents)?;
-    if machine.count < count {
-        return Ok(Err(Fault::BadMachine));
+}
+
+/// SUBMACHINE: nodes of the machine from one to another, counted from 1. Takes no memory.
+pub fn parted(machine: Machine, low: i64, high: i64) -> Seat
+    ensures { result ≡ parted machine low high }
+{
+    at_first(part(machine, low, high))
+}
+
+/// What a unit takes of the machine at which it is put: as many nodes as its shape has, from the first on. Takes no memory.
+pub fn fitted(extents: &[u32], machine: Machine, node: u32) -> Seat
+    ensures { result ≡ fitted extents.now (machine, node) }
+{
+    if extents.is_empty() {
+        return Ok((machine, node));
     }
     let first = machine.first;
-    Ok(Ok((Machine { first, count }, node)))
+    match product(machine.count, extents) {
+        Some(count) => Ok((Machine { first, count }, node)),
+        None => Err(Fault::BadMachine),
+    }
 }

@@ -1,6 +1,6 @@
 -- In a deterministic program every process stays in units that the PROGRAM reaches, and so none of its steps
--- looks at a channel or makes one with a second writer.
-use Rattle.std.proofs.Common.{◌≡◌, ℕ, zero, suc, ℤ, pos, Bool, true, false, cond, Option, Some, None, List, [], ◌∷◌, ◌++◌, map, length, slice_get, Result, Ok, Err, refl, ap, sym, subst, ◌∙◌, arith}
+-- looks at a channel or makes one with a second writer. A MERGER of one writer makes a channel as CHANNEL does.
+use Rattle.std.proofs.Common.{◌≡◌, ◌≤◌, ◌+◌, ℕ, zero, suc, ℤ, pos, Bool, true, false, cond, Option, Some, None, List, [], ◌∷◌, ◌++◌, map, length, slice_get, Result, Ok, Err, refl, ap, sym, subst, ◌∙◌, arith}
 use Rattle.std.specs.Prelude.{Contains, slice_index_or, option_and_then}
 use Rattle.std.specs.List.{flat_map}
 use Rattle.std.specs.Option.{option_map}
@@ -25,6 +25,7 @@ use Rattle.fm_tree.specs.declared.form.UnitKind.{UnitKind}
 use Rattle.fm_tree.specs.declared.form.UnitKind.TheVariants as unit_kind
 use Rattle.fm_tree.specs.declared.program_unit.Entry.{Entry}
 use Rattle.fm_tree.specs.declared.program_unit.Unit as tree
+use Rattle.fm_tree.specs.declared.statement.Var.{Var}
 use Rattle.fm_tree.specs.declared.statement.Where.{Where}
 use Rattle.fm_tree.specs.declared.statement.Simple.{Simple}
 use Rattle.fm_tree.specs.declared.statement.Simple.TheVariants as simple
@@ -43,7 +44,7 @@ use Rattle.fm_graph.specs.Graph.{IsEdge, IsWalk}
 use Rattle.fm_rules.specs.declared.calls.Call as graph
 use Rattle.fm_rules.specs.Calls.{called, process_called, call_to, call_by, referring, process_call, calls_in, calls_of}
 use Rattle.fm_rules.specs.Calls as edge
-use Rattle.fm_rules.specs.Race.{is_racy}
+use Rattle.fm_rules.specs.Race.{are_several, is_racy}
 use Rattle.fm_rules.proofs.Lists.{at_head, behind_head, in_map, some_same}
 use Rattle.fm_net.specs.Typed.{AllIn}
 use Rattle.fm_net.specs.Plain.{IsPlainAsk, KeepsPlain}
@@ -57,9 +58,10 @@ use Rattle.fm_mean.specs.Process.{Start, Frame, Execution, Kid, Phase, Running, 
 use Rattle.fm_map.specs.Placement.{Seat}
 use Rattle.fm_mean.specs.Calls.{child_of, ended_frames}
 use Rattle.fm_mean.specs.Actions as action
-use Rattle.fm_mean.specs.Actions.{Event, Fail, Make, Send, Receive, Probe, Begin, Join, End, Action, Rest, Own, Meets, at_entry, gone_on, Receiving, Loop, Counted, While, NoLoop, scalar_place, action_in, scope_of}
+use Rattle.fm_mean.specs.Actions.{Event, Fail, Make, Send, Receive, Probe, Begin, Join, End, Action, Rest, Own, Meets, at_entry, gone_on, Receiving, Loop, Counted, While, NoLoop, scalar_place, action_in, scope_of, elements_of, merger_places}
 use Rattle.fm_mean.specs.Steps.{received, ask_at, ask_event, ask_for, language}
 use Rattle.fm_mean.specs.Determinism.{IsDeterministic, calls_among, IsReached}
+use Rattle.fm_mean.proofs.Writers.{one_writer}
 
 -- a process in units that main reaches
 abbrev pub IsReachedStart : Program → Start → Type 0
@@ -312,6 +314,11 @@ module _ (p : Program) (det : IsDeterministic p) (x : Proc) (plain : IsWithin p 
     makes e (Err fault) = fails (line_of e) fault
     makes e (Ok r) = meets (Make (r.0 ∷ r.1 ∷ []) 1 1 e.entry.after) (record { single = omega arith; goes_on = λ d y all. ((top, rest), tt) })
 
+    merges : (e : Point) (r : Result (Span × List Span) Fault) → ((v : Span × List Span) → r ≡ Ok v → length (elements_of v.1) ≤ 1) → PlainOf p x (action.merges e r)
+    merges e (Err fault) one = fails (line_of e) fault
+    merges e (Ok r) one =
+        meets (Make (r.0 ∷ elements_of r.1) (length (elements_of r.1)) (1 + length (elements_of r.1)) e.entry.after) (record { single = one r refl; goes_on = λ d y all. ((top, rest), tt) })
+
     taken : (line next : ℕ) (items : List Span) (iostat : Option Span) (to : Option ℕ) (m : Option Message)
         → IsWithin p (received x line below f next items iostat to m).self × AllIn (IsWithin p) (received x line below f next items iostat to m).starts
     taken line next items iostat to (Some m) = ((top, rest), tt)
@@ -380,7 +387,7 @@ module _ (p : Program) (det : IsDeterministic p) (x : Proc) (plain : IsWithin p 
     references n (Not t) is = tt
     references n (Binary op a b) is = tt
 
-    calm : is_racy e.entry.stmt ≡ true → ⊥
+    calm : is_racy (slice_get (context p).scopes f.unit) e.entry.stmt ≡ true → ⊥
     calm racy = det e.entry.line.0 (record {
       main = top.0.main;
       starts = top.0.starts;
@@ -394,61 +401,65 @@ module _ (p : Program) (det : IsDeterministic p) (x : Proc) (plain : IsWithin p 
       at = refl;
     })
 
-    simple_plain : (s : Scope) (k : Simple) → e.entry.stmt ≡ stmt.Simple k → PlainOf p x (action.simple_action p x.execution u e f below s k)
-    unfolding called is_racy
-    simple_plain s (simple.Assignment v t) is = assigns f below at top rest e _ _
-    simple_plain s (simple.Goto l) is = jumps f below at top rest e.links.jump
-    simple_plain s simple.Continue is = goes f below at top rest e.entry.after
-    simple_plain s simple.Return is = returns u f below at rest (kind_of u)
-    simple_plain s simple.Stop is = ends f below at
-    simple_plain s (simple.Call name args) is = calls f below at top rest e (unit_named p name) _ (λ v named. reached name v (by_call (ap called is)) named)
-    simple_plain s (simple.Print items) is = prints f below at top rest e _
-    simple_plain s (simple.Write unit items) is = prints f below at top rest e _
-    simple_plain s (simple.Channel in_first i o) is = makes f below at top rest e _
-    simple_plain s (simple.Merger i os) is = absurd (calm (ap is_racy is))
-    simple_plain s (simple.Send named q items) is = sends f below at top rest e _ _
-    simple_plain s (simple.Receive named q extras items) is = receives f below at top rest e _
-    simple_plain s (simple.EndChannel named q) is = closes f below at top rest e _
-    simple_plain s (simple.MovePort from to) is = moves f below at top rest e _
-    simple_plain s (simple.Probe named q empty) is = absurd (calm (ap is_racy is))
+    alone : (os : List Var) → (are_several (slice_get (context p).scopes f.unit) os ≡ true → ⊥) → are_several (slice_get (context p).scopes f.unit) os ≡ false
+    alone os never = elim (are_several (slice_get (context p).scopes f.unit) os) as (λ (b : Bool). (b ≡ true → ⊥) → b ≡ false) [ true ↦ λ h. absurd (h refl) | false ↦ λ h. refl ] never
 
-    statement_plain : (s : Scope) (k : Stmt) → e.entry.stmt ≡ k → PlainOf p x (action.statement_action p x.execution u e f below s k)
+    simple_plain : (s : Scope) → unit_at p f.unit ≡ Some s.unit → (k : Simple) → e.entry.stmt ≡ stmt.Simple k → PlainOf p x (action.simple_action p x.execution u e f below s k)
+    unfolding called is_racy
+    simple_plain s here (simple.Assignment v t) is = assigns f below at top rest e _ _
+    simple_plain s here (simple.Goto l) is = jumps f below at top rest e.links.jump
+    simple_plain s here simple.Continue is = goes f below at top rest e.entry.after
+    simple_plain s here simple.Return is = returns u f below at rest (kind_of u)
+    simple_plain s here simple.Stop is = ends f below at
+    simple_plain s here (simple.Call name args) is = calls f below at top rest e (unit_named p name) _ (λ v named. reached name v (by_call (ap called is)) named)
+    simple_plain s here (simple.Print items) is = prints f below at top rest e _
+    simple_plain s here (simple.Write unit items) is = prints f below at top rest e _
+    simple_plain s here (simple.Channel in_first i o) is = makes f below at top rest e _
+    simple_plain s here (simple.Merger i os) is =
+        merges f below at top rest e (merger_places s i os) (λ v made. one_writer p f.unit s here i os v (alone os (λ several. calm (ap (is_racy (slice_get (context p).scopes f.unit)) is ∙ several))) made)
+    simple_plain s here (simple.Send named q items) is = sends f below at top rest e _ _
+    simple_plain s here (simple.Receive named q extras items) is = receives f below at top rest e _
+    simple_plain s here (simple.EndChannel named q) is = closes f below at top rest e _
+    simple_plain s here (simple.MovePort from to) is = moves f below at top rest e _
+    simple_plain s here (simple.Probe named q empty) is = absurd (calm (ap (is_racy (slice_get (context p).scopes f.unit)) is))
+
+    statement_plain : (s : Scope) → unit_at p f.unit ≡ Some s.unit → (k : Stmt) → e.entry.stmt ≡ k → PlainOf p x (action.statement_action p x.execution u e f below s k)
     unfolding process_called
-    statement_plain s (stmt.Simple k) is = simple_plain s k is
-    statement_plain s (stmt.LogicalIf t k) is = tests f below at top rest e _
-    statement_plain s (stmt.BlockIf t) is = tests f below at top rest e _
-    statement_plain s (stmt.ElseIf t) is = tests f below at top rest e _
-    statement_plain s stmt.Else is = goes f below at top rest e.entry.after
-    statement_plain s stmt.EndIf is = goes f below at top rest e.entry.after
-    statement_plain s (stmt.Do h) is = loops f below at top rest e (scalar_place (variable_of u h.variable)) (action.loop_bounds s h)
-    statement_plain s (stmt.ProcessDo h) is = loops f below at top rest e (scalar_place (variable_of u h.variable)) (action.loop_bounds s h)
-    statement_plain s (stmt.DoWhile t) is = tests f below at top rest e _
-    statement_plain s stmt.EndDo is = end_of f below at top rest u e e.entry.mate
-    statement_plain s stmt.EndProcessDo is = end_of f below at top rest u e e.entry.mate
-    statement_plain s stmt.LoopEnd is = end_of f below at top rest u e e.entry.mate
-    statement_plain s stmt.End is = returns u f below at rest (kind_of u)
-    statement_plain s stmt.Processes is = goes f below at top rest e.entry.after
-    statement_plain s stmt.EndProcesses is = begin f below at top rest
-    statement_plain s (stmt.ProcessCall name part) is = process_calls f below at top rest s e (unit_named p name) _ _ (λ v named. reached name v (by_process_call (ap process_called is)) named)
-    statement_plain s (stmt.Program name) is = tt
-    statement_plain s (stmt.Process name formals) is = tt
-    statement_plain s (stmt.Subroutine name formals) is = tt
-    statement_plain s (stmt.Function name formals) is = tt
-    statement_plain s (stmt.IntegerFunction name formals) is = tt
-    statement_plain s (stmt.LogicalFunction name formals) is = tt
-    statement_plain s stmt.ImplicitNone is = tt
-    statement_plain s (stmt.Integer ds) is = tt
-    statement_plain s (stmt.Logical ds) is = tt
-    statement_plain s (stmt.Dimension ds) is = tt
-    statement_plain s (stmt.Parameter ds) is = tt
-    statement_plain s (stmt.Inport t ds) is = tt
-    statement_plain s (stmt.Outport t ds) is = tt
-    statement_plain s (stmt.Intent w names) is = tt
-    statement_plain s (stmt.Processors es) is = tt
+    statement_plain s here (stmt.Simple k) is = simple_plain s here k is
+    statement_plain s here (stmt.LogicalIf t k) is = tests f below at top rest e _
+    statement_plain s here (stmt.BlockIf t) is = tests f below at top rest e _
+    statement_plain s here (stmt.ElseIf t) is = tests f below at top rest e _
+    statement_plain s here stmt.Else is = goes f below at top rest e.entry.after
+    statement_plain s here stmt.EndIf is = goes f below at top rest e.entry.after
+    statement_plain s here (stmt.Do h) is = loops f below at top rest e (scalar_place (variable_of u h.variable)) (action.loop_bounds s h)
+    statement_plain s here (stmt.ProcessDo h) is = loops f below at top rest e (scalar_place (variable_of u h.variable)) (action.loop_bounds s h)
+    statement_plain s here (stmt.DoWhile t) is = tests f below at top rest e _
+    statement_plain s here stmt.EndDo is = end_of f below at top rest u e e.entry.mate
+    statement_plain s here stmt.EndProcessDo is = end_of f below at top rest u e e.entry.mate
+    statement_plain s here stmt.LoopEnd is = end_of f below at top rest u e e.entry.mate
+    statement_plain s here stmt.End is = returns u f below at rest (kind_of u)
+    statement_plain s here stmt.Processes is = goes f below at top rest e.entry.after
+    statement_plain s here stmt.EndProcesses is = begin f below at top rest
+    statement_plain s here (stmt.ProcessCall name part) is = process_calls f below at top rest s e (unit_named p name) _ _ (λ v named. reached name v (by_process_call (ap process_called is)) named)
+    statement_plain s here (stmt.Program name) is = tt
+    statement_plain s here (stmt.Process name formals) is = tt
+    statement_plain s here (stmt.Subroutine name formals) is = tt
+    statement_plain s here (stmt.Function name formals) is = tt
+    statement_plain s here (stmt.IntegerFunction name formals) is = tt
+    statement_plain s here (stmt.LogicalFunction name formals) is = tt
+    statement_plain s here stmt.ImplicitNone is = tt
+    statement_plain s here (stmt.Integer ds) is = tt
+    statement_plain s here (stmt.Logical ds) is = tt
+    statement_plain s here (stmt.Dimension ds) is = tt
+    statement_plain s here (stmt.Parameter ds) is = tt
+    statement_plain s here (stmt.Inport t ds) is = tt
+    statement_plain s here (stmt.Outport t ds) is = tt
+    statement_plain s here (stmt.Intent w names) is = tt
+    statement_plain s here (stmt.Processors es) is = tt
 
     by_plain : (n : ℕ) (t : Option Tree) → action.next_reference e.entry n ≡ t → PlainOf p x (action.action_by p x.execution u e f below t)
     by_plain n (Some t) is = references n t is
-    by_plain n None is = statement_plain (scope_of p u f) e.entry.stmt refl
+    by_plain n None is = statement_plain (scope_of p u f) is_unit e.entry.stmt refl
 
   point_plain : (f : Frame) (below : List Frame) → x.execution.frames ≡ f ∷ below → IsReachedFrame p f → AllIn (IsReachedFrame p) below → (u : ProgramUnit) → unit_at p f.unit ≡ Some u → (e : Option Point) → point_at u f.entry ≡ e
       → PlainOf p x (action.point_action p x.execution u f below e)

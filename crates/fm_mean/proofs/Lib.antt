@@ -1,6 +1,7 @@
 pub mod Exchanges
 pub mod Calling
 pub mod Lawful
+pub mod Writers
 pub mod Determined
 pub mod Fitting
 pub mod Sorts

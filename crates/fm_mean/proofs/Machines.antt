@@ -1,4 +1,4 @@
--- Each process is on the first node of its machine, whose nodes are numbered below 65,536, and has as many as PROCESSORS of the
+-- Each process is on the first node of its machine, whose nodes are among those of main's, and has as many as PROCESSORS of the
 -- units at work asks for.
 use Rattle.std.proofs.Common.{◌≡◌, ℕ, suc, ◌+◌, ◌*◌, ◌<◌, ◌≤◌, ℤ, pos, negsuc, Bool, true, false, ◌&&◌, cond, Option, Some, None, List, [], ◌∷◌, ◌++◌, map, length, slice_get, Result, Ok, Err, refl, sym, ap, ◌∙◌, subst, arith, mul-suc, mul-le-mul_left}
 use Rattle.std.specs.Prelude.{if◌then◌else◌, int_le, nat_lt, unsigned_abs, option_map, ◌-ℤ◌, ◌≤ℤ◌}
@@ -34,7 +34,7 @@ use Rattle.fm_tree.specs.declared.statement.Stmt.TheVariants as stmt
 use Rattle.fm_symbols.specs.Context.{scope_of}
 use Rattle.fm_symbols.specs.declared.context.Scope as symbols
 use Rattle.fm_symbols.specs.Headings.{is_function}
-use Rattle.fm_map.specs.Placement.{Seat, product, shape_of, place_in, at_node, located, at_first, parted, fitted}
+use Rattle.fm_map.specs.Placement.{Seat, product, shape_of, place_in, is_numbered, one_of, at_node, located, at_first, parted, fitted}
 use Rattle.fm_sched.specs.Schedule.{Throughout}
 use Rattle.fm_net.specs.Machine.{Ask}
 use Rattle.fm_net.specs.Typed.{AllIn, IsTyped, IsTypedAsk, IsTypedLanguage}
@@ -59,7 +59,7 @@ use Rattle.fm_mean.specs.Process.{Start, Frame, framed, Kid, Phase, Running, Joi
 use Rattle.fm_mean.specs.Calls.{child_of, ended_frames}
 use Rattle.fm_mean.specs.Actions as action
 use Rattle.fm_mean.specs.Actions.{Event, Fail, Make, Send, Receive, Probe, Begin, Join, End, Action, Rest, Own, Meets, at_entry, gone_on, Receiving, Loop, Counted, While, NoLoop, scalar_place, action_in, elements_of}
-use Rattle.fm_mean.specs.Machines.{HasNodes, HasNodesOf, HasMachine, HaveMachines}
+use Rattle.fm_mean.specs.Machines.{HasNodes, HasNodesOf, HasMachine, HaveMachines, main_nodes}
 use Rattle.fm_mean.specs.Steps.{received, ask_at, ask_event, ask_for, main_in, main_by, nodes_of, proc_of, first_proc, first, language, step}
 use Rattle.fm_mean.proofs.JudgedPrograms.{flags_here}
 use Rattle.fm_mean.proofs.JudgedReferences.{reference_calls}
@@ -79,11 +79,11 @@ the_unit a b e = cc
 
 -- ---- seats
 
--- on the first of nodes that are numbered below 65,536
-record IsSeat (s : Seat) : Type 0 where
+-- on the first of nodes that are among so many
+record IsSeat (most : ℕ) (s : Seat) : Type 0 where
   first : s.1 ≡ s.0.first
   some : 1 ≤ s.0.count
-  few : s.0.first + s.0.count ≤ 65536
+  few : s.0.first + s.0.count ≤ most
 
 the_seat : (a b : Seat) → ◌≡◌ {A = Result Seat Fault} (Ok a) (Ok b) → a ≡ b
 the_seat a b e = cc
@@ -114,7 +114,7 @@ offset_low e k h =
     omega (arith, far, natural_abs (k -ℤ pos 1) (omega (arith, ints, down)))
 
 -- subscripts within a shape lead to one of its nodes
-place_low : (es : List ℕ) (ks : List ℤ) (j : ℕ) → place_in es ks ≡ Some j → j < product es
+pub place_low : (es : List ℕ) (ks : List ℤ) (j : ℕ) → place_in es ks ≡ Some j → j < product es
 place_low [] [] j at = omega (arith, the_place 0 j at)
 place_low [] (k ∷ ks) j at = absurd (cc at)
 place_low (e ∷ es) [] j at = absurd (cc at)
@@ -132,23 +132,28 @@ shape_count : (es : List ℕ) (m : Machine) → HasNodes m es → product (shape
 shape_count [] m h = omega arith
 shape_count (e ∷ es) m h = sym h
 
-module _ (m : Machine) (k : ℕ) (here : IsSeat (m, k)) where
-  located_seat : (es : List ℕ) (xs : List ℤ) (t : Seat) → HasNodes m es → located es m xs ≡ Ok t → IsSeat t
-  located_seat es xs t nodes e = go (place_in (shape_of es m) xs) refl e
+module _ (most : ℕ) (m : Machine) (k : ℕ) (here : IsSeat most (m, k)) where
+  located_seat : (es : List ℕ) (xs : List ℤ) (t : Seat) → HasNodes m es → located es m xs ≡ Ok t → IsSeat most t
+  located_seat es xs t nodes e = go (place_in (shape_of es m) xs) refl (is_numbered m) e
     where
-      go : (o : Option ℕ) → place_in (shape_of es m) xs ≡ o → at_node (option_map (λ n. m.first + n) o) ≡ Ok t → IsSeat t
-      go None at e = absurd (cc e)
-      go (Some j) at e =
+      at_one : (j : ℕ) → place_in (shape_of es m) xs ≡ Some j → (b : Bool) → at_node (option_map (λ n. m.first + n) (cond b (Some j) None)) ≡ Ok t → IsSeat most t
+      at_one j at false e = absurd (cc e)
+      at_one j at true e =
           let low = place_low (shape_of es m) xs j at in
-          subst IsSeat (the_seat (record { first = m.first + j; count = 1 }, m.first + j) t e) (record { first = refl; some = omega arith; few = omega (arith, low, shape_count es m nodes, here.few) })
+          subst (IsSeat most) (the_seat (record { first = m.first + j; count = 1 }, m.first + j) t e) (record { first = refl; some = omega arith; few = omega (arith, low, shape_count es m nodes, here.few) })
 
-  parted_seat : (lo hi : ℤ) (t : Seat) → parted m lo hi ≡ Ok t → IsSeat t
-  parted_seat lo hi t e = go (int_le (pos 1) lo && (int_le lo hi && int_le hi (pos m.count))) refl e
+      go : (o : Option ℕ) → place_in (shape_of es m) xs ≡ o → (b : Bool) → at_node (cond b (option_map (λ n. m.first + n) (one_of m.count o)) None) ≡ Ok t → IsSeat most t
+      go o at false e = absurd (cc e)
+      go None at true e = absurd (cc e)
+      go (Some j) at true e = at_one j at (nat_lt j m.count) e
+
+  parted_seat : (lo hi : ℤ) (t : Seat) → parted m lo hi ≡ Ok t → IsSeat most t
+  parted_seat lo hi t e = numbered (is_numbered m) e
     where
       part : Machine
       part = record { first = m.first + natural (lo -ℤ pos 1); count = suc (natural (hi -ℤ lo)) }
 
-      go : (b : Bool) → (int_le (pos 1) lo && (int_le lo hi && int_le hi (pos m.count))) ≡ b → at_first (cond b (Some (record { first = m.first + natural (lo -ℤ pos 1); count = suc (natural (hi -ℤ lo)) })) None) ≡ Ok t → IsSeat t
+      go : (b : Bool) → (int_le (pos 1) lo && (int_le lo hi && int_le hi (pos m.count))) ≡ b → at_first (cond b (Some (record { first = m.first + natural (lo -ℤ pos 1); count = suc (natural (hi -ℤ lo)) })) None) ≡ Ok t → IsSeat most t
       go false is e = absurd (cc e)
       go true is e =
           let p = both_true (int_le (pos 1) lo) (int_le lo hi && int_le hi (pos m.count)) is in
@@ -159,12 +164,16 @@ module _ (m : Machine) (k : ℕ) (here : IsSeat (m, k)) where
           let a = natural_abs (lo -ℤ pos 1) (omega (arith, ints, one)) in
           let b = natural_abs (hi -ℤ lo) (omega (arith, ints, up)) in
           let far : unsigned_abs (lo -ℤ pos 1) + suc (unsigned_abs (hi -ℤ lo)) ≤ m.count = omega (arith, ints, one, up, last) in
-          let small : (m.first + natural (lo -ℤ pos 1)) + suc (natural (hi -ℤ lo)) ≤ 65536 = omega (arith, far, a, b, here.few) in
-          subst IsSeat (the_seat (record { first = m.first + natural (lo -ℤ pos 1); count = suc (natural (hi -ℤ lo)) }, m.first + natural (lo -ℤ pos 1)) t e)
+          let small : (m.first + natural (lo -ℤ pos 1)) + suc (natural (hi -ℤ lo)) ≤ most = omega (arith, far, a, b, here.few) in
+          subst (IsSeat most) (the_seat (record { first = m.first + natural (lo -ℤ pos 1); count = suc (natural (hi -ℤ lo)) }, m.first + natural (lo -ℤ pos 1)) t e)
           (record { first = refl; some = omega arith; few = small })
 
-  seat_put : (s : Scope) (w : Option Where) (n : ℕ) (t : Seat) → HasNodes m s.unit.names.extents → action.seat_at s m (m, k) w n ≡ Ok t → IsSeat t
-  seat_put s None n t nodes e = subst IsSeat (the_seat (m, k) t e) here
+      numbered : (b : Bool) → at_first (cond (b && (int_le (pos 1) lo && (int_le lo hi && int_le hi (pos m.count)))) (Some part) None) ≡ Ok t → IsSeat most t
+      numbered false e = absurd (cc e)
+      numbered true e = go (int_le (pos 1) lo && (int_le lo hi && int_le hi (pos m.count))) refl e
+
+  seat_put : (s : Scope) (w : Option Where) (n : ℕ) (t : Seat) → HasNodes m s.unit.names.extents → action.seat_at s m (m, k) w n ≡ Ok t → IsSeat most t
+  seat_put s None n t nodes e = subst (IsSeat most) (the_seat (m, k) t e) here
   seat_put s (Some (put_at.Location ks)) n t nodes e =
       let a = parts (numbers_of s (trees_from ks) n) _ t e in
       located_seat s.unit.names.extents a.0 t nodes a.2
@@ -173,30 +182,30 @@ module _ (m : Machine) (k : ℕ) (here : IsSeat (m, k)) where
       let b = parts (number_of s hi (n + refs_in s lo)) _ t a.2 in
       parted_seat a.0 b.0 t b.2
 
-fitted_put : (es : List ℕ) (s t : Seat) → 1 ≤ product es → IsSeat s → fitted es s ≡ Ok t → IsSeat t × HasNodes t.0 es
-fitted_put [] s t some h e = (subst IsSeat (the_seat s t e) h, tt)
-fitted_put (d ∷ es) s t some h e = go (nat_lt s.0.count (product (d ∷ es))) refl e
+fitted_put : (most : ℕ) (es : List ℕ) (s t : Seat) → 1 ≤ product es → IsSeat most s → fitted es s ≡ Ok t → IsSeat most t × HasNodes t.0 es
+fitted_put most [] s t some h e = (subst (IsSeat most) (the_seat s t e) h, tt)
+fitted_put most (d ∷ es) s t some h e = go (nat_lt s.0.count (product (d ∷ es))) refl e
   where
     no_more : (n m : ℕ) → nat_lt n m ≡ false → m ≤ n
     no_more n m is = grind (arith, nat_tests)
 
-    go : (b : Bool) → nat_lt s.0.count (product (d ∷ es)) ≡ b → cond {A = Result Seat Fault} b (Err BadMachine) (Ok (record { first = s.0.first; count = product (d ∷ es) }, s.1)) ≡ Ok t → IsSeat t × HasNodes t.0 (d ∷ es)
+    go : (b : Bool) → nat_lt s.0.count (product (d ∷ es)) ≡ b → cond {A = Result Seat Fault} b (Err BadMachine) (Ok (record { first = s.0.first; count = product (d ∷ es) }, s.1)) ≡ Ok t → IsSeat most t × HasNodes t.0 (d ∷ es)
     go true is e' = absurd (cc e')
     go false is e' =
         let room = no_more s.0.count (product (d ∷ es)) is in
-        subst (λ (t : Seat). IsSeat t × HasNodes t.0 (d ∷ es)) (the_seat (record { first = s.0.first; count = product (d ∷ es) }, s.1) t e')
+        subst (λ (t : Seat). IsSeat most t × HasNodes t.0 (d ∷ es)) (the_seat (record { first = s.0.first; count = product (d ∷ es) }, s.1) t e')
         (record { first = h.first; some = some; few = omega (arith, room, h.few) }, refl)
 
 -- ---- what holds of a process, with starts that will be
 
 abbrev StartPut : Program → Start → Type 0
-StartPut p s = IsSeat (s.machine, s.node) × HasNodesOf p s.machine s.unit
+StartPut p s = IsSeat (main_nodes p) (s.machine, s.node) × HasNodesOf p s.machine s.unit
 
 abbrev FramePut : Program → Machine → Frame → Type 0
 FramePut p m f = HasNodesOf p m f.unit × AllIn (StartPut p) f.starts
 
 abbrev IsPut : Program → Proc → Type 0
-IsPut p x = IsSeat (x.execution.machine, x.execution.node) × AllIn (FramePut p x.execution.machine) x.execution.frames
+IsPut p x = IsSeat (main_nodes p) (x.execution.machine, x.execution.node) × AllIn (FramePut p x.execution.machine) x.execution.frames
 
 -- channels have no types here
 abbrev NoTypes : Type 0
@@ -444,7 +453,7 @@ module _ (p : Program) (x : Proc) where
     receives e (Err fault) = fails (line_of e) fault
     receives e (Ok r) = receives_at e r (port_at f.values r.0)
 
-    starts_one : (e : Point) (n : ℕ) (u : ProgramUnit) (r : Result (List Actual × Seat) Fault) → (IsPut p x → (y : List Actual × Seat) → r ≡ Ok y → IsSeat y.1 × HasNodesOf p y.1.0 n) → PutOf p x (action.starts_one x.execution e f below n u r)
+    starts_one : (e : Point) (n : ℕ) (u : ProgramUnit) (r : Result (List Actual × Seat) Fault) → (IsPut p x → (y : List Actual × Seat) → r ≡ Ok y → IsSeat (main_nodes p) y.1 × HasNodesOf p y.1.0 n) → PutOf p x (action.starts_one x.execution e f below n u r)
     starts_one e n u (Err fault) h = fails (line_of e) fault
     starts_one e n u (Ok r) h = lone _ [] _ _ (λ fine. (((seated fine).0.0, starts_last p f.starts _ (seated fine).0.1 (h fine r refl)), (seated fine).1))
 
@@ -459,9 +468,9 @@ module _ (p : Program) (x : Proc) where
         let d = parts (fitted v.1.names.extents b.0) _ y b.2 in
         let same : (a.0, d.0) ≡ y = the_pair (a.0, d.0) y (d.2) in
         let unit = there v refl in
-        let seat = seat_put x.execution.machine x.execution.node fine.0 s w (refs_in_all s (trees_from args)) b.0 ((seated fine).0.0 u is) b.1 in
-        let put = fitted_put v.1.names.extents b.0 d.0 (unit_nodes p v.0 v.1 unit).0 seat d.1 in
-        subst (λ (y : List Actual × Seat). IsSeat y.1 × HasNodesOf p y.1.0 v.0) same (put.0, nodes_alone p d.0.0 v.0 v.1 unit put.1))
+        let seat = seat_put (main_nodes p) x.execution.machine x.execution.node fine.0 s w (refs_in_all s (trees_from args)) b.0 ((seated fine).0.0 u is) b.1 in
+        let put = fitted_put (main_nodes p) v.1.names.extents b.0 d.0 (unit_nodes p v.0 v.1 unit).0 seat d.1 in
+        subst (λ (y : List Actual × Seat). IsSeat (main_nodes p) y.1 × HasNodesOf p y.1.0 v.0) same (put.0, nodes_alone p d.0.0 v.0 v.1 unit put.1))
 
     begin : PutOf p x (Meets Begin)
     begin = meets Begin (record { type_made = tt; sends = λ types fine. tt; goes_on = λ types fine c r made came all. ((fine.0, (((seated fine).0.0, tt), (seated fine).1)), children_put p f.starts (seated fine).0.1) })
@@ -583,22 +592,30 @@ nodes_here [] h = (omega arith, omega arith, tt)
 nodes_here (e ∷ es) h = (h.0, h.1, refl)
 
 module _ (p : Program) where
-  main_put : (n : ℕ) (u : Option ProgramUnit) → unit_at p n ≡ u → IsPut p (proc_of (main_in n u))
-  main_put n None is = (record { first = refl; some = omega arith; few = omega arith }, tt)
-  main_put n (Some u) is =
+  main_put : (n : ℕ) (u : Option ProgramUnit) → unit_at p n ≡ u → main_nodes p ≡ (main_in n u).machine.count → IsPut p (proc_of (main_in n u))
+  main_put n None is nodes = (record { first = refl; some = omega arith; few = omega (arith, nodes) }, tt)
+  main_put n (Some u) is nodes =
       let h = nodes_here u.names.extents (unit_nodes p n u is) in
-      (record { first = refl; some = h.0; few = omega (arith, h.1) }, ((nodes_alone p (record { first = 0; count = nodes_of u.names.extents }) n u is h.2, tt), tt))
+      (record { first = refl; some = h.0; few = omega (arith, nodes) }, ((nodes_alone p (record { first = 0; count = nodes_of u.names.extents }) n u is h.2, tt), tt))
 
-  proc_put : (o : Option ℕ) → IsPut p (proc_of (main_by p o))
-  proc_put None = (record { first = refl; some = omega arith; few = omega arith }, tt)
-  proc_put (Some n) = main_put n (unit_at p n) refl
+  proc_put : (o : Option ℕ) → main_nodes p ≡ (main_by p o).machine.count → IsPut p (proc_of (main_by p o))
+  proc_put None nodes = (record { first = refl; some = omega arith; few = omega (arith, nodes) }, tt)
+  proc_put (Some n) nodes = main_put n (unit_at p n) refl nodes
+
+  unit_few : (n : ℕ) (u : Option ProgramUnit) → unit_at p n ≡ u → (main_in n u).machine.count ≤ 65536
+  unit_few n None is = omega arith
+  unit_few n (Some u) is = (nodes_here u.names.extents (unit_nodes p n u is)).1
+
+  main_few : (o : Option ℕ) → (main_by p o).machine.count ≤ 65536
+  main_few None = omega arith
+  main_few (Some n) = unit_few n (unit_at p n) refl
 
   first_put : IsTyped (language p) (λ (types : NoTypes) (x : Proc). IsPut p x) (λ (types : NoTypes) c m. Prim.Unit {0}) (first p)
   first_put = (
     (λ c. tt),
     record {
       each = λ q x is. elim (decide path_order q []) [
-        | yes e ↦ let same : first_proc p ≡ x = cc (sym (insert_here path_order finite.empty [] (first_proc p)) ∙ ap (get (first p).procs) (sym e) ∙ is) in subst (IsPut p) same (proc_put (main_number p))
+        | yes e ↦ let same : first_proc p ≡ x = cc (sym (insert_here path_order finite.empty [] (first_proc p)) ∙ ap (get (first p).procs) (sym e) ∙ is) in subst (IsPut p) same (proc_put (main_number p) refl)
         | no n ↦ absurd (cc (sym (insert_there path_order finite.empty [] (first_proc p) q n ∙ get-empty path_cmp q) ∙ is))
       ];
       queues = λ c ch is. absurd (cc (sym (get-empty {X = Chan} channel_cmp c) ∙ is));
@@ -612,7 +629,7 @@ module _ (p : Program) where
   has_machine : (x : Proc) → IsPut p x → HasMachine p x
   has_machine x h =
       let seat = h.0 in
-      record { from = omega (arith, seat.first); to = omega (arith, seat.first, seat.some); numbered = seat.few; asked = all_asked x.execution.machine x.execution.frames h.1 }
+      record { from = omega (arith, seat.first); to = omega (arith, seat.first, seat.some); within = seat.few; numbered = omega (arith, seat.few, main_few (main_number p)); asked = all_asked x.execution.machine x.execution.frames h.1 }
 
   -- along every schedule
   pub machines_along : Throughout (step p) (HaveMachines p) (first p)

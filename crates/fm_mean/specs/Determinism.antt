@@ -1,5 +1,5 @@
--- Determinism: no unit that the PROGRAM reaches has a MERGER or a PROBE.
--- Source: the Fortran M report (determinism without mergers and probes).
+-- Determinism: no unit that the PROGRAM reaches has a PROBE, or a MERGER that may have several writers.
+-- Source: the Fortran M report (determinism without mergers and probes); this profile for mergers of one writer.
 use Rattle.std.specs.Prelude.{◌≡◌, ℕ, true, Some, List}
 use Rattle.fm_graph.specs.Graph.{Reaches}
 use Rattle.fm_rules.specs.Calls.{call_graph}

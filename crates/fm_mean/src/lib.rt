@@ -128,8 +128,8 @@ pub fn outcomes_tell_each()
     ensures { (p : Program) (cs : List Place) → IsEnding (step p) (first p) cs → (used : ℕ) → TellsEach p (play (step p) (first p) cs) (outcome_of p used (play (step p) (first p) cs)) }
 {}
 
-/// Along every schedule each process is on a node of its machine, whose nodes are numbered below 65,536, and the machine has as
-/// many nodes as PROCESSORS of the process's unit asks for. SUBROUTINEs and FUNCTIONs ask for none.
+/// Along every schedule each process is on a node of its machine, whose nodes are among those of main's machine and numbered below
+/// 65,536, and the machine has as many nodes as PROCESSORS of the process's unit asks for. SUBROUTINEs and FUNCTIONs ask for none.
 pub fn machines_have_nodes()
     ensures { (p : Program) → Throughout (step p) (HaveMachines p) (first p) }
 {}

@@ -1,21 +1,26 @@
 -- Starts that are put behind those of the block.
-use Rattle.std.proofs.Common.{◌≡◌, ℕ, zero, suc, ◌+◌, Some, List, [], ◌∷◌, ◌++◌, length, map, take, refl, sym, ap, ◌∙◌, arith}
-use Rattle.std.specs.Prelude.{slice_set}
+use Rattle.std.proofs.Common.{◌≡◌, ℕ, zero, suc, ◌+◌, Option, Some, Result, Ok, Err, List, [], ◌∷◌, ◌++◌, length, map, take, refl, sym, subst, ap, ◌∙◌, arith}
+use Rattle.std.specs.Prelude.{IfOk, slice_set}
 use Rattle.std.proofs.lemmas.List.{map-append}
 use Rattle.fm_base.specs.declared.port.PortValue.{PortValue}
 use Rattle.fm_base.specs.declared.schedule.Machine.{Machine}
 use Rattle.fm_base.specs.Channels.{Item}
+use Rattle.fm_base.specs.declared.memory.NoMemory.{NoMemory}
+use Rattle.fm_tree.specs.Tree.{Tree}
+use Rattle.fm_tree.specs.declared.statement.Where.{Where}
 use Rattle.fm_symbols.specs.declared.names.Variable.{Variable}
 use Rattle.fm_rules.specs.declared.program.Program.{Program}
 use Rattle.fm_mean.specs.Names.{Point, ProgramUnit, unit_at}
-use Rattle.fm_mean.specs.Calls.{variables_in}
+use Rattle.fm_mean.specs.Calls.{backs_of, entered, variables_in}
+use Rattle.fm_mean.specs.Evaluate.{Scope}
+use Rattle.fm_mean.specs.declared.place.Actual.{Actual}
 use Rattle.fm_mean.specs.Fits.{variables_of}
 use Rattle.fm_mean.specs.Places.{Returned}
 use Rattle.fm_map.specs.Placement.{Seat}
 use Rattle.fm_mean.specs.Process as mean
 use Rattle.fm_mean.specs.Process.{Execution, framed}
 use Rattle.fm_mean.specs.declared.place.Back.{Back}
-use Rattle.fm_mean.specs.Actions.{Own, at_entry, pended}
+use Rattle.fm_mean.specs.Actions.{Action, Own, at_entry, pended, process_calls, starts_one}
 use Rattle.fm_plain_frame.specs.Frames.{frame_of, start_of}
 use Rattle.fm_plain_frame.specs.Memory.{values_of}
 use Rattle.fm_plain_frame.specs.Units.{unit_of}
@@ -23,7 +28,10 @@ use Rattle.fm_plain_frame.specs.declared.frame.Frame.{Frame}
 use Rattle.fm_plain_frame.specs.declared.frame.Start.{Start}
 use Rattle.fm_plain_frame.specs.declared.word.Word.{Word}
 use Rattle.fm_plain.specs.declared.here.Here.{Here}
-use Rattle.fm_plain.specs.Standing.{StandsIn, program_in}
+use Rattle.fm_plain.specs.Operands.{arguments_and_seat}
+use Rattle.fm_plain.specs.Standing.{ActsAt, ActsOn, SitsAt, StandsIn, frame_in, program_in}
+use Rattle.fm_plain.specs.Steps.{IsStep}
+use Rattle.fm_plain.specs.declared.step.Step.{Step}
 use Rattle.fm_plain.proofs.CallLaws.{own_alike, set_last, variables_here}
 
 -- a front of that many items
@@ -67,3 +75,21 @@ pended_own w e f new below n u backs seat t values starts ports cost is mine mor
     (ap (λ (vs : List Item). at_entry (record f { values = vs; starts = f.starts ++ record { unit = n; values = t.theirs; backs = backs; machine = seat.0; node = seat.1 } ∷ [] }) e.entry.after) (sym mine)
     ∙ (ap (λ (ss : List mean.Start). at_entry (record f { values = values; starts = ss }) e.entry.after) (sym more) ∙ sym is)))
     (sym drops) (sym words)
+
+-- ---- the call itself
+
+-- a process call of a unit that is there, whose arguments and seat were found, starts one
+pub calls_pended : (w : Execution) (s : Scope) (e : Point) (f : mean.Frame) (below : List mean.Frame) (o : Option (ℕ × ProgramUnit)) (n : ℕ) (u : ProgramUnit) (args : List Tree) (at : Option Where) (m : Machine) (node : ℕ) (actuals : List Actual) (seat : Seat)
+    → o ≡ Some (n, u) → w.machine ≡ m → w.node ≡ node → arguments_and_seat s m node u.names.extents args at ≡ Ok (actuals, seat)
+    → process_calls w s e f below o args at ≡ pended w e f below n u (backs_of u actuals) seat (entered u f.values actuals)
+calls_pended w s e f below o n u args at m node actuals seat named machine sits found =
+    ap (λ (o : Option (ℕ × ProgramUnit)). process_calls w s e f below o args at) named
+    ∙ (ap (λ (k : Machine). starts_one w e f below n u (arguments_and_seat s k w.node u.names.extents args at)) machine
+    ∙ (ap (λ (k : ℕ). starts_one w e f below n u (arguments_and_seat s m k u.names.extents args at)) sits
+    ∙ ap (starts_one w e f below n u) found))
+
+-- a step that acts on its frames does what it is to do on the machine of the process, where the two are the same there
+pub acts_at : (h : Here) (a b : Execution → List mean.Frame → Action) (f g : Frame) (r : Result Step NoMemory)
+    → ((w : Execution) (below : List mean.Frame) → SitsAt h w → b w below ≡ a w below) → IfOk r (λ r. ActsOn h a f r g) → IfOk r (λ r. ActsAt h b f r g)
+acts_at h a b f g (Ok r) same on = λ w below sits. subst (λ (x : Action). IsStep (program_in h) w x (frame_in h f ∷ below) r (frame_in h g ∷ below)) (sym (same w below sits)) (on w below)
+acts_at h a b f g (Err e) same on = tt

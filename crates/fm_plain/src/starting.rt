@@ -3,7 +3,7 @@
 ghost use Rattle.std.specs.Prelude.{◌≡◌, Ok, Some, IfOk, OnErr, slice_set};
 ghost use Rattle.std.specs.Option.{option_copied};
 ghost use Rattle.fm_tree.specs.Tree.{trees_from};
-ghost use Rattle.fm_mean.specs.Actions.{arguments_in, pended, process_calls, seat_at, where_in};
+ghost use Rattle.fm_mean.specs.Actions.{pended, process_calls, seat_at, where_in};
 ghost use Rattle.fm_mean.specs.Calls.{backs_of, entered};
 ghost use Rattle.fm_mean.specs.Evaluate.{actuals_of, refs_in_all};
 ghost use Rattle.fm_mean.specs.Names.{unit_named};
@@ -23,16 +23,6 @@ use fm_plain_frame::{Frame, LetGo, Start, UnitView, unit_named};
 use fm_plain_passing::{backs_of, enter};
 use fm_tree::{CallPart, Expr, Where};
 use std::alloc::Global;
-
-/// The arguments of a process call.
-pub(crate) fn arguments_in(part: &Option<CallPart>) -> &[Expr]
-    ensures { result.now ≡ arguments_in part.now }
-{
-    match part {
-        None => &[],
-        Some(part) => part.arguments.as_slice(),
-    }
-}
 
 /// Where the process is put.
 pub(crate) fn where_in(part: &Option<CallPart>) -> Option<&Where>

@@ -16,10 +16,10 @@ use crate::looping::{loop_end, loops};
 use crate::messages::{makes, merges, probes, receives, sends};
 use crate::ports::{closes, moves};
 use crate::returning::returns;
-use crate::starting::{arguments_in, process_calls, where_in};
+use crate::starting::{process_calls, where_in};
 use crate::step::Step;
 use fm_base::NoMemory;
-use fm_plain_frame::{Frame, arguments_of};
+use fm_plain_frame::{Frame, arguments_in, arguments_of};
 use fm_tree::{Simple, Stmt};
 use std::alloc::Global;
 

@@ -30,12 +30,12 @@ fn seat_at(
         Some(Where::Location(subscripts)) => {
             let extents = scope.unit.names().extents.as_slice();
             let (numbers, _) = numbers(alloc, scope, subscripts.as_slice(), next)?;
-            Ok(located(extents, machine, numbers.as_slice())??)
+            Ok(located(extents, machine, numbers.as_slice())?)
         }
         Some(Where::Submachine(first, last)) => {
             let (low, next) = number(alloc, scope, first, next)?;
             let (high, _) = number(alloc, scope, last, next)?;
-            Ok(parted(machine, low, high)??)
+            Ok(parted(machine, low, high)?)
         }
     }
 }
@@ -54,5 +54,5 @@ pub fn seat(
     ensures { IsDone (seated (scope_of scope.now) machine (machine, node) extents.now (option_copied place.entry) next) result }
 {
     let (machine, node) = seat_at(alloc, scope, machine, node, place, next)?;
-    Ok(fitted(extents, machine, node)??)
+    Ok(fitted(extents, machine, node)?)
 }

@@ -24,7 +24,7 @@ pub use let_go::LetGo;
 pub use lookup::formal_place;
 pub use process::{Kid, Phase, PlainProc, nodes_of};
 pub use reading::part;
-pub use reference::{Reference, arguments_of, number_after};
+pub use reference::{Reference, arguments_in, arguments_of, number_after};
 pub use unit_view::UnitView;
 pub use units::{unit_named, variables_of};
 pub use word::Word;

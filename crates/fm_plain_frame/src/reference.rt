@@ -2,14 +2,14 @@
 
 ghost use Rattle.std.specs.Prelude.{◌≡◌, ◌+◌, IfOk};
 ghost use Rattle.fm_tree.specs.Tree.{trees_from};
-ghost use Rattle.fm_mean.specs.Actions.{trees_in};
+ghost use Rattle.fm_mean.specs.Actions.{arguments_in, trees_in};
 ghost use Rattle.fm_mean.specs.Evaluate.{counts_one};
 ghost use Rattle.fm_plain_frame.specs.References.{reference_by};
 
 use crate::unit_view::UnitView;
 use fm_base::{NoMemory, Seq};
 use fm_symbols::Variable;
-use fm_tree::Expr;
+use fm_tree::{CallPart, Expr};
 use fm_values::Intrinsic;
 
 /// What a name with a list behind it means. Contracts see it as the meaning's (`reference_by`).
@@ -44,5 +44,15 @@ pub fn arguments_of(arguments: &Option<Seq<Expr>>) -> &[Expr]
     match arguments {
         None => &[],
         Some(arguments) => arguments.as_slice(),
+    }
+}
+
+/// The arguments of a process call.
+pub fn arguments_in(part: &Option<CallPart>) -> &[Expr]
+    ensures { result.now ≡ arguments_in part.now }
+{
+    match part {
+        None => &[],
+        Some(part) => part.arguments.as_slice(),
     }
 }

@@ -4,7 +4,7 @@ ghost use Rattle.std.specs.Prelude.{◌≡◌, [], map, true, IfOk, OnErr, OnOk}
 ghost use Rattle.fm_machine_calls.specs.declared.looking.Look.TheVariants.{Asks};
 ghost use Rattle.fm_chan.specs.Bodies.{chans_of};
 ghost use Rattle.fm_chan.specs.Woken.{WakesAll};
-ghost use Rattle.fm_proc_events.specs.Performs.{CanPerform, ChannelsStayOnWant, MakesNew, Performs, StaysOnWant, is_at_port};
+ghost use Rattle.fm_proc_events.specs.Performs.{CanPerform, MakesNew, Performs, is_at_port};
 ghost use Rattle.fm_proc_events.specs.Phases.{boxed_of, proc_of};
 ghost use Rattle.fm_proc_events.specs.Told.{look_of};
 
@@ -48,8 +48,8 @@ fn at_port(
     requires look { look_of (proc_of process.old) ≡ Asks ask }
     requires can { CanPerform (proc_of process.old) (chans_of channels.old) }
     ensures performs { IfOk result (λ cost. Performs path.now (proc_of process.old) (chans_of channels.old) (proc_of process.new) [] (chans_of channels.new) cost) }
-    ensures stays { StaysOnWant ask → OnErr result (proc_of process.new ≡ proc_of process.old) }
-    ensures channels { ChannelsStayOnWant ask → OnErr result (chans_of channels.new ≡ chans_of channels.old) }
+    ensures stays { OnErr result (proc_of process.new ≡ proc_of process.old) }
+    ensures channels { OnErr result (chans_of channels.new ≡ chans_of channels.old) }
     ensures waking { OnOk result (WakesAll channels.old channels.new) }
 {
     match ask {
@@ -79,9 +79,8 @@ fn at_port(
     }
 }
 
-/// Does the event of a process that its next statement asks for. After want of memory the channels are as they were for all events but
-/// a receive (`ChannelsStayOnWant`), which may have taken its message out, and the process is as it was for all but a receive and a send
-/// of ports (`StaysOnWant`), which may have taken ports out of their slots.
+/// Does the event of a process that its next statement asks for. After want of memory the process and the channels are as they were,
+/// whatever is asked.
 pub fn perform(
     alloc: Global,
     work: &mut Work,
@@ -94,8 +93,8 @@ pub fn perform(
     requires can { CanPerform (proc_of process.old) (chans_of channels.old) }
     requires new { MakesNew path.now (proc_of process.old) (chans_of channels.old) }
     ensures performs { IfOk result (λ d. Performs path.now (proc_of process.old) (chans_of channels.old) (proc_of process.new) (map boxed_of d.children.items) (chans_of channels.new) d.cost) }
-    ensures stays { StaysOnWant ask → OnErr result (proc_of process.new ≡ proc_of process.old) }
-    ensures channels { ChannelsStayOnWant ask → OnErr result (chans_of channels.new ≡ chans_of channels.old) }
+    ensures stays { OnErr result (proc_of process.new ≡ proc_of process.old) }
+    ensures channels { OnErr result (chans_of channels.new ≡ chans_of channels.old) }
     ensures waking { OnOk result (WakesAll channels.old channels.new) }
 {
     match ask {

@@ -1,5 +1,5 @@
 -- What a process does with a message, or with the end of a channel, is what it asked for.
-use Rattle.std.proofs.Common.{◌≡◌, ℕ, ℤ, ◌+◌, Bool, true, false, cond, Option, Some, None, List, [], ◌++◌, refl, sym, ap, ◌∙◌, append-nil}
+use Rattle.std.proofs.Common.{◌≡◌, ℕ, ℤ, pos, ◌+◌, Bool, true, false, cond, Option, Some, None, List, [], ◌++◌, refl, sym, ap, ◌∙◌, append-nil}
 use Rattle.std.specs.Prelude.{is_some, slice_set, Result, Ok, Err, IfOk, OnErr, OnOk}
 use Rattle.fm_base.specs.declared.memory.NoMemory.{NoMemory}
 use Rattle.std.specs.FinMap.{get}
@@ -13,7 +13,7 @@ use Rattle.fm_finmap.proofs.Adjusts.{adjust-insert}
 use Rattle.fm_finmap.proofs.Inserts.{insert_same}
 use Rattle.fm_net.proofs.Keys.{channel_order}
 use Rattle.fm_discards.proofs.Shedding.{all_shed-nil}
-use Rattle.fm_chan.specs.Events.{after_send_to, after_op, chan_at}
+use Rattle.fm_chan.specs.Events.{after_send_to, after_op, chan_at, is_outport}
 use Rattle.fm_chan.specs.Received.{got_at, message_in, waits_at}
 use Rattle.fm_chan.proofs.Receiving.{message_brought}
 use Rattle.fm_net.specs.Machine.{Place, Event, Reply, reply_at, served_at}
@@ -23,8 +23,8 @@ use Rattle.fm_code.specs.declared.body.Body.{Body}
 use Rattle.fm_code.specs.Statements.{with_words}
 use Rattle.fm_machine_calls.specs.declared.looking.Look.TheVariants as look
 use Rattle.fm_proc_language.specs.Slots.{Slots, in_slot}
-use Rattle.fm_proc_language.specs.Frames.{message_from}
-use Rattle.fm_proc_language.specs.Processes.{CodeProc, asks, sends_by, receives_by, probes_by, sent, received, came, at_the_end, probed, holding, message_words}
+use Rattle.fm_proc_language.specs.Frames.{all_stored, message_from}
+use Rattle.fm_proc_language.specs.Processes.{CodeProc, asks, sends_by, receives_by, probes_by, sent, received, came, at_the_end, probed, holding, message_words, with_status}
 use Rattle.fm_proc_language.specs.Needs.{need_in}
 use Rattle.fm_proc_slots.specs.Helds.{held}
 use Rattle.fm_proc_events.specs.Events.{channel_in, with_body}
@@ -50,10 +50,6 @@ some_body y P none some = go y.body refl
     go None e = absurd (none e)
     go (Some b) e = some b e
 
-pub on_ok : (r : Result ℕ NoMemory) (A : Type 0) → A → OnOk r A
-on_ok (Ok n) A a = a
-on_ok (Err e) A a = tt
-
 -- the body is put back
 as_it_was : (y : CodeProc) (b : Body) → y.body ≡ Some b → with_body y b ≡ y
 as_it_was y b is = λ i. record y { body = sym is i }
@@ -63,14 +59,6 @@ pub unsent : (y : CodeProc) (b : Body) → y.body ≡ Some b → (after : Body) 
     → OnErr r (record y { body = Some after; slots = slots } ≡ y)
 unsent y b is after slots (Ok cost) after_is slots_are = tt
 unsent y b is after slots (Err e) after_is slots_are = (λ i. record y { body = Some (after_is i); slots = slots_are i }) ∙ as_it_was y b is
-
--- a message was built, or there was no memory for it: the words are as they were
-pub words_stay : (b : Body) (words : List ℤ) (before after : Slots) → held words after ≡ held b.frame.words before → record b { frame = record b.frame { words = words } } ≡ b
-words_stay b words before after same = λ i. record b { frame = record b.frame { words = (same i).words } }
-
-pub on_err : (r : Result ℕ NoMemory) (A : Type 0) → A → OnErr r A
-on_err (Ok n) A a = tt
-on_err (Err e) A a = a
 
 -- which writer sends changes nothing
 any_writer : (c : ChanName) (v w : ℕ) (message : Message) (o : Option Chan) → spills_at (Push v message) o ≡ spills_at (Push w message) o
@@ -103,6 +91,12 @@ module _ (y : CodeProc) (cs : Chans) (slot : ℤ) (items : List Operand) (next :
   -- and an outport
   outport : Outport (in_slot y.slots slot)
   outport = some_body y (Outport (in_slot y.slots slot)) send_body outport_of
+
+  -- which is one
+  pub is_writer : (x : PortValue) → in_slot y.slots slot ≡ Some x → is_outport x ≡ true
+  is_writer x there =
+      let same : x ≡ Writer outport.channel outport.writer = cc (sym there ∙ outport.is) in
+      ap is_outport same
 
   module _ (b : Body) (is : y.body ≡ Some b) where
     asks_send : asks y ≡ sends_by y b (Some (Writer outport.channel outport.writer)) (message_from (holding y b) items) next
@@ -253,27 +247,17 @@ module _ (y : CodeProc) (cs : Chans) (slot : ℤ) (items : List Operand) (status
           };
         }
 
-    -- the message is gone from the channel of the port, and couldn't be stored
-    pub message_gone : (own x : PortValue) → Some own ≡ in_slot y.slots slot → in_slot y.slots slot ≡ Some x → (mid n : Chans) → mid ≡ after_op own (Pop []) cs → (r : Result ℕ NoMemory) → OnErr r (n ≡ mid)
-        → OnErr r (n ≡ after_op x (Pop []) cs)
-    message_gone own x own_is x_is mid n mid_is (Ok cost) e = tt
-    message_gone own x own_is x_is mid n mid_is (Err failed) e =
-        let same : own ≡ x = cc (own_is ∙ x_is) in
-        e ∙ mid_is ∙ ap (λ v. after_op v (Pop []) cs) same
-
     module _ (p : Place) (x : PortValue) (x_is : Some x ≡ in_slot y.slots slot) (mid : Chans) (mid_is : mid ≡ after_op x (Pop []) cs) (z : CodeProc) (n : Chans) where
-      came_in : (message : Message) (its : List Operand) → its ≡ items → came (with_body y b) b next its status message ≡ came y b next items status message
-      came_in message its same = ap (λ v. came v b next its status message) (as_it_was y b is) ∙ ap (λ v. came y b next v status message) same
-
-      pub gets_message : (message : Message) → Some message ≡ message_in (got_at [] (chan_at x cs)) → (its : List Operand) → its ≡ items → (cost : Result ℕ NoMemory)
-          → OnOk cost (z ≡ (came (with_body y b) b next its status message).self)
-          → OnOk cost (n ≡ all_shed (came (with_body y b) b next its status message).drops mid)
-          → IfOk cost (λ k. k ≡ (came (with_body y b) b next its status message).cost)
-          → IfOk cost (λ k. Performs p y cs z [] n k)
-      gets_message message came_so its same (Ok k) z_is n_is k_is =
-          let out = came_in message its same in
-          receives p x x_is (Some message) came_so z (z_is ∙ ap (λ v. v.self) out) n (n_is ∙ ap (λ v. all_shed v.drops mid) out ∙ ap (all_shed (came y b next items status message).drops) mid_is) k (k_is ∙ ap (λ v. v.cost) out)
-      gets_message message came_so its same (Err e) z_is n_is k_is = tt
+      pub gets_message : (message : Message) → Some message ≡ message_in (got_at [] (chan_at x cs)) → (its : List Operand) → its ≡ items
+          → (after : Body) → after ≡ with_words b next (with_status (all_stored (held b.frame.words y.slots) its message).0 status (pos 0)).words
+          → (slots : Slots) → slots ≡ (with_status (all_stored (held b.frame.words y.slots) its message).0 status (pos 0)).slots
+          → (drops : List PortValue) → drops ≡ (all_stored (held b.frame.words y.slots) its message).1
+          → z ≡ record y { body = Some after; slots = slots } → n ≡ all_shed drops mid
+          → (cost : ℕ) → cost ≡ 1 + message_words message → Performs p y cs z [] n cost
+      gets_message message came_so its same after after_is slots slots_are drops drops_are z_is n_is cost cost_is =
+          receives p x x_is (Some message) came_so z
+          (z_is ∙ (λ i. record y { body = Some (after_is i); slots = slots_are i }) ∙ ap (λ v. (came y b next v status message).self) same) n
+          (n_is ∙ ap (λ v. all_shed v mid) (drops_are ∙ ap (λ v. (all_stored (held b.frame.words y.slots) v message).1) same) ∙ ap (all_shed (came y b next items status message).drops) mid_is) cost cost_is
 
       pub meets_end : None ≡ message_in (got_at [] (chan_at x cs)) → z ≡ (at_the_end (with_body y b) b next status at_end).self → n ≡ mid → Performs p y cs z [] n 1
       meets_end ended z_is n_is =

@@ -9,7 +9,6 @@ use Rattle.fm_code.specs.declared.ask.Ask.TheVariants as ask
 use Rattle.fm_net.specs.Machine.{Place, Need, Nothing, Event, New, Children, Reply, Onward, Go, made, chans_after, spilt, served_at, reply_with}
 use Rattle.fm_proc_language.specs.Processes.{CodeProc, asks}
 use Rattle.fm_proc_language.specs.Needs.{need_of}
-use Rattle.fm_proc_slots.specs.Copies.{carries_ports}
 
 -- the reply of the channels to a need, or none where the process has to wait, or needs its children
 abbrev pub reply_of : Chans → Need → Option (Reply CodeProc)
@@ -67,30 +66,3 @@ is_at_port (ask.Probe slot empty next) = true
 is_at_port (ask.Begin next) = false
 is_at_port (ask.Join next) = false
 is_at_port ask.End = false
-
--- What leaves the process as it was where there is no memory for it. Of the others: as a message with ports is built, ports leave
--- their slots one after the other; and a receive may have stored a part of its message. A join isn't done here.
-abbrev pub StaysOnWant : Ask → Type 0
-StaysOnWant (ask.Fail line fault) = Unit {0}
-StaysOnWant (ask.LetGo slots) = Unit {0}
-StaysOnWant (ask.Channel inport outport next) = Unit {0}
-StaysOnWant (ask.Merger inport outports next) = Unit {0}
-StaysOnWant (ask.Send slot items next) = carries_ports items ≡ false
-StaysOnWant (ask.Receive slot items status at_end next) = ⊥
-StaysOnWant (ask.Probe slot empty next) = Unit {0}
-StaysOnWant (ask.Begin next) = Unit {0}
-StaysOnWant (ask.Join next) = Unit {0}
-StaysOnWant ask.End = Unit {0}
-
--- what leaves the channels as they were: all but a receive, which takes its message out of the channel before it is stored
-abbrev pub ChannelsStayOnWant : Ask → Type 0
-ChannelsStayOnWant (ask.Fail line fault) = Unit {0}
-ChannelsStayOnWant (ask.LetGo slots) = Unit {0}
-ChannelsStayOnWant (ask.Channel inport outport next) = Unit {0}
-ChannelsStayOnWant (ask.Merger inport outports next) = Unit {0}
-ChannelsStayOnWant (ask.Send slot items next) = Unit {0}
-ChannelsStayOnWant (ask.Receive slot items status at_end next) = ⊥
-ChannelsStayOnWant (ask.Probe slot empty next) = Unit {0}
-ChannelsStayOnWant (ask.Begin next) = Unit {0}
-ChannelsStayOnWant (ask.Join next) = Unit {0}
-ChannelsStayOnWant ask.End = Unit {0}

@@ -1,17 +1,19 @@
 //! A message is received, or the end of its channel is met.
 
-ghost use Rattle.std.specs.Prelude.{◌≡◌, ◌+◌, [], false, pos, Some, IfOk, OnErr, OnOk};
+ghost use Rattle.std.specs.Prelude.{◌≡◌, ◌+◌, [], false, pos, Some, IfErr, IfOk, IfSome, OnErr, OnOk};
 ghost use Rattle.fm_base.specs.declared.port.PortValue.{PortValue};
-ghost use Rattle.fm_base.specs.Channels.{Pop, all_shed};
+ghost use Rattle.fm_base.specs.Channels.{Pop, channel_of};
+ghost use Rattle.fm_finmap.specs.Changes.{adjust};
 ghost use Rattle.fm_chan.specs.Bodies.{chans_of};
-ghost use Rattle.fm_chan.specs.Events.{after_op, chan_at, is_outport};
+ghost use Rattle.fm_chan.specs.Events.{after_op, chan_at, is_outport, put_first};
 ghost use Rattle.fm_chan.specs.Received.{got_at, message_in};
+ghost use Rattle.fm_chan.specs.Rooms.{HasRoom};
 ghost use Rattle.fm_chan.specs.Woken.{WakesAll};
 ghost use Rattle.fm_code.specs.declared.ask.Ask.TheVariants as ask;
 ghost use Rattle.fm_code.specs.Statements.{with_words};
 ghost use Rattle.fm_machine_calls.specs.declared.looking.Look.TheVariants.{Asks};
 ghost use Rattle.fm_proc_language.specs.Frames.{all_stored};
-ghost use Rattle.fm_proc_language.specs.Processes.{at_the_end, came, message_words, with_status};
+ghost use Rattle.fm_proc_language.specs.Processes.{at_the_end, message_words, with_status};
 ghost use Rattle.fm_proc_language.specs.Slots.{in_slot};
 ghost use Rattle.fm_proc_slots.specs.Helds.{held};
 ghost use Rattle.fm_proc_events.specs.Events.{with_body};
@@ -36,9 +38,21 @@ fn next_message(channels: &mut Channels, port: &Port) -> Option<Message>
     requires { is_outport port.now ≡ false }
     ensures message { result ≡ message_in (got_at [] (chan_at port.now (chans_of channels.old))) }
     ensures channels { chans_of channels.new ≡ after_op port.now (Pop []) (chans_of channels.old) }
+    ensures room { IfSome result (λ message. HasRoom channels.new (channel_of port.now)) }
     ensures waking { WakesAll channels.old channels.new }
 {
     channels.receive(port, &[]).into_message()
+}
+
+/// A message goes back to the channel of the port in a slot.
+fn put_back_at(channels: &mut Channels, slots: &Slots, slot: i64, message: Message)
+    requires { (x : PortValue) → in_slot slots.now slot ≡ Some x → HasRoom channels.old (channel_of x) }
+    ensures { (x : PortValue) → in_slot slots.now slot ≡ Some x → chans_of channels.new ≡ adjust (chans_of channels.old) (channel_of x) (put_first message) }
+{
+    match slots.port(slot) {
+        Some(port) => channels.put_back(port, message),
+        None => {}
+    }
 }
 
 /// The word of IOSTAT, where it is asked for.
@@ -51,7 +65,15 @@ fn put_status(words: &mut Seq<i64>, slots: &Slots, status: Option<u32>, word: i6
     }
 }
 
-/// A message is stored in the innermost frame, which goes on. What is let go.
+/// What came of a message that was stored.
+#[derive(Drop)]
+struct Stored {
+    cost: u64,
+    // what is let go
+    drops: Vec<Port>,
+}
+
+/// A message is stored in the innermost frame, which goes on. After want of memory it comes back, and nothing has changed.
 fn store_message(
     alloc: Global,
     body: &mut Body,
@@ -60,48 +82,26 @@ fn store_message(
     status: Option<u32>,
     message: Message,
     next: u32,
-) -> Result<Vec<Port>, NoMemory>
+) -> Result<Stored, (Message, NoMemory)>
     ensures body { OnOk result (body.new ≡ with_words body.old next (with_status (all_stored (held body.old.frame.words slots.old) items.now message).0 status (pos 0)).words) }
     ensures slots { OnOk result (slots.new ≡ (with_status (all_stored (held body.old.frame.words slots.old) items.now message).0 status (pos 0)).slots) }
-    ensures drops { IfOk result (λ v. v.items ≡ (all_stored (held body.old.frame.words slots.old) items.now message).1) }
+    ensures drops { IfOk result (λ s. s.drops.items ≡ (all_stored (held body.old.frame.words slots.old) items.now message).1) }
+    ensures cost { IfOk result (λ s. s.cost ≡ 1 + message_words message) }
+    ensures back { IfErr result (λ e. e.0 ≡ message) }
+    ensures body_stays { OnErr result (body.new ≡ body.old) }
+    ensures slots_stay { OnErr result (slots.new ≡ slots.old) }
 {
-    let drops = store_all(alloc, &mut body.frame.words, slots, items, message)?;
-    put_status(&mut body.frame.words, slots, status, 0);
-    set_address(body, next);
-    Ok(drops)
-}
-
-/// A process, whose body stands apart, goes on with a message. The cost. After want of memory no channel has changed.
-fn store(
-    alloc: Global,
-    process: &mut Process,
-    body: Body,
-    channels: &mut Channels,
-    items: &[Operand],
-    status: Option<u32>,
-    message: Message,
-    next: u32,
-) -> Result<u64, NoMemory>
-    ensures process { OnOk result (proc_of process.new ≡ (came (with_body (proc_of process.old) body) body next items.now status message).self) }
-    ensures channels { OnOk result (chans_of channels.new ≡ all_shed (came (with_body (proc_of process.old) body) body next items.now status message).drops (chans_of channels.old)) }
-    ensures cost { IfOk result (λ cost. cost ≡ (came (with_body (proc_of process.old) body) body next items.now status message).cost) }
-    ensures stays { OnErr result (chans_of channels.new ≡ chans_of channels.old) }
-    ensures waking { WakesAll channels.old channels.new }
-{
-    let mut body = body;
-    let cost = message_cost(&message)?;
-    let drops = store_message(
-        alloc,
-        &mut body,
-        &mut process.slots,
-        items,
-        status,
-        message,
-        next,
-    )?;
-    process.body = Some(body);
-    shed(channels, drops);
-    Ok(cost)
+    let Ok(cost) = message_cost(&message) else {
+        return Err((message, NoMemory));
+    };
+    match store_all(alloc, &mut body.frame.words, slots, items, message) {
+        Ok(drops) => {
+            put_status(&mut body.frame.words, slots, status, 0);
+            set_address(body, next);
+            Ok(Stored { cost, drops })
+        }
+        Err(back) => Err(back),
+    }
 }
 
 /// A process, whose body stands apart, meets the end of a channel.
@@ -124,8 +124,8 @@ fn meet_end(process: &mut Process, body: Body, status: Option<u32>, at_end: Opti
     process.body = Some(body);
 }
 
-/// Receives a message by the port in a slot, or meets the end of its channel. The cost. After want of memory the message has left its
-/// channel, and the channels are as they were but for that.
+/// Receives a message by the port in a slot, or meets the end of its channel. The cost. After want of memory the process and the
+/// channels are as they were: the message goes back to where it was.
 pub fn receive(
     alloc: Global,
     path: &Path,
@@ -140,30 +140,33 @@ pub fn receive(
     requires look { look_of (proc_of process.old) ≡ Asks (ask.Receive slot items status at_end next) }
     requires can { CanPerform (proc_of process.old) (chans_of channels.old) }
     ensures performs { IfOk result (λ cost. Performs path.now (proc_of process.old) (chans_of channels.old) (proc_of process.new) [] (chans_of channels.new) cost) }
-    ensures left { (x : PortValue) → in_slot (proc_of process.old).slots slot ≡ Some x → OnErr result (chans_of channels.new ≡ after_op x (Pop []) (chans_of channels.old)) }
+    ensures stays { OnErr result (proc_of process.new ≡ proc_of process.old) }
+    ensures channels { OnErr result (chans_of channels.new ≡ chans_of channels.old) }
     ensures waking { OnOk result (WakesAll channels.old channels.new) }
 {
     let got = match process.slots.port(slot) {
         Some(port) => next_message(channels, port),
         None => unreachable!(),
     };
-    let Some(body) = replace(&mut process.body, None) else {
+    let Some(message) = got else {
+        let Some(body) = replace(&mut process.body, None) else {
+            unreachable!()
+        };
+        meet_end(process, body, status, at_end, next);
+        return Ok(1);
+    };
+    let Some(body) = &mut process.body else {
         unreachable!()
     };
-    match got {
-        Some(message) => store(
-            alloc,
-            process,
-            body,
-            channels,
-            items.as_slice(),
-            status,
-            message,
-            next,
-        ),
-        None => {
-            meet_end(process, body, status, at_end, next);
-            Ok(1)
+    let slots = &mut process.slots;
+    match store_message(alloc, body, slots, items.as_slice(), status, message, next) {
+        Ok(Stored { cost, drops }) => {
+            shed(channels, drops);
+            Ok(cost)
+        }
+        Err((message, error)) => {
+            put_back_at(channels, &process.slots, slot, message);
+            Err(error)
         }
     }
 }

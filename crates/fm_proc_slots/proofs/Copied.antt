@@ -38,8 +38,3 @@ copied_so h os ws None m there e some is = absurd (cc e)
 copied_so h os ws (Some l) m there e some is =
     let same : m ≡ l = cc e in
     ap (λ (x : Message). (h, x)) (same ∙ is ∙ ap (λ v. words_message v os) there) ∙ sym (all_copied h os (no_ports (carries_ports os) some))
-
--- one that wasn't has ports
-pub not_copied : (os : List Operand) (r : Option Message) (P : Type 0) → r ≡ None → is_some r ≡ not (carries_ports os) → carries_ports os ≡ false → P
-not_copied os None P e none plain = absurd (cc (none ∙ ap not plain))
-not_copied os (Some l) P e none plain = absurd (cc e)

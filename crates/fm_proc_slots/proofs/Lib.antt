@@ -1,11 +1,16 @@
 pub mod Alike
 pub mod Backs
+pub mod Built
 pub mod Copied
+pub mod Exchanges
 pub mod Kept
 pub mod Moved
 pub mod Numbers
 pub mod Placements
+pub mod Reaches
 pub mod RoomLaws
 pub mod Roomy
+pub mod Staged
 pub mod Stored
+pub mod Taking
 pub mod Vacated

@@ -1,8 +1,11 @@
+pub mod Blanks
+pub mod Builds
 pub mod Copies
 pub mod Helds
 pub mod Stores
 pub mod Joins
 pub mod Keeps
 pub mod Moves
+pub mod Operands
 pub mod Places
 pub mod Rooms

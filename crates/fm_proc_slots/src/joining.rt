@@ -8,7 +8,7 @@ ghost use Rattle.fm_proc_slots.specs.Helds.{held};
 ghost use Rattle.fm_proc_slots.specs.Joins.{GivesSo, HasRoomFor, LeavesRoomFor, SamePorts, joined};
 ghost use Rattle.fm_proc_slots.specs.Rooms.{slots_in};
 
-use crate::exchanging::exchange_open;
+use crate::exchanging::exchange;
 use crate::open::OpenSlots;
 use crate::slots::{Slots, keep_some};
 use crate::words::{set_word, splice_within};
@@ -43,7 +43,7 @@ fn settle(gains: &mut Gains, number: usize, port: Port)
     ensures drops { gains.new.drops.items ≡ gains.old.drops.items ++ option_to_list (exchanged (held gains.old.words.items (slots_in gains.old.slots)) number (Some port)).1 }
     ensures room { LeavesRoomFor 1 gains.old gains.new }
 {
-    let out = exchange_open(&mut gains.words, &mut gains.slots, number, port);
+    let out = exchange(&mut gains.words, &mut gains.slots, number, Some(port));
     keep_some(&mut gains.drops, out);
 }
 

@@ -2,6 +2,8 @@
 //! Each function does to words and slots what the definition of `fm_proc_language` says, for every number that a word may have.
 #![tactic(auto)]
 
+mod blanks;
+mod building;
 mod exchanging;
 mod joining;
 mod keeping;
@@ -10,13 +12,16 @@ mod moving;
 mod open;
 mod placing;
 mod slots;
+mod storing;
 mod words;
 
+pub use building::ports_message;
 pub use joining::{Child, Gains, give_back, vacate_words};
 pub use keeping::keep;
-pub use messages::{message_from, message_words, store_all};
+pub use messages::{message_words, words_message};
 pub use moving::move_over;
 pub use open::OpenSlots;
 pub use placing::{place_all, port_words};
 pub use slots::Slots;
+pub use storing::store_all;
 pub use words::{set_word, span_words};

@@ -49,8 +49,8 @@ impl Slots {
 }
 
 impl OpenSlots {
-    ghost use Rattle.std.specs.Prelude.{◌≡◌, IfOk};
-    ghost use Rattle.fm_proc_language.specs.Slots.{in_slot, left, no_slots, put, put_any, taken};
+    ghost use Rattle.std.specs.Prelude.{◌≡◌, ◌≤◌, ◌+◌, ◌++◌, IfOk, length, vec_len, vec_capacity};
+    ghost use Rattle.fm_proc_language.specs.Slots.{all_taken, in_slot, left, no_slots, put, put_any, taken};
     ghost use Rattle.fm_proc_slots.specs.Rooms.{HasRoom, LeavesRoom, slots_in};
 
     /// No slots, with room for so many ports to come and so many to go.
@@ -119,6 +119,19 @@ impl OpenSlots {
             self.leave(word)
         } else {
             None
+        }
+    }
+
+    /// What stands at port words, one after the other, is added; their slots are free then.
+    pub(crate) fn take_all(&mut self, words: &[i64], ports: &mut Vec<Option<Port>>)
+        requires slots { HasRoom self.old (length words.now) }
+        requires ports { vec_len ports.old + length words.now ≤ vec_capacity ports.old }
+        ensures ports { ports.new.items ≡ ports.old.items ++ (all_taken (slots_in self.old) words.now).0 }
+        ensures slots { slots_in self.new ≡ (all_taken (slots_in self.old) words.now).1 }
+        ensures room { LeavesRoom (length words.now) self.old self.new }
+    {
+        'words: for word in words {
+            ports.push_reserved(self.take(*word));
         }
     }
 }

@@ -6,7 +6,7 @@ ghost use Rattle.fm_proc_slots.specs.Helds.{held};
 ghost use Rattle.fm_proc_slots.specs.Rooms.{HasRoom, LeavesRoom, slots_in};
 ghost use Rattle.fm_proc_slots.specs.Stores.{PlacesPort};
 
-use crate::exchanging::exchange_open;
+use crate::exchanging::exchange;
 use crate::open::OpenSlots;
 use crate::slots::keep_some;
 use fm_base::NoMemory;
@@ -63,7 +63,7 @@ fn place_next<'a>(
 {
     match front(numbers) {
         Some((number, left)) => {
-            let there = exchange_open(words, slots, number as usize, port);
+            let there = exchange(words, slots, number as usize, Some(port));
             keep_some(out, there);
             left
         }

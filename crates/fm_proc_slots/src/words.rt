@@ -1,11 +1,12 @@
 //! Words of a frame.
 
-ghost use Rattle.std.specs.Prelude.{◌≡◌, ◌≤◌, ◌+◌, ◌++◌, IfOk, OnOk, length, nat_le, slice_set, vec_len, vec_capacity};
+ghost use Rattle.std.specs.Prelude.{◌≡◌, ◌≤◌, ◌+◌, ◌++◌, IfOk, OnErr, OnOk, length, nat_le, slice_set, vec_len, vec_capacity};
 ghost use Rattle.fm_code.specs.Passing.{nulls, spliced};
+ghost use Rattle.fm_proc_slots.specs.Operands.{grown, operand_grown, reach};
 ghost use Rattle.fm_proc_slots.specs.Rooms.{span_words};
 
 use fm_base::{NoMemory, Seq};
-use fm_code::Span;
+use fm_code::{Operand, Span};
 use std::alloc::Global;
 
 /// Puts a word at a place, if there is such a place.
@@ -39,14 +40,15 @@ fn rebuilt(alloc: Global, words: &[i64], at: usize, items: &[i64]) -> Result<Vec
     Ok(all)
 }
 
-/// Puts items over the words from a place on.
+/// Puts items over the words from a place on. After want of memory the words are as they were.
 pub(crate) fn splice(
     alloc: Global,
     words: &mut Seq<i64>,
     at: usize,
     items: &[i64],
 ) -> Result<(), NoMemory>
-    ensures { OnOk result (words.new ≡ spliced words.old at items.now) }
+    ensures spliced { OnOk result (words.new ≡ spliced words.old at items.now) }
+    ensures stays { OnErr result (words.new ≡ words.old) }
 {
     if has_room(words.len(), at, items.len()) {
         words.put(at, items);
@@ -57,7 +59,7 @@ pub(crate) fn splice(
 }
 
 /// Adds items where there is room for them.
-fn extend_within(words: &mut Vec<i64>, items: &[i64])
+pub(crate) fn extend_within(words: &mut Vec<i64>, items: &[i64])
     requires { vec_len words.old + length items.now ≤ vec_capacity words.old }
     ensures items { words.new.items ≡ words.old.items ++ items.now }
     ensures len { vec_len words.new ≡ vec_len words.old + length items.now }
@@ -69,11 +71,11 @@ fn extend_within(words: &mut Vec<i64>, items: &[i64])
     }
 }
 
-/// Puts items over the words from a place on, where there is room to add them all.
+/// Puts items over the words from a place on, where there is room for those behind the last.
 pub(crate) fn splice_within(words: &mut Vec<i64>, at: usize, items: &[i64])
-    requires { vec_len words.old + length items.now ≤ vec_capacity words.old }
+    requires { grown (vec_len words.old) at (length items.now) ≤ vec_capacity words.old }
     ensures items { words.new.items ≡ spliced words.old.items at items.now }
-    ensures len { vec_len words.new ≤ vec_len words.old + length items.now }
+    ensures len { vec_len words.new ≤ grown (vec_len words.old) at (length items.now) }
     ensures capacity { vec_capacity words.old ≤ vec_capacity words.new }
 {
     if has_room(words.len(), at, items.len()) {
@@ -90,6 +92,59 @@ pub(crate) fn clear_span(alloc: Global, words: &mut Seq<i64>, span: Span) -> Res
 {
     let nulls = vec![in alloc; 0i64; span.count as usize]?;
     splice(alloc, words, span.first as usize, nulls.as_slice())
+}
+
+/// How many words there are after words came to a span.
+fn grown(len: usize, span: Span) -> Result<usize, NoMemory>
+    ensures { IfOk result (λ n. n ≡ grown len span.first span.count) }
+{
+    let end = len
+        .min(span.first as usize)
+        .checked_add(span.count as usize)
+        .ok_or(NoMemory)?;
+    Ok(len.max(end))
+}
+
+/// How many words there are at most after words came to an operand, or left it.
+fn operand_grown(len: usize, operand: Operand) -> Result<usize, NoMemory>
+    ensures { IfOk result (λ n. n ≡ operand_grown len operand) }
+{
+    match operand {
+        Operand::Value(_) => Ok(len),
+        Operand::Words(span) => grown(len, span),
+        Operand::Ports(span) => grown(len, span),
+    }
+}
+
+/// How many words there are at most after words came to these operands, or left them, one after the other.
+pub(crate) fn reach(len: usize, operands: &[Operand]) -> Result<usize, NoMemory>
+    ensures { IfOk result (λ n. n ≡ reach len operands.now) }
+{
+    let mut reach = len;
+    'operands: for operand in operands {
+        reach = operand_grown(reach, *operand)?;
+    }
+    Ok(reach)
+}
+
+/// Words that come from a row, with room to become so many. After want of memory they are where they were.
+pub(crate) fn open_words(
+    alloc: Global,
+    words: &mut Seq<i64>,
+    most: usize,
+) -> Result<Vec<i64>, NoMemory>
+    ensures words { IfOk result (λ own. own.items ≡ words.old) }
+    ensures room { IfOk result (λ own. most ≤ vec_capacity own) }
+    ensures stays { OnErr result (words.new ≡ words.old) }
+{
+    let mut own = words.take(alloc).into_vec();
+    match own.reserve(most.saturating_sub(own.len())) {
+        Ok(()) => Ok(own),
+        Err(_) => {
+            *words = Seq::from_vec(own);
+            Err(NoMemory)
+        }
+    }
 }
 
 /// As many words as these spans have at most.

@@ -61,7 +61,8 @@ pub fn main_of(units: &[Unit]) -> Option<usize>
 
 impl Program {
     /// The program of units and names that break no rule. `context` is what the names mean, `links` where the entries of
-    /// each unit lead to, `race` the least line of a MERGER or PROBE that a process may come to.
+    /// each unit lead to, `race` the least line of a race: of a PROBE, or of a MERGER that may have several writers, that a process may
+    /// come to.
     pub fn new(
         units: Units,
         names: Names,
@@ -123,14 +124,15 @@ impl Program {
         self.main
     }
 
-    /// Whether every schedule comes to one outcome: no process comes to a MERGER or PROBE.
+    /// Whether no process may come to a PROBE, or to a MERGER with more than one `OUT=` or a whole array as its one. Then every
+    /// schedule comes to one outcome.
     pub fn deterministic(&self) -> bool
         ensures { result ≡ true ↔ IsDeterministic self.now.units.units (context_of self.now.units.units self.now.names.units) }
     {
         self.race.is_none()
     }
 
-    /// The least line of a MERGER or PROBE that a process may come to.
+    /// The least line of a PROBE, or of a MERGER with more than one `OUT=` or a whole array as its one, that a process may come to.
     pub fn first_race(&self) -> Option<Line>
         ensures { ∥ IsRaceVerdict self.now.units.units (context_of self.now.units.units self.now.names.units) result ∥₁ }
     {

@@ -19,10 +19,9 @@ use crate::net::{Awaited, Net};
 use crate::orders::Queue;
 use fm_base::NoMemory;
 use fm_rules::Program;
-use std::alloc::Global;
 
-// All who were woken. Nobody is then any more.
-fn take_woken<N: Net>(alloc: Global, net: &mut N) -> Result<Vec<u32>, NoMemory>
+// All who were woken, in the room of a list that isn't wanted any more. Nobody is then any more.
+fn take_woken<N: Net>(net: &mut N, spare: Vec<u32>) -> Result<Vec<u32>, NoMemory>
     ensures order { OnOk result (N.order net.new ≡ N.order net.old) }
     ensures history { N.history net.new ≡ N.history net.old }
     ensures state { OnOk result ((p : declared.Program) → N.state p net.new ≡ N.state p net.old) }
@@ -30,7 +29,8 @@ fn take_woken<N: Net>(alloc: Global, net: &mut N) -> Result<Vec<u32>, NoMemory>
     ensures readers { OnOk result ((c : declared_channel.ChanName) → waiting_reader (N.channels net.new) c ≡ waiting_reader (N.channels net.old) c) }
     ensures woken { IfOk result (λ v. (n : ℕ) → Contains (woken_of (N.channels net.old)) n → Contains v.items n) }
 {
-    let mut all = Vec::new(alloc);
+    let mut all = spare;
+    all.clear();
     'woken: while let Some(number) = net.next_woken() {
         all.push(number)?;
     }
@@ -116,9 +116,9 @@ fn push_new(numbers: &mut Vec<u32>, from: usize, to: usize) -> Result<(), NoMemo
 
 /// The numbers of the processes that may have become able by a piece of this one, in ascending order: who
 /// was woken, who waits for it and for no other child, if it has ended, and those that it started, which are
-/// all from `before` on. A number may stand there twice.
+/// all from `before` on. A number may stand there twice. They stand in the room of a list that isn't wanted any more.
 pub(crate) fn candidates<N: Net>(
-    alloc: Global,
+    spare: Vec<u32>,
     net: &mut N,
     parents: &[u32],
     ended: &mut [usize],
@@ -136,7 +136,7 @@ pub(crate) fn candidates<N: Net>(
         → slice_get parents.now number ≡ Some n → can_at p (N.state p net.old) (N.order net.old) n ≡ true → Contains v.items n) }
     ensures new { IfOk result (λ v. (n : ℕ) → before ≤ n → n < length (N.order net.old) → Contains v.items n) }
 {
-    let mut numbers = take_woken(alloc, net)?;
+    let mut numbers = take_woken(net, spare)?;
     let parent = parent_to_ask(net, parents, ended, number)?;
     push_some(&mut numbers, parent)?;
     push_new(&mut numbers, before, net.count())?;

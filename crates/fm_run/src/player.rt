@@ -16,6 +16,7 @@ use crate::outside::OutsideNet;
 use fm_base::NoMemory;
 use fm_rules::Program;
 use std::alloc::Global;
+use std::mem::replace;
 
 /// A piece with a step to spare, an entry of its own.
 const WHOLE: Kind = Kind {
@@ -48,6 +49,8 @@ pub struct Player<N> {
     pub able: Queue,
     /// The cost in turns.
     pub used: u64,
+    // room for the numbers of those that are asked behind a piece
+    spare: Vec<u32>,
 }
 
 fn both(used: u64, cost: u64) -> Result<u64, NoMemory>
@@ -80,6 +83,7 @@ impl<N: Net> Player<N> {
             ended,
             able,
             used: 0,
+            spare: Vec::new(alloc),
         })
     }
 
@@ -216,9 +220,10 @@ impl<N: Net> Player<N> {
         ensures able { OnOk result (self.new.able.numbers.items ≡ ready_after program.now (N.state program.now self.old.net) (N.order self.old.net) self.old.able.numbers.items number) }
         ensures front { OnErr result (KeepsFront self.old.able.numbers.items self.new.able.numbers.items) }
     {
+        let spare = replace(&mut self.spare, Vec::new(alloc));
         let parents = self.parents.as_slice();
         let asked = candidates(
-            alloc,
+            spare,
             &mut self.net,
             parents,
             &mut self.ended,
@@ -232,6 +237,7 @@ impl<N: Net> Player<N> {
             number,
             asked.as_slice(),
         )?;
+        self.spare = asked;
         settle_own(&mut self.net, program, &mut self.able, number)
     }
 

@@ -8,4 +8,6 @@ pub mod Standings
 pub mod Others
 pub mod Tables
 pub mod Runs
+pub mod Planned
+pub mod Sharing
 pub mod Turns

@@ -21,8 +21,9 @@ use Rattle.fm_run.proofs.Able.{some_there}
 use Rattle.fm_run.proofs.Becomes.{first_holds}
 use Rattle.fm_run.proofs.Numbers.{filter_among, in_filter, not_own, once_filter}
 use Rattle.fm_run.proofs.Others.{able_along}
-use Rattle.fm_table.specs.Inside.{HasEntered, IsStanding, IsTable, stand_kept, told_in}
+use Rattle.fm_table.specs.Inside.{HasEntered, HasShares, IsStanding, IsTable, stand_kept, told_in}
 use Rattle.fm_table.specs.Told.{Out, numbers_out, with_entry, without}
+use Rattle.fm_table.specs.declared.shares.Shares.{Shares}
 use Rattle.fm_table.specs.declared.standing.Standing.{Standing}
 use Rattle.fm_table.proofs.Outs.{numbers_without}
 
@@ -72,12 +73,13 @@ module _ (program : Program) (old new : Standing) (s : IsStanding program old) (
       (in_filter (λ m. not (m == t.number)) (numbers_out out) n left, λ e. cc (sym (filter_among (λ m. not (m == t.number)) (numbers_out out) n left) ∙ ap (λ (m : ℕ). not (m == t.number)) e ∙ not_own t.number))
 
   -- the table with the entry
-  pub table_entered : (setup : Setup) (out : List Out) → IsTable program setup old out → old.used ≤ setup.turns → IsStanding program new → IsTable program setup new (without t.number out)
-  table_entered setup out table going later = record {
+  pub table_entered : (setup : Setup) (out : List Out) (shares last : Shares) → IsTable program setup old out shares → old.used ≤ setup.turns → IsStanding program new → HasShares program setup (stand_kept program new) last → IsTable program setup new (without t.number out) last
+  table_entered setup out shares last table going later shared = record {
     standing = later;
     front = h.front setup.turns going;
     out_able = λ n among. let k = others_out out n among in others_queued n (table.out_able n k.0) k.1 later;
     out_once = subst EachOnce (sym (numbers_without t.number out)) (once_filter (λ m. not (m == t.number)) (numbers_out out) table.out_once);
+    shared = shared;
   }
 
   -- what is told of it

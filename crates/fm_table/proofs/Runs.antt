@@ -7,7 +7,7 @@ use Rattle.fm_run.specs.declared.run.Ending.{Ending}
 use Rattle.fm_run.specs.declared.run.Ending.TheVariants as ending
 use Rattle.fm_run.specs.declared.run.Run.{Run}
 use Rattle.fm_run.proofs.Playing.{run_ended, run_spent}
-use Rattle.fm_table.specs.Told.{IsEndingOf, IsIdle, IsKept, Told, cost_of, stand_of, told_at}
+use Rattle.fm_table.specs.Told.{IsEndingOf, IsIdle, IsKept, Told, cost_of, stand_of, told_at, without}
 use Rattle.fm_table.specs.Turning.{TurnsTo}
 use Rattle.fm_table.proofs.Tables.{turn_alone, turn_follows}
 
@@ -65,6 +65,31 @@ turn_keeps choices choice a b false same alone follows turned idle =
       setup = ap (λ (c : Told). c.setup) h.1;
       follows = subst (λ (c : Told). Follows c.program c.setup.slice choices c.history) (sym h.1) follows;
       alone = subst (λ (c : Told). c ≡ told_at c.program c.setup c.history) (sym h.1) alone;
+      idle = λ e. subst IsIdle (sym h.1) h.0;
+    }
+
+-- what a turn keeps where nobody is out: program, setup, and that nobody is
+pub record StaysOn (a b : Told) (made : Bool) : Type 0 where
+  pub program : b.program ≡ a.program
+  pub setup : b.setup ≡ a.setup
+  pub alone : b.out ≡ []
+  pub idle : made ≡ false → IsIdle b
+
+pub stays_on : (choice : ℕ) (a b : Told) (made : Bool) → a.out ≡ [] → (made ≡ true → TurnsTo choice a b) → (made ≡ false → IsIdle a × (b ≡ a)) → StaysOn a b made
+stays_on choice a b true alone turned idle =
+    let h = turned refl in
+    record {
+      program = ap (λ (c : Told). c.program) h.told;
+      setup = ap (λ (c : Told). c.setup) h.told;
+      alone = ap (λ (c : Told). c.out) h.told ∙ ap (without h.entry.number) alone;
+      idle = λ e. absurd (cc e);
+    }
+stays_on choice a b false alone turned idle =
+    let h = idle refl in
+    record {
+      program = ap (λ (c : Told). c.program) h.1;
+      setup = ap (λ (c : Told). c.setup) h.1;
+      alone = ap (λ (c : Told). c.out) h.1 ∙ alone;
       idle = λ e. subst IsIdle (sym h.1) h.0;
     }
 

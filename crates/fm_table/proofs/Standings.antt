@@ -222,7 +222,7 @@ pub live_queue : (program : Program) (player later : Player Compiled) → IsLive
 live_queue program player later live net parents used able marked =
     let queue = later.able.numbers.items in
     let a = stand_in program player in
-    let moved : IsLive program (record { net = player.net; parents = player.parents; ended = later.ended; able = later.able; used = player.used }) = record {
+    let moved : IsLive program (record { net = player.net; parents = player.parents; ended = later.ended; able = later.able; used = player.used; spare = later.spare }) = record {
       sound = live.sound;
       played = record {
         history = live.played.history;
@@ -232,8 +232,8 @@ live_queue program player later live net parents used able marked =
       };
       stand_is = ap (λ (b : Stand). record { state = b.state; places = b.places; able = queue }) live.stand_is;
     } in
-    subst (IsLive program) (sym (ap₂ (λ n p. record { net = n; parents = p; ended = later.ended; able = later.able; used = later.used }) net parents
-    ∙ ap (λ (u : ℕ). record { net = player.net; parents = player.parents; ended = later.ended; able = later.able; used = u }) used)) moved
+    subst (IsLive program) (sym (ap₂ (λ n p. record { net = n; parents = p; ended = later.ended; able = later.able; used = later.used; spare = later.spare }) net parents
+    ∙ ap (λ (u : ℕ). record { net = player.net; parents = player.parents; ended = later.ended; able = later.able; used = u; spare = later.spare }) used)) moved
 
 -- those of one queue that can step are those of another with the same numbers, each once
 pub able_same : (program : Program) (s : State Proc) (places : List Place) (ns ms : List ℕ) → ((n : ℕ) → Among n ns → Among n ms) → ((n : ℕ) → Among n ms → Among n ns) → EachOnce ms → AreAble program s places ns → AreAble program s places ms

@@ -18,7 +18,7 @@ use Rattle.fm_run.specs.Pieces.{after_steps}
 use Rattle.fm_run.specs.Runs.{AreAble, Follows, IsFrontWithin, IsNext, Stand, after_entry, first_stand, place_of, steps_of}
 use Rattle.fm_run.proofs.Following.{entries_more, follows_more}
 use Rattle.fm_run.proofs.Playing.{front_none, nobody_can, started_all}
-use Rattle.fm_table.specs.Inside.{EntersTo, IsAsItWas, IsStanding, IsTable, outs_of, stand_kept, told_in}
+use Rattle.fm_table.specs.Inside.{EntersTo, HasShares, IsAsItWas, IsLive, IsStanding, IsTable, outs_of, stand_in, stand_kept, told_in}
 use Rattle.fm_table.specs.Told.{IsIdle, IsKept, Out, Told, cost_of, has_some, led_by, numbers_out, phase_by, phase_of, ready_in, ready_of, stand_of, told_at, with_entry}
 use Rattle.fm_table.specs.Turning.{CantStepBehind, MakesSteps, PlaysTo, TurnsTo}
 use Rattle.fm_table.specs.declared.making.Way.{Way}
@@ -26,8 +26,9 @@ use Rattle.fm_table.specs.declared.making.Way.TheVariants as way
 use Rattle.fm_table.specs.declared.outside.Taken.{Taken}
 use Rattle.fm_workers.specs.declared.shared.Phase.{Phase}
 use Rattle.fm_workers.specs.declared.shared.Phase.TheVariants.{Going, Ended, Spent}
+use Rattle.fm_table.specs.declared.shares.Shares.{Shares}
 use Rattle.fm_table.specs.declared.standing.Standing.{Standing}
-use Rattle.fm_table.proofs.Standings.{entry_stand}
+use Rattle.fm_table.proofs.Standings.{entry_stand, stand_same}
 use Rattle.fm_table.proofs.Outs.{all_ready}
 
 -- what is so of a value that is there
@@ -109,22 +110,30 @@ idle_none a b (inr empty) free is none = (within_turns a.setup.turns (cost_of a)
 
 -- ---- what a table keeps, as it is told
 
-pub table_kept : (program : Program) (setup : Setup) (s : Standing) (out : List Out) → IsTable program setup s out → IsKept (told_in program setup s out)
-table_kept program setup s out t = record { played = t.standing.played; able = t.standing.able; front = t.front; out_able = t.out_able; out_once = t.out_once }
+pub table_kept : (program : Program) (setup : Setup) (s : Standing) (out : List Out) (shares : Shares) → IsTable program setup s out shares → IsKept (told_in program setup s out)
+table_kept program setup s out shares t = record { played = t.standing.played; able = t.standing.able; front = t.front; out_able = t.out_able; out_once = t.out_once }
 
 pub told_same : (program : Program) (setup : Setup) (old new : Standing) (out : List Out) → IsAsItWas old new → told_in program setup new out ≡ told_in program setup old out
 told_same program setup old new out same = ap₂ (λ (ts : List Turn) (ns : List ℕ). record { program = program; setup = setup; history = ts; queue = ns; out = out }) same.history same.queue
 
-pub table_same : (program : Program) (setup : Setup) (old new : Standing) (out : List Out) → IsAsItWas old new → IsStanding program new → IsTable program setup old out → IsTable program setup new out
-table_same program setup old new out same standing t = record {
+pub table_same : (program : Program) (setup : Setup) (old new : Standing) (out : List Out) (shares later : Shares) → IsAsItWas old new → IsStanding program new → HasShares program setup (stand_kept program old) later → IsTable program setup old out shares → IsTable program setup new out later
+table_same program setup old new out shares later same standing shared t = record {
   standing = standing;
   front = subst (λ (a : Told). IsFrontOf a) (sym (told_same program setup old new out same)) t.front;
   out_able = λ n h. subst (λ (ns : List ℕ). Among n ns) (sym same.queue) (t.out_able n h);
   out_once = t.out_once;
+  shared = subst (λ (b : Stand). HasShares program setup b later) (sym (stand_same program old new same)) shared;
 }
   where
     IsFrontOf : Told → Type 0
     IsFrontOf a = IsFrontWithin a.program a.setup.turns a.history (stand_of a).places
+
+-- what is known of the workers' shares of the processes in memory is known of what was kept
+pub shares_moved : (program : Program) (setup : Setup) (old new : Standing) (same : IsAsItWas old new) (live : IsLive program new.player) (x y : Shares) → (HasShares program setup (stand_in program new.player) x → HasShares program setup (stand_in program new.player) y)
+    → HasShares program setup (stand_kept program old) x → HasShares program setup (stand_kept program old) y
+shares_moved program setup old new same live x y keeps has =
+    let there : stand_in program new.player ≡ stand_kept program old = live.stand_is ∙ stand_same program old new same in
+    subst (λ (b : Stand). HasShares program setup b y) there (keeps (subst (λ (b : Stand). HasShares program setup b x) (sym there) has))
 
 -- ---- what was made of an entry
 
@@ -199,12 +208,13 @@ turn_alone choice a b alone h =
 
 -- ---- the first table
 
-pub first_table : (program : Program) (setup : Setup) (s : Standing) → IsStanding program s → s.player.net.history ≡ [] → (out : List Taken) → out ≡ [] → IsTable program setup s (outs_of out)
-first_table program setup s standing none out free = record {
+pub first_table : (program : Program) (setup : Setup) (s : Standing) → IsStanding program s → s.player.net.history ≡ [] → (out : List Taken) → out ≡ [] → (shares : Shares) → HasShares program setup (stand_kept program s) shares → IsTable program setup s (outs_of out) shares
+first_table program setup s standing none out free shares shared = record {
   standing = standing;
   front = front_none program setup.turns s.player.net.history (stand_kept program s).places none;
   out_able = λ n h. absurd (subst (λ (os : List Taken). Among n (numbers_out (outs_of os))) free h);
   out_once = subst (λ (os : List Taken). EachOnce (numbers_out (outs_of os))) (sym free) tt;
+  shared = shared;
 }
 
 pub first_is : (program : Program) (setup : Setup) (s : Standing) → s.player.net.history ≡ [] → s.player.able.numbers.items ≡ (first_stand program).able → (out : List Taken) → out ≡ [] → told_in program setup s (outs_of out) ≡ told_at program setup []

@@ -1,6 +1,6 @@
 -- What an entry, a turn and a piece that is given come to.
 use Rattle.std.proofs.Common.{◌≡◌, ◌⊎◌, inl, inr, ℕ, zero, suc, ◌<◌, ◌≤◌, Bool, true, false, cond, not, ◌==◌, List, [], ◌∷◌, ◌++◌, refl, sym, ap, ◌∙◌, subst, arith, eqb-true}
-use Rattle.std.specs.Prelude.{Some}
+use Rattle.std.specs.Prelude.{None, Some}
 use Rattle.std.proofs.lemmas.Bool.{ne_eqb}
 use Rattle.std.proofs.lemmas.List.{map-append}
 use Rattle.fm_base.specs.declared.schedule.Setup.{Setup}
@@ -14,15 +14,17 @@ use Rattle.fm_run.specs.Runs.{IsFrontWithin}
 use Rattle.fm_run.specs.declared.player.Player.{Player}
 use Rattle.fm_run.proofs.Numbers.{among_either, among_filter, among_get, among_is, among_left, among_right, filter_among, in_filter, is_among_from, not_own, once_append, once_filter}
 use Rattle.fm_outcome_code.specs.declared.compiled.Compiled.{Compiled}
-use Rattle.fm_table.specs.Giving.{GivesTo, taken}
+use Rattle.fm_table.specs.Giving.{GivesTo, taken, taken_for}
 use Rattle.fm_table.specs.Inside.{EntersTo, HasEntered, HasMade, IsAsItWas, IsGivenSo, IsStanding, IsTable, MakesSo, stand_kept, told_in}
 use Rattle.fm_table.specs.Told.{IsKept, Out, Told, cost_of, is_out, led_by, numbers_out, ready_in, ready_of, stand_of, start_in, with_entry, without}
-use Rattle.fm_table.specs.Turning.{TurnsTo}
+use Rattle.fm_table.specs.Turning.{TurnsFor, TurnsTo}
 use Rattle.fm_table.specs.declared.making.Way.{Way}
 use Rattle.fm_table.specs.declared.making.Way.TheVariants as way
+use Rattle.fm_table.specs.declared.shares.Shares.{Shares}
 use Rattle.fm_table.specs.declared.standing.Standing.{Standing}
 use Rattle.fm_table.proofs.Others.{told_entered}
 use Rattle.fm_table.proofs.Outs.{numbers_without, ready_free, ready_queued, start_out}
+use Rattle.fm_table.proofs.Sharing.{none_known}
 use Rattle.fm_table.proofs.Standings.{requeued}
 use Rattle.fm_table.proofs.Tables.{some_steps, told_same}
 use native.Mathlib.Decide.{ℕ_discrete}
@@ -49,6 +51,15 @@ chosen_queued a choice n who = ready_queued a.out a.queue n (among_get (ready_of
 
 pub turn_made : (a b : Told) (choice n k : ℕ) (w : Way) → cost_of a ≤ a.setup.turns → chosen (Some choice) (ready_of a) ≡ Some n → w ≡ way.Slice a.setup.slice → EntersTo w n k a b → TurnsTo choice a b
 turn_made a b choice n k w going who is h = record {
+  going = going;
+  entry = turn_of n k;
+  who = who;
+  full = subst (λ (v : Way). MakesSo v a.program (stand_of a) (stand_of b) n k) is h.so;
+  told = h.told;
+}
+
+pub turn_made_for : (a b : Told) (worker n k : ℕ) (w : Way) → cost_of a ≤ a.setup.turns → taken_for worker a ≡ Some n → w ≡ way.Slice a.setup.slice → EntersTo w n k a b → TurnsFor worker a b
+turn_made_for a b worker n k w going who is h = record {
   going = going;
   entry = turn_of n k;
   who = who;
@@ -98,12 +109,13 @@ some_of n e = some_steps n (isnt (n == 0) e)
 -- ---- who is taken, and who is put back
 
 -- one that is ready is out
-pub table_taken : (program : Program) (setup : Setup) (s : Standing) (out : List Out) (n : ℕ) (b : Body) → IsTable program setup s out → Among n (ready_in out s.player.able.numbers.items) → IsTable program setup s (out ++ record { number = n; start = b } ∷ [])
-table_taken program setup s out n b t ready = record {
+pub table_taken : (program : Program) (setup : Setup) (s : Standing) (out : List Out) (shares : Shares) (n : ℕ) (b : Body) → IsTable program setup s out shares → Among n (ready_in out s.player.able.numbers.items) → IsTable program setup s (out ++ record { number = n; start = b } ∷ []) shares
+table_taken program setup s out shares n b t ready = record {
   standing = t.standing;
   front = t.front;
   out_able = λ m h. able (among_either m (numbers_out out) (n ∷ []) (subst (λ (ns : List ℕ). Among m ns) numbers h));
   out_once = subst EachOnce (sym numbers) (once_append (numbers_out out) (n ∷ []) t.out_once ((λ h. h), tt) apart);
+  shared = t.shared;
 }
   where
     numbers : numbers_out (out ++ record { number = n; start = b } ∷ []) ≡ numbers_out out ++ n ∷ []
@@ -124,18 +136,19 @@ told_taken program setup old new out later n b a view same is =
     ap (told_in program setup new) is ∙ told_same program setup old new (out ++ record { number = n; start = b } ∷ []) same ∙ ap (taken n b) view
 
 -- one that was out is ready again
-pub table_back : (program : Program) (setup : Setup) (old new : Standing) (out later : List Out) (n : ℕ) → IsTable program setup old out → new.player.net ≡ old.player.net → new.player.parents ≡ old.player.parents → new.player.used ≡ old.player.used → new.is_live ≡ old.is_live → new.paths ≡ old.paths → new.used ≡ old.used → new.is_ready ≡ old.is_ready
+pub table_back : (program : Program) (setup : Setup) (old new : Standing) (out later : List Out) (shares last : Shares) (n : ℕ) → last.nodes ≡ shares.nodes → last.lists ≡ None → IsTable program setup old out shares → new.player.net ≡ old.player.net → new.player.parents ≡ old.player.parents → new.player.used ≡ old.player.used → new.is_live ≡ old.is_live → new.paths ≡ old.paths → new.used ≡ old.used → new.is_ready ≡ old.is_ready
     → (b : Bool) → is_out out n ≡ b → new.player.able.numbers.items ≡ cond b (others_in n old.player.able.numbers.items ++ n ∷ []) old.player.able.numbers.items → later ≡ cond b (without n out) out
-    → ((count : ℕ) → AreMarked count old.player.able.marks.items old.player.able.numbers.items → AreMarked count new.player.able.marks.items new.player.able.numbers.items) → IsTable program setup new later
-table_back program setup old new out later n t net parents paid live paths used ready false free queue is marks = record {
+    → ((count : ℕ) → AreMarked count old.player.able.marks.items old.player.able.numbers.items → AreMarked count new.player.able.marks.items new.player.able.numbers.items) → IsTable program setup new later last
+table_back program setup old new out later shares last n nodes none t net parents paid live paths used ready false free queue is marks = record {
   standing =
       requeued program old new t.standing net parents paid live paths used ready (λ m h. subst (λ (ns : List ℕ). Among m ns) (sym queue) h) (λ m h. subst (λ (ns : List ℕ). Among m ns) queue h)
       (subst EachOnce (sym queue) t.standing.able.once) marks;
   front = subst (λ (ts : List Turn). IsFrontWithin program setup.turns ts (led_by program ts).places) (sym (ap (λ k. k.history) net)) t.front;
   out_able = λ m h. subst (λ (ns : List ℕ). Among m ns) (sym queue) (t.out_able m (subst (λ (os : List Out). Among m (numbers_out os)) is h));
   out_once = subst (λ (os : List Out). EachOnce (numbers_out os)) (sym is) t.out_once;
+  shared = none_known program setup (stand_kept program new) last (nodes ∙ t.shared.nodes_are) none;
 }
-table_back program setup old new out later n t net parents paid live paths used ready true busy queue is marks =
+table_back program setup old new out later shares last n nodes none t net parents paid live paths used ready true busy queue is marks =
     let ns = old.player.able.numbers.items in
     let there : Among n ns = t.out_able n (among_is (numbers_out out) n busy) in
     record {
@@ -146,6 +159,7 @@ table_back program setup old new out later n t net parents paid live paths used 
       front = subst (λ (ts : List Turn). IsFrontWithin program setup.turns ts (led_by program ts).places) (sym (ap (λ k. k.history) net)) t.front;
       out_able = λ m h. subst (λ (ks : List ℕ). Among m ks) (sym queue) (moved ns m (t.out_able m (in_filter (λ k. not (k == n)) (numbers_out out) m (subst (λ (ks : List ℕ). Among m ks) (numbers_without n out) (subst (λ (os : List Out). Among m (numbers_out os)) is h)))));
       out_once = subst (λ (os : List Out). EachOnce (numbers_out os)) (sym is) (subst EachOnce (sym (numbers_without n out)) (once_filter (λ k. not (k == n)) (numbers_out out) t.out_once));
+      shared = none_known program setup (stand_kept program new) last (nodes ∙ t.shared.nodes_are) none;
     }
   where
     moved : (ks : List ℕ) (m : ℕ) → Among m ks → Among m (others_in n ks ++ n ∷ [])

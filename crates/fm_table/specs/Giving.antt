@@ -1,25 +1,30 @@
 -- What a table does with a piece that is made outside: taking it, what comes back, and what is called back.
 -- Source: this profile.
-use Rattle.std.specs.Prelude.{◌≡◌, ◌⊎◌, ℕ, ◌+◌, ◌<◌, ◌≤◌, true, cond, Some, List, [], ◌∷◌, ◌++◌}
+use Rattle.std.specs.Prelude.{◌≡◌, ◌⊎◌, ℕ, ◌+◌, ◌<◌, ◌≤◌, true, cond, Option, Some, List, [], ◌∷◌, ◌++◌}
 use Rattle.std.specs.List.Sorted.{IsNonDecreasing, IsPermutation}
 use Rattle.fm_base.specs.declared.schedule.Turn.{Turn}
 use Rattle.fm_code.specs.declared.body.Body.{Body}
 use Rattle.fm_machine.specs.declared.done.Done.{Done}
-use Rattle.fm_run.specs.Orders.{chosen, others_in}
+use Rattle.fm_run.specs.Orders.{others_in}
 use Rattle.fm_run.specs.Pieces.{IsFull}
 use Rattle.fm_run.specs.Runs.{place_of}
 use Rattle.fm_workers.specs.declared.shared.Given.{Given}
 use Rattle.fm_workers.specs.declared.shared.Given.TheVariants.{Played, Stranger, Over}
+use Rattle.fm_table.specs.Planned.{first_of, mapped}
 use Rattle.fm_table.specs.Told.{Out, Told, cost_of, is_out, numbers_out, ready_in, ready_of, stand_of, start_in, with_entry, without}
 
 -- a process is out, with this body
 abbrev pub taken : (number : ℕ) → Body → Told → Told
 taken number start a = record { program = a.program; setup = a.setup; history = a.history; queue = a.queue; out = a.out ++ record { number = number; start = start } ∷ [] }
 
--- the first one that is ready is taken
-pub record TakesTo (number : ℕ) (start : Body) (a b : Told) : Type 0 where
+-- who is taken for a worker: the first one that is ready and that the plan maps to this worker, or else the first one that is ready
+abbrev pub taken_for : (worker : ℕ) → Told → Option ℕ
+taken_for worker a = first_of (mapped a.program a.setup (stand_of a) worker (ready_of a)) (ready_of a)
+
+-- that one is out
+pub record TakesTo (worker number : ℕ) (start : Body) (a b : Told) : Type 0 where
   pub going : cost_of a ≤ a.setup.turns
-  pub who : chosen (Some 0) (ready_of a) ≡ Some number
+  pub who : taken_for worker a ≡ Some number
   pub told : b ≡ taken number start a
 
 -- a process that was out is ready again, behind the others

@@ -1,24 +1,28 @@
 -- The processes in memory as what the kept schedule leads to.
 -- Source: this profile.
-use Rattle.std.specs.Prelude.{◌≡◌, ◌⊎◌, ℕ, ◌+◌, ◌<◌, ◌≤◌, true, false, is_some, List, ◌++◌, map, slice_get}
+use Rattle.std.specs.Prelude.{◌≡◌, ◌⊎◌, ℕ, ◌+◌, ◌<◌, ◌≤◌, true, false, is_some, IfSome, List, [], ◌++◌, drop, length, map, slice_get, slice_index_or}
 use Rattle.fm_base.specs.declared.schedule.Setup.{Setup}
 use Rattle.fm_base.specs.declared.schedule.Turn.{Turn}
 use Rattle.fm_sched.specs.Schedule.{IsLegal}
 use Rattle.fm_net.specs.Machine.{Place}
 use Rattle.fm_rules.specs.declared.program.Program.{Program}
+use Rattle.fm_mean.specs.Machines.{main_nodes}
 use Rattle.fm_mean.specs.Steps.{step}
 use Rattle.fm_machine.specs.declared.done.Done.{Done}
 use Rattle.fm_procs.specs.Readings.{order_of}
 use Rattle.fm_run.specs.Entries.{turn_of}
-use Rattle.fm_run.specs.Orders.{Among, EachOnce, can_at, places_of, ready_after}
+use Rattle.fm_run.specs.Orders.{Among, EachOnce, can_at, others_in, places_of, ready_after}
 use Rattle.fm_run.specs.Pieces.{IsFull}
 use Rattle.fm_run.specs.Runs.{AreAble, IsEntry, IsFrontWithin, IsPlayed, IsPlayedBy, Stand, place_of, stand_at, steps_of}
+use Rattle.fm_run.specs.declared.orders.Queue.{Queue}
 use Rattle.fm_run.specs.declared.player.Player.{Player}
 use Rattle.fm_outcome_code.specs.Played.{played}
 use Rattle.fm_outcome_code.specs.Sound.{IsSound}
 use Rattle.fm_outcome_code.specs.declared.compiled.Compiled.{Compiled}
+use Rattle.fm_table.specs.Planned.{mapped}
 use Rattle.fm_table.specs.Told.{Out, Told, cost_by, cost_of, has_some, numbers_out, stand_of, stand_with, with_entry}
 use Rattle.fm_table.specs.declared.outside.Taken.{Taken}
+use Rattle.fm_table.specs.declared.shares.Shares.{Shares}
 use Rattle.fm_table.specs.declared.standing.Standing.{Standing}
 use Rattle.fm_table.specs.declared.making.Way.{Way}
 use Rattle.fm_table.specs.declared.making.Way.TheVariants as way
@@ -100,12 +104,40 @@ outs_of = map out_of
 abbrev pub told_in : Program → Setup → Standing → List Out → Told
 told_in program setup s out = record { program = program; setup = setup; history = s.player.net.history; queue = s.player.able.numbers.items; out = out }
 
+-- the processes of a program in memory, whose main has so many nodes
+abbrev pub IsLiveOn : (nodes : ℕ) → Player Compiled → Type 0
+IsLiveOn nodes player = (p : Program) × IsLive p player × (nodes ≡ main_nodes p)
+
+-- what each worker has
+abbrev pub shares_of : List Queue → List (List ℕ)
+shares_of = map (λ q. q.numbers.items)
+
+-- each of the workers has those of the queue that the plan maps to it, in their order
+pub record AreShares (program : Program) (setup : Setup) (a : Stand) (shares : List (List ℕ)) : Type 0 where
+  pub many : length shares ≡ setup.workers
+  pub each : (w : ℕ) → w < setup.workers → slice_index_or shares w [] ≡ mapped program setup a w a.able
+
+-- the nodes are those of main, and what the workers have, where it is kept, is what the plan says
+pub record HasShares (program : Program) (setup : Setup) (a : Stand) (x : Shares) : Type 0 where
+  pub nodes_are : x.nodes ≡ main_nodes program
+  pub lists_are : IfSome x.lists (λ lists. AreShares program setup a (shares_of lists.items))
+
+-- and so without the process of this number
+pub record HaveLeft (program : Program) (setup : Setup) (a : Stand) (number : ℕ) (shares : List (List ℕ)) : Type 0 where
+  pub many : length shares ≡ setup.workers
+  pub each : (w : ℕ) → w < setup.workers → slice_index_or shares w [] ≡ others_in number (mapped program setup a w a.able)
+
+-- behind an entry of a process what each worker has is what it had without this process, and what of the queue comes to it from a place on
+abbrev pub AreBehind : Program → Setup → (a b : Stand) → (number from : ℕ) → Type 0
+AreBehind program setup a b number from = (w : ℕ) → mapped program setup b w b.able ≡ others_in number (mapped program setup a w a.able) ++ mapped program setup b w (drop from b.able)
+
 -- what a table keeps
-pub record IsTable (program : Program) (setup : Setup) (s : Standing) (out : List Out) : Type 0 where
+pub record IsTable (program : Program) (setup : Setup) (s : Standing) (out : List Out) (shares : Shares) : Type 0 where
   pub standing : IsStanding program s
   pub front : IsFrontWithin program setup.turns s.player.net.history (stand_kept program s).places
   pub out_able : (n : ℕ) → Among n (numbers_out out) → Among n s.player.able.numbers.items
   pub out_once : EachOnce (numbers_out out)
+  pub shared : HasShares program setup (stand_kept program s) shares
 
 -- so many steps of a process were made, as they were asked for, and are an entry
 pub record EntersTo (w : Way) (number steps : ℕ) (a b : Told) : Type 0 where

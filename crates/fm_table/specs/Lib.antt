@@ -1,4 +1,5 @@
 pub mod Told
+pub mod Planned
 pub mod Turning
 pub mod Giving
 pub mod Outs

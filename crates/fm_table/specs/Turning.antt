@@ -9,6 +9,7 @@ use Rattle.fm_run.specs.Entries.{turn_of}
 use Rattle.fm_run.specs.Orders.{chosen}
 use Rattle.fm_run.specs.Pieces.{IsFull, after_steps}
 use Rattle.fm_run.specs.Runs.{place_of, steps_of}
+use Rattle.fm_table.specs.Giving.{taken_for}
 use Rattle.fm_table.specs.Told.{Told, cost_of, ready_of, stand_of, with_entry}
 
 -- the process that the choice tells among those that are ready makes a full piece, which is an entry more
@@ -16,6 +17,14 @@ pub record TurnsTo (choice : ℕ) (a b : Told) : Type 0 where
   pub going : cost_of a ≤ a.setup.turns
   pub entry : Turn
   pub who : chosen (Some choice) (ready_of a) ≡ Some entry.number
+  pub full : IsFull a.program a.setup.slice true (stand_of a).state (place_of (stand_of a).places entry) entry.steps
+  pub told : b ≡ with_entry a entry
+
+-- the process that is taken for a worker makes a full piece, which is an entry more
+pub record TurnsFor (worker : ℕ) (a b : Told) : Type 0 where
+  pub going : cost_of a ≤ a.setup.turns
+  pub entry : Turn
+  pub who : taken_for worker a ≡ Some entry.number
   pub full : IsFull a.program a.setup.slice true (stand_of a).state (place_of (stand_of a).places entry) entry.steps
   pub told : b ≡ with_entry a entry
 

@@ -6,8 +6,9 @@
 //! needs them.
 //!
 //! `turn` makes a piece of a process that is ready, chosen by its place among these; `play` makes the steps of an entry that is handed in;
-//! `take` hands a process out, so that its piece can be made outside, `give` plays what came of it, and `recall` makes ready again who is
-//! out; `run_table` turns until nobody can step or the turns are spent.
+//! `take` hands a process out for a worker, by the plan, so that its piece can be made outside, `give` plays what came of it, and `recall`
+//! makes ready again who is out; `turn_light` makes the piece in place where it isn't worth handing out; `run_table` turns until nobody can
+//! step or the turns are spent.
 #![tactic(auto)]
 
 mod laws;
@@ -17,12 +18,14 @@ mod piece;
 mod reviving;
 mod running;
 mod shared;
+mod shares;
 mod standing;
 mod table;
 mod taking;
+mod weights;
 
 pub use fm_workers::{Given, Phase};
 pub use laws::{first_come_is_fair, run_is_fair};
 pub use piece::Piece;
-pub use running::run_table;
+pub use running::{run_on, run_table};
 pub use table::Table;

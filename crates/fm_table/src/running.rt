@@ -72,3 +72,17 @@ pub fn run_table(
     }
     run_of(alloc, table)
 }
+
+/// Plays a table on, whose pieces nobody makes outside, until no process can step or its turns are spent: each piece goes to the first
+/// process that is ready.
+pub fn run_on(alloc: Global, begun: Table) -> Result<Run, NoMemory>
+    requires { begun.out ≡ [] }
+    ensures { IfOk result (λ r. IsRun begun.program begun.setup.turns r) }
+{
+    let mut table = begun;
+    let mut goes_on = true;
+    'pieces: while goes_on {
+        goes_on = table.turn(alloc, 0)?;
+    }
+    run_of(alloc, table)
+}

@@ -28,8 +28,7 @@ impl SharedTable for Table {
     }
 
     fn take(&mut self, alloc: Global, worker: u32) -> Result<Option<Piece>, NoMemory> {
-        let _ = worker;
-        Table::take(self, alloc)
+        Table::take(self, alloc, worker)
     }
 
     fn give(&mut self, alloc: Global, done: Done) -> Result<Given, (Done, NoMemory)> {
@@ -37,8 +36,7 @@ impl SharedTable for Table {
     }
 
     fn turn_light(&mut self, alloc: Global, worker: u32) -> Result<bool, NoMemory> {
-        let _ = (alloc, worker);
-        Ok(false)
+        Table::turn_light(self, alloc, worker)
     }
 
     fn recall(&mut self) {

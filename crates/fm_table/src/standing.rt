@@ -45,6 +45,7 @@ impl Standing {
     /// Before the first piece.
     pub fn first(alloc: Global, program: &Program) -> Result<Standing, NoMemory>
         ensures standing { IfOk result (λ s. IsStanding program.now s) }
+        ensures live { IfOk result (λ s. s.is_live ≡ true) }
         ensures history { IfOk result (λ s. s.player.net.history ≡ []) }
         ensures queue { IfOk result (λ s. s.player.able.numbers.items ≡ (first_stand program.now).able) }
     {
@@ -77,6 +78,7 @@ impl Standing {
             ended,
             able,
             used,
+            ..
         } = play_again(alloc, program, entries.as_slice())?;
         self.player.net = net;
         self.player.parents = parents;
@@ -102,6 +104,7 @@ impl Standing {
         requires some { IsAsked way }
         requires standing { IsStanding program.now self.old }
         ensures standing { IsStanding program.now self.new }
+        ensures live { OnOk result (self.new.is_live ≡ true) }
         ensures none { result ≡ Ok 0 → IsAsItWas self.old self.new × (can_at program.now (stand_kept program.now self.old).state (stand_kept program.now self.old).places number ≡ false) }
         ensures made { IfOk result (λ steps. 1 ≤ steps → HasEntered program.now (turn_of number steps) self.old self.new) }
         ensures so { IfOk result (λ steps. 1 ≤ steps → MakesSo way.entry program.now (stand_kept program.now self.old) (stand_kept program.now self.new) number steps) }

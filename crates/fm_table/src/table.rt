@@ -4,23 +4,26 @@ ghost use Rattle.std.specs.Prelude.{◌≡◌, ◌≤◌, ◌<◌, ℕ, nat_lt, 
 ghost use Rattle.fm_sched.specs.Schedule.{IsFinal};
 ghost use Rattle.fm_mean.specs.Outcome.{outcome_of};
 ghost use Rattle.fm_mean.specs.Steps.{step};
-ghost use Rattle.fm_run.specs.Orders.{can_at, places_of};
-ghost use Rattle.fm_table.specs.Giving.{CallsBack, GivenTo, TakesTo};
+ghost use Rattle.fm_run.specs.Orders.{Among, can_at, places_of};
+ghost use Rattle.fm_table.specs.Giving.{CallsBack, GivenTo, TakesTo, taken, taken_for};
 ghost use Rattle.fm_table.specs.Inside.{EntersTo, IsAsked};
-ghost use Rattle.fm_table.specs.Told.{IsIdle, IsKept, cost_of, first_told, phase_by, phase_of, stand_of};
-ghost use Rattle.fm_table.specs.Turning.{PlaysTo, TurnsTo};
+ghost use Rattle.fm_table.specs.Told.{IsIdle, IsKept, cost_of, first_told, phase_by, phase_of, ready_of, stand_of};
+ghost use Rattle.fm_table.specs.Turning.{PlaysTo, TurnsFor, TurnsTo};
 
 use crate::making::Way;
 use crate::outside::{Taken, call_back, choose_ready, forget, is_taken, put_back};
 use crate::piece::{Piece, slice_for};
 use crate::reviving::is_empty;
+use crate::shares::Shares;
 use crate::standing::Standing;
 use crate::taking::{Start, start_of};
+use crate::weights::{is_heavy, weigh};
 use fm_base::{NoMemory, Path, Setup, Turn};
 use fm_machine::Done;
 use fm_mean::Outcome;
 use fm_rules::Program;
 use fm_run::History;
+use fm_same_program::same_program;
 use fm_workers::{Given, Phase};
 use std::alloc::Global;
 use std::marker::Model;
@@ -33,6 +36,8 @@ pub struct Table {
     setup: Setup,
     standing: Standing,
     out: Vec<Taken>,
+    shares: Shares,
+    heavy: Vec<bool>,
 }
 
 impl Drop for Table {
@@ -42,6 +47,8 @@ impl Drop for Table {
             setup: _setup,
             standing: _standing,
             out: _out,
+            shares: _shares,
+            heavy: _heavy,
         } = self;
     }
 }
@@ -60,7 +67,7 @@ impl Model for Table {
 
     ghost view = { λ t. told_in t.program.value t.setup t.standing (outs_of t.out.items) };
 
-    ghost invariant = { λ t. IsTable t.program.value t.setup t.standing (outs_of t.out.items) };
+    ghost invariant = { λ t. IsTable t.program.value t.setup t.standing (outs_of t.out.items) t.shares };
 }
 
 // Whether a cost is over the turns.
@@ -97,12 +104,14 @@ impl Table {
         ensures { IfOk result (λ t. t ≡ first_told program.value setup) }
     {
         let standing = Standing::first(alloc, &program)?;
-        let out = Vec::new(alloc);
+        let shares = Shares::first(&standing.player)?;
         Ok(Table {
             program,
             setup,
             standing,
-            out,
+            out: Vec::new(alloc),
+            shares,
+            heavy: Vec::new(alloc),
         })
     }
 
@@ -112,6 +121,14 @@ impl Table {
         ensures { IsKept self.now }
     {
         let _ = &self.setup;
+    }
+
+    /// Whether it is a table of a program and a setup, each part of both alike. It takes no memory.
+    pub fn same(&self, program: &Program, setup: &Setup) -> bool
+        ensures yes { result ≡ true → (self.now.program ≡ program.now) × (self.now.setup ≡ setup.now) }
+        ensures no { result ≡ false → self.now.program ≡ program.now → self.now.setup ≡ setup.now → ⊥ }
+    {
+        same_program(&self.program, program) && self.setup == *setup
     }
 
     /// How far it is.
@@ -182,40 +199,89 @@ impl Table {
         Ok(missing(done, entry.steps))
     }
 
-    /// Takes the first process that is ready out, so that its piece can be made outside, from a copy of it. None where no piece can be
-    /// made, for the turns are spent or nobody is ready; then nothing changes.
+    // Who is taken for a worker: the first one that is ready and that the plan maps to it, or else the first one that is ready. Where
+    // the plan maps all to the first worker, or none to this one, that is the first one.
+    fn choose_for(&mut self, alloc: Global, worker: u32) -> Result<Option<u32>, NoMemory>
+        ensures chosen { IfOk result (λ r. r ≡ taken_for worker self.old) }
+        ensures same { self.new ≡ self.old }
+    {
+        if self.shares.is_whole(&self.setup) || self.setup.workers <= worker {
+            let queue = &self.standing.player.able.numbers;
+            return Ok(choose_ready(queue, self.out.as_slice(), 0));
+        }
+        self.standing.revive(alloc, &self.program)?;
+        self.shares.make(alloc, &self.standing.player, &self.setup)?;
+        let queue = &self.standing.player.able.numbers;
+        Ok(self.shares.choose(worker, queue, self.out.as_slice()))
+    }
+
+    /// Takes a process out for a worker, so that its piece can be made outside, from a copy of it: the first one that is ready and that
+    /// the plan maps to this worker, or else the first one that is ready. None where no piece can be made, for the turns are spent or
+    /// nobody is ready; then nothing changes.
     ///
     /// # Errors
     /// `NoMemory` is want of memory, and changes nothing.
-    pub fn take(&mut self, alloc: Global) -> Result<Option<Piece>, NoMemory>
-        ensures taken { IfOk result (λ r. IfSome r (λ p. TakesTo p.process p.start.value self.old self.new)) }
+    pub fn take(&mut self, alloc: Global, worker: u32) -> Result<Option<Piece>, NoMemory>
+        ensures taken { IfOk result (λ r. IfSome r (λ p. TakesTo worker p.process p.start.value self.old self.new)) }
         ensures idle { IfOk result (λ r. r ≡ None → IsIdle self.old × (self.new ≡ self.old)) }
         ensures stays { OnErr result (self.new ≡ self.old) }
     {
         if is_over(self.standing.used, self.setup.turns) {
             return Ok(None);
         }
-        let queue = &self.standing.player.able.numbers;
-        match choose_ready(queue, self.out.as_slice(), 0) {
+        match self.choose_for(alloc, worker)? {
             None => Ok(None),
             Some(number) => {
-                self.standing.revive(alloc, &self.program)?;
-                let Start { start, kept, path } = start_of(
-                    alloc,
-                    &self.standing.player.net,
-                    number,
-                )?;
-                let slice = slice_for(self.setup.slice, start.frame.words.len());
-                self.out.push(Taken {
-                    number,
-                    start: kept,
-                })?;
-                Ok(Some(Piece {
-                    process: number,
-                    path,
-                    start,
-                    slice,
-                }))
+                let piece = self.hand_out(alloc, number)?;
+                Ok(Some(piece))
+            }
+        }
+    }
+
+    // Takes a process out that is ready.
+    fn hand_out(&mut self, alloc: Global, number: u32) -> Result<Piece, NoMemory>
+        requires { Among number (ready_of self.old) }
+        ensures process { IfOk result (λ p. p.process ≡ number) }
+        ensures taken { IfOk result (λ p. self.new ≡ taken number p.start.value self.old) }
+        ensures stays { OnErr result (self.new ≡ self.old) }
+    {
+        self.standing.revive(alloc, &self.program)?;
+        let Start { start, kept, path } = start_of(alloc, &self.standing.player.net, number)?;
+        let slice = slice_for(self.setup.slice, start.frame.words.len());
+        self.out.push(Taken {
+            number,
+            start: kept,
+        })?;
+        Ok(Piece {
+            process: number,
+            path,
+            start,
+            slice,
+        })
+    }
+
+    /// Makes a piece in place of the process that would be taken for a worker, where it is light: its last piece didn't use up its
+    /// slice, or it hasn't made one. False where it isn't, or where no piece can be made; then nothing changes.
+    ///
+    /// # Errors
+    /// `NoMemory` is want of memory, and changes nothing.
+    pub fn turn_light(&mut self, alloc: Global, worker: u32) -> Result<bool, NoMemory>
+        ensures turned { IfOk result (λ r. r ≡ true → TurnsFor worker self.old self.new) }
+        ensures none { IfOk result (λ r. r ≡ false → self.new ≡ self.old) }
+        ensures stays { OnErr result (self.new ≡ self.old) }
+    {
+        if is_over(self.standing.used, self.setup.turns) {
+            return Ok(false);
+        }
+        match self.choose_for(alloc, worker)? {
+            None => Ok(false),
+            Some(number) => {
+                if is_heavy(self.heavy.as_slice(), number) {
+                    return Ok(false);
+                }
+                let slice = Way::Slice(self.setup.slice);
+                let steps = self.enter(alloc, number, slice)?;
+                Ok(steps != 0)
             }
         }
     }
@@ -249,6 +315,7 @@ impl Table {
         let number = done.process();
         if !is_taken(self.out.as_slice(), done) {
             put_back(&mut self.standing.player.able, &mut self.out, number);
+            self.shares.forget();
             return Ok(Given::Stranger);
         }
         self.enter(alloc, number, Way::Given(done))?;
@@ -264,10 +331,16 @@ impl Table {
         ensures made { IfOk result (λ steps. 1 ≤ steps → EntersTo way.entry number steps self.old self.new) }
         ensures stays { OnErr result (self.new ≡ self.old) }
     {
+        let left = self.shares.leave(&self.standing, &self.setup, number);
+        let queued = self.standing.player.able.numbers.len();
         let steps = self.standing.make(alloc, &self.program, number, way)?;
         if steps == 0 {
             return Ok(0);
         }
+        let player = &self.standing.player;
+        self.shares
+            .settle(left, player, &self.setup, queued.saturating_sub(1));
+        weigh(&mut self.heavy, number, steps >= self.setup.slice);
         forget(&mut self.out, number);
         Ok(steps)
     }
@@ -277,6 +350,7 @@ impl Table {
         ensures { CallsBack self.old self.new }
     {
         call_back(&mut self.standing.player.able, &mut self.out);
+        self.shares.forget();
     }
 
     /// The schedule.
@@ -320,6 +394,8 @@ impl Table {
             setup: _setup,
             standing,
             out: _out,
+            shares: _shares,
+            heavy: _heavy,
         } = self;
         standing.into_parts()
     }

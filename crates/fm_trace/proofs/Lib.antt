@@ -1,7 +1,9 @@
 pub mod NumeralLaws
 pub mod Cuts
 pub mod LineLaws
+pub mod EntryLaws
 pub mod Loop
 pub mod TraceLaws
 pub mod MalformedLaws
 pub mod HistoryLaws
+pub mod RunLaws

@@ -1,16 +1,19 @@
 -- What the reader's own functions give: a line, by its form, and what is behind it; or the line's number.
 -- What `read` promises of them stands in Texts.
 -- Source: this profile.
-use Rattle.std.specs.Prelude.{◌≡◌, ℕ, zero, suc, ◌+◌, Bool, ◌&&◌, ◌||◌, ◌==◌, not, cond, nat_le, nat_lt, List, [], ◌∷◌, length, take, drop, slice_index, Option, Some, None, option_map, option_and_then, Result, Ok, Err, codes}
+use Rattle.std.specs.Prelude.{◌≡◌, ℕ, zero, suc, ◌+◌, ◌-◌, Bool, ◌&&◌, ◌||◌, ◌==◌, not, cond, nat_le, nat_lt, List, [], ◌∷◌, length, take, drop, slice_index, Option, Some, None, option_map, option_and_then, Result, Ok, Err, codes}
 use Rattle.std.specs.Char.{is_ascii_digit}
 use Rattle.std.specs.List.{list_all}
 use Rattle.std.specs.Str.{bytes_eq}
 use Rattle.std.specs.Str.Parse.{digits_value}
 use Rattle.fm_trace.specs.declared.fail.TraceFail.{TraceFail}
 use Rattle.fm_trace.specs.declared.fail.TraceFail.TheVariants as fails
+use Rattle.fm_trace.specs.declared.trace.Form.{Form}
+use Rattle.fm_trace.specs.declared.trace.Form.TheVariants as forms
+use Rattle.fm_trace.specs.declared.lines.Before.{Before}
 use Rattle.fm_trace.specs.declared.trace.Run.{Run}
 use Rattle.fm_trace.specs.declared.trace.Trace.{Trace}
-use Rattle.fm_trace.specs.Texts.{once}
+use Rattle.fm_trace.specs.Texts.{count_word, first_line, may_follow}
 
 -- ---- numbers
 
@@ -43,13 +46,34 @@ abbrev pub cut_at : ℕ → List ℕ → Option (List ℕ × List ℕ)
 cut_at byte [] = None
 cut_at byte (b ∷ bs) = cond (b == byte) (Some ([], bs)) (option_map (λ (p : List ℕ × List ℕ). (b ∷ p.0, p.1)) (cut_at byte bs))
 
-abbrev pub run_of : Option ℕ → Option ℕ → Option Run
-run_of None steps = None
-run_of (Some n) steps = option_map (λ (k : ℕ). once (record { number = n; steps = k })) steps
+-- steps, and times of two or more where they stand behind them
+abbrev pub steps_of : List ℕ → Option (List ℕ × List ℕ) → Option (ℕ × ℕ)
+steps_of text None = option_map (λ (k : ℕ). (k, 1)) (number_in 1 4294967295 text)
+steps_of text (Some p) = option_and_then (λ (k : ℕ). option_map (λ (n : ℕ). (k, n)) (number_in 2 1000000001 p.1)) (number_in 1 4294967295 p.0)
 
--- two numbers with a blank between
+abbrev pub run_of : Option ℕ → Option (ℕ × ℕ) → Option Run
+run_of None steps = None
+run_of (Some n) steps = option_map (λ (k : ℕ × ℕ). record { turn = record { number = n; steps = k.0 }; times = k.1 }) steps
+
+-- two numbers with a blank between, and the times behind a blank
 abbrev pub entry_of : List ℕ → Option Run
-entry_of text = option_and_then (λ (p : List ℕ × List ℕ). run_of (number_in 0 4294967295 p.0) (number_in 1 4294967295 p.1)) (cut_at 32 text)
+entry_of text = option_and_then (λ (p : List ℕ × List ℕ). run_of (number_in 0 4294967295 p.0) (steps_of p.1 (cut_at 32 p.1))) (cut_at 32 text)
+
+-- whether an entry may stand behind those that were read: it isn't over what may come, and the form has a line for it
+abbrev pub may_stand : Before → Run → Bool
+may_stand before r = nat_le r.times before.room && may_follow before.form before.turn r
+
+-- an entry that may stand there
+abbrev pub entry_behind : Before → List ℕ → Option Run
+entry_behind before text = option_and_then (λ (r : Run). cond (may_stand before r) (Some r) None) (entry_of text)
+
+-- what stands before the next line
+abbrev pub with_entry : Before → Run → Before
+with_entry before r = record { form = before.form; turn = Some r.turn; room = before.room - r.times }
+
+-- the form that a first line names
+abbrev pub form_of : List ℕ → Option Form
+form_of text = cond (bytes_eq text (first_line forms.One)) (Some forms.One) (cond (bytes_eq text (first_line forms.Two)) (Some forms.Two) None)
 
 -- ---- lines
 
@@ -79,21 +103,25 @@ fixed_at text line bytes = line_by (λ t. cond (bytes_eq t text) (Some t) None) 
 abbrev pub number_at : (word : List ℕ) → (low high line : ℕ) → List ℕ → Result (ℕ × List ℕ) ℕ
 number_at word low high line bytes = line_by (number_behind word low high) line bytes
 
--- so many entries from a line on
-unfoldable pub entries_at : (count line : ℕ) → List ℕ → Result (List Run × List ℕ) ℕ
-entries_at zero line bytes = Ok ([], bytes)
-entries_at (suc n) line bytes = do
-  first ← line_by entry_of line bytes
-  others ← entries_at n (line + 1) first.1
+-- so many entries from a line on, behind others
+unfoldable pub entries_at : (before : Before) → (count line : ℕ) → List ℕ → Result (List Run × List ℕ) ℕ
+entries_at before zero line bytes = Ok ([], bytes)
+entries_at before (suc n) line bytes = do
+  first ← line_by (entry_behind before) line bytes
+  others ← entries_at (with_entry before first.0) n (line + 1) first.1
   Ok (first.0 ∷ others.0, others.1)
+
+-- before the first entry
+abbrev pub none_before : Form → Before
+none_before form = record { form = form; turn = None; room = 1000000001 }
 
 -- all of the bytes
 unfoldable pub trace_of : List ℕ → Result Trace ℕ
 trace_of bytes = do
-  head ← fixed_at (codes "fmc trace 1") 1 bytes
+  head ← line_by form_of 1 bytes
   turns ← number_at (codes "turns ") 1 1000000000 2 head.1
-  count ← number_at (codes "entries ") 0 1000000001 3 turns.1
-  entries ← entries_at count.0 4 count.1
+  count ← number_at (count_word head.0) 0 1000000001 3 turns.1
+  entries ← entries_at (none_before head.0) count.0 4 count.1
   source ← fixed_at (codes "source") (count.0 + 4) entries.1
   Ok (record { turns = turns.0; entries = entries.0; source = source.1 })
 

@@ -1,8 +1,9 @@
 //! Laws of traces and their texts.
 
-ghost use Rattle.std.specs.Prelude.{◌≡◌, ◌⊎◌, ℕ, List};
+ghost use Rattle.std.specs.Prelude.{◌≡◌, ◌⊎◌, ℕ, List, None, map};
 ghost use Rattle.fm_base.specs.declared.schedule.Turn.{Turn};
-ghost use Rattle.fm_trace.specs.Texts.{HoldsAtMostOnce, IsFirstMalformed, IsTrace, IsTraceText, history_of, trace_of_history};
+ghost use Rattle.fm_trace.specs.Texts.{AreOf, HoldsAtMostOnce, IsFirstMalformed, IsTrace, IsTraceText, history_of, once, trace_of_history, trace_text};
+ghost use Rattle.fm_trace.specs.declared.trace.Form.TheVariants as forms;
 ghost use Rattle.fm_trace.specs.declared.trace.Trace as declared;
 
 /// Bytes are the text of one trace, or have one first malformed line, and never both. So each answer of `read` but want
@@ -16,10 +17,16 @@ pub fn one_answer()
         (line : ℕ) → ¬ IsFirstMalformed bytes line }
 {}
 
-/// A trace stands for one history: the trace of a history for that history, and what stands in a trace is the trace of
-/// the history that it stands for. So what was read is written again to the same bytes.
+/// A trace stands for one history: the trace of a history for that history. A trace of form 2 is the trace of the history
+/// that it stands for, so that what was read of a text of form 2 is written again to the same bytes. A trace of form 1 has
+/// a line for each entry of its history, so it too is the only one of that history; and what was read of it is written
+/// to a text of form 2, of the same turns, history and program.
 pub fn one_history()
     ensures history { (turns : ℕ) (history : List Turn) (source : List ℕ) →
         history_of (trace_of_history turns history source) ≡ history }
-    ensures trace { (t : declared.Trace) → IsTrace t → trace_of_history t.turns (history_of t) t.source ≡ t }
+    ensures form_2 { (t : declared.Trace) → IsTrace t → AreOf forms.Two None t.entries →
+        trace_of_history t.turns (history_of t) t.source ≡ t }
+    ensures form_1 { (t : declared.Trace) → AreOf forms.One None t.entries → map once (history_of t) ≡ t.entries }
+    ensures written { (t : declared.Trace) → IsTrace t →
+        IsTraceText (trace_text (trace_of_history t.turns (history_of t) t.source)) (trace_of_history t.turns (history_of t) t.source) }
 {}

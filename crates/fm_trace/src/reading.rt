@@ -6,16 +6,16 @@ ghost use Rattle.fm_trace.specs.Texts.{IsCause, IsRead, IsTraceText};
 ghost use Rattle.fm_trace.specs.declared.trace.Trace as declared;
 
 use crate::fail::TraceFail;
-use crate::lines::{entry_at, fixed_at, number_at};
+use crate::lines::{
+    Before, MOST_ENTRIES, count_word, entry_at, fixed_at, form_at, none_before, number_at,
+    with_entry,
+};
 use crate::trace::{Run, Trace};
 use fm_base::{NoMemory, Seq};
 use std::alloc::Global;
 
 /// The most turns.
 const MOST_TURNS: u64 = 1_000_000_000;
-
-/// The most entries.
-const MOST_ENTRIES: u64 = 1_000_000_001;
 
 /// The fewest bytes of an entry's line.
 const LEAST_LINE: usize = 4;
@@ -30,21 +30,24 @@ fn room_for(alloc: Global, count: u32, bytes: &[u8]) -> Result<Seq<Run>, NoMemor
     Ok(Seq::from_vec(Vec::with_capacity(alloc, room)?))
 }
 
-/// So many entries from a line on, and what is behind them.
+/// So many entries from a line on, behind others, and what is behind them.
 fn entries_at(
     alloc: Global,
+    before: Before,
     count: u32,
     line: u32,
     bytes: &[u8],
 ) -> Result<(Seq<Run>, &[u8]), TraceFail>
     requires { line + count < 2 ^ 32 }
-    ensures { Gives (λ x. (x.0, x.1.now)) result (entries_at count line bytes.now) }
+    ensures { Gives (λ x. (x.0, x.1.now)) result (entries_at before count line bytes.now) }
 {
     let mut entries = room_for(alloc, count, bytes)?;
     let mut rest = bytes;
+    let mut last = before;
     'entries: for place in 0..count {
-        let (entry, after) = entry_at(line + place, rest)?;
+        let (entry, after) = entry_at(last, line + place, rest)?;
         entries.push(entry)?;
+        last = with_entry(last, entry);
         rest = after;
     }
     Ok((entries, rest))
@@ -54,11 +57,11 @@ fn entries_at(
 fn trace_of(alloc: Global, bytes: &[u8]) -> Result<Trace, TraceFail>
     ensures { Gives (λ t. t) result (trace_of bytes.now) }
 {
-    let rest = fixed_at(b"fmc trace 1", 1, bytes)?;
+    let (form, rest) = form_at(bytes)?;
     let (turns, rest) = number_at(b"turns ", 1, MOST_TURNS, 2, rest)?;
-    let (count, rest) = number_at(b"entries ", 0, MOST_ENTRIES, 3, rest)?;
+    let (count, rest) = number_at(count_word(form), 0, u64::from(MOST_ENTRIES), 3, rest)?;
     let count = count as u32;
-    let (entries, rest) = entries_at(alloc, count, 4, rest)?;
+    let (entries, rest) = entries_at(alloc, none_before(form), count, 4, rest)?;
     let source = fixed_at(b"source", count + 4, rest)?;
     let source = Seq::from_slice(alloc, source)?;
     Ok(Trace {
@@ -68,13 +71,15 @@ fn trace_of(alloc: Global, bytes: &[u8]) -> Result<Trace, TraceFail>
     })
 }
 
-/// The trace whose text, in form 1, the bytes are; its program is what stands behind the line `source`. Each entry
-/// comes once. Takes room for the entries that are there, whatever number of them the third line tells. Linear in the
-/// bytes.
+/// The trace whose text, in form 1 or form 2, the bytes are; its program is what stands behind the line `source`. Takes
+/// room for the lines that are there, whatever number of them the third line tells, and none for the times of an entry.
+/// Linear in the bytes.
 ///
 /// # Errors
 /// `Malformed` tells the first malformed line, from 1: up to the line `source`, one of another form, one whose number
-/// is out of its range, one that is missing, or one that ends without a line feed. `NoMemory` is want of memory.
+/// is out of its range, one that is missing, or one that ends without a line feed; in form 2 also the second of two
+/// lines of the same entry, and the line with which there are more entries than 1,000,000,001. `NoMemory` is want of
+/// memory.
 pub fn read(alloc: Global, bytes: &[u8]) -> Result<Trace, TraceFail>
     // The bytes are the text of what is read.
     ensures trace { IfOk result (IsTraceText bytes.now) }

@@ -240,4 +240,5 @@ command_of (w ∷ ws) =
     (cond (bytes_eq w (codes "check")) (alone command.Check ws)
     (cond (bytes_eq w (codes "list")) (alone command.List ws)
     (cond (bytes_eq w (codes "make")) (make_of ws)
-    (cond (bytes_eq w (codes "demo")) (demo_of ws) None))))))
+    (cond (bytes_eq w (codes "demo")) (demo_of ws)
+    (cond (bytes_eq w (codes "flow")) (alone command.Flow ws) None)))))))

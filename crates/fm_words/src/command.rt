@@ -36,6 +36,8 @@ pub enum Command {
     Check,
     /// Checks a program and lists it.
     List,
+    /// Checks a program and says whether it may deadlock.
+    Flow,
     /// Writes a generated program.
     Make {
         /// The number of the program, below 10 to the 18.
@@ -267,6 +269,8 @@ pub fn words(alloc: Global, words: &[&str]) -> Result<Command, WordsFail>
         make(alloc, behind)
     } else if *first == "demo" {
         demo(alloc, behind)
+    } else if *first == "flow" {
+        alone(Command::Flow, behind)
     } else {
         Err(WordsFail::Usage)
     }

@@ -2,6 +2,7 @@
 use Rattle.std.proofs.Common.{◌≡◌, ◌⊎◌, inl, inr, ℕ, suc, ◌<◌, ◌≤◌, Bool, true, false, List, [], ◌∷◌, length, refl, sym, ap, subst, ◌∙◌, arith}
 use Rattle.std.specs.Prelude.{◌≢◌, Option, Some, None, is_none, IfOk, IfErr, IfSome, Result, Ok, Err, replicate, codes}
 use Rattle.std.specs.Io.KnownBytes.{Appends}
+use Rattle.std.specs.Str.{bytes_eq}
 use Rattle.std.proofs.lemmas.Bool.{false≢true}
 use Rattle.std.proofs.lemmas.List.{length-replicate}
 use Rattle.fm_base.specs.declared.schedule.Setup.{Setup}
@@ -23,18 +24,25 @@ use Rattle.fm_rules.specs.Names.{names_of}
 use Rattle.fm_rules.specs.Race.{IsRaceVerdict}
 use Rattle.fm_net.specs.Machine.{Place}
 use Rattle.fm_mean.specs.declared.outcome.FaultAt.{FaultAt}
+use Rattle.fm_mean.specs.Determinism.{IsDeterministic}
 use Rattle.fm_mean.specs.Steps.{step, first}
 use Rattle.fm_make.specs.Made.{made_text}
 use Rattle.fm_mean.proofs.Laws.{settles}
 use Rattle.fm_mean.proofs.Telling.{each_told}
+use Rattle.fm_mean.specs.Outcome.{outcome_of}
+use Rattle.fm_flow_law.specs.Flow.{IsFlowSafe, IsFlowVerdict}
+use Rattle.fm_flow_law.proofs.Promise.{safe_comes_to_its_end}
 use Rattle.fm_rules.specs.declared.program.Program.{Program}
+use Rattle.fm_rules.specs.Program.{IsChecked}
+use Rattle.fm_front.specs.Program.{IsCheckedOf}
 use Rattle.fm_front.specs.Verdict.{IsBroken, IsBrokenForm, AreStatementsOf}
 use Rattle.fm_run.specs.Orders.{places_of}
-use Rattle.fm_run.specs.Runs.{EndsSo, Follows}
+use Rattle.fm_run.specs.Runs.{EndsSo, Follows, IsRun}
 use Rattle.fm_run.specs.declared.run.Ending.{Ending}
 use Rattle.fm_run.specs.declared.run.Ending.TheVariants as ending
 use Rattle.fm_run.specs.declared.run.Run as run
 use Rattle.fm_table.specs.Fair.{IsFair}
+use Rattle.fm_table.specs.Told.{Told, first_told}
 use Rattle.fm_table.proofs.SamePlaces.{run_is_fair}
 use Rattle.fm_trace.specs.Texts.{IsFirstMalformed, IsTraceText, trace_of_history, trace_text}
 use Rattle.fm_trace.specs.declared.trace.Trace.{Trace}
@@ -47,10 +55,10 @@ use Rattle.fmc.specs.declared.answer.Exit.TheVariants.{Done, Faulted, Deadlocked
 use Rattle.fmc.specs.declared.answer.Reply.{Reply}
 use Rattle.fmc.specs.Exits.{is_end, is_decided, is_of_reading}
 use Rattle.fmc.specs.Listing.{listed_text}
-use Rattle.fmc.specs.Outcomes.{IsAccepted, IsRefusedFor, IsUnplayed, cost_of, exit_by, exit_of, source_limit, usage_text}
+use Rattle.fmc.specs.Outcomes.{IsAccepted, IsRefusedFor, IsUnplayed, cost_of, exit_by, exit_of, source_limit, state_after, usage_text}
 use Rattle.fmc.specs.Replay.{IsTooLongTrace, IsTraceOf, SaysReplay, trace_limit}
-use Rattle.fmc.specs.Answer.{Answers, Asked, HasGround, Says, SaysRun, SaysMade, SaysTrace, IsListOf, SaysTold, TellsList, TellsDeterminism, IsFirstRaceOf, determinism_text, SaysOf, IsHistoryIn, IsHistoryOf, IsEnded, IsNoHistory, HasHistory, IsReady, IsRefusedBy, IsCompleted, IsMalformedBy, IsMalformedExit, IsRefusedExit, IsTooLongBy, IsTooLongExit, IsPlayedExit, are_reading, is_reading, limit_of, report_asked, summary_asked, trace_asked}
-use Rattle.fmc.specs.Reply.{bytes_of, places_in, IsReply, IsReplyFor, IsReplyOf, IsRunOf, exit_in, text_in}
+use Rattle.fmc.specs.Answer.{Answers, Asked, HasGround, Says, SaysRun, SaysMade, SaysTrace, IsListOf, SaysTold, TellsList, TellsDeterminism, IsFirstRaceOf, determinism_text, flow_text, TellsFlow, SaysOf, IsHistoryIn, IsHistoryOf, IsEnded, IsNoHistory, HasHistory, IsReady, IsRefusedBy, IsCompleted, IsMalformedBy, IsMalformedExit, IsRefusedExit, IsTooLongBy, IsTooLongExit, IsPlayedExit, are_reading, is_reading, limit_of, report_asked, summary_asked, trace_asked}
+use Rattle.fmc.specs.Reply.{bytes_of, places_in, IsFlowReply, IsReply, IsReplyFor, IsReplyOf, IsFairlySpent, IsRunBy, IsRunOf, IsTableOf, exit_in, is_spent_by, text_in}
 
 -- Replies from what the parts give.
 
@@ -64,6 +72,12 @@ pub checked_says : (b : List ℕ) (ss : List Placed) (race : Option Line) (r : R
 checked_says b ss race r le h k first e u =
     subst (λ (x : Exit). Says command.Check b x r.ran.history.items (places_in r.ran) (bytes_of r.text)) (sym e)
     (record { within = le; clean = h; statements = ss; read = k; told = determinism_text race; tells = (race, first, refl); unplayed = u })
+
+pub flow_says : (b : List ℕ) (ss : List Placed) (p : Program) (r : Reply) → length b ≤ source_limit → IsClean (IsBroken b) → AreStatementsOf (cards_of b) ss → IsChecked ss p.units p.names
+    → r.ran.exit ≡ Done → IsFlowReply p r → IsReply command.Flow b r
+flow_says b ss p r le h k checked e f =
+    subst (λ (x : Exit). Says command.Flow b x r.ran.history.items (places_in r.ran) (bytes_of r.text)) (sym e)
+    (record { within = le; clean = h; statements = ss; read = k; told = flow_text f.risk; tells = (f.risk, record { program = p; checked = checked; verdict = f.verdict }, refl); unplayed = f.unplayed })
 
 -- the first race of a checked program
 pub race_of : (ss : List Placed) (us : List Unit) (ns : List UnitNames) (race : Option Line) → us ≡ units_of ss → ns ≡ names_of (units_of ss) → ∥ IsRaceVerdict us (context_of us ns) race ∥₁ → IsFirstRaceOf ss race
@@ -105,9 +119,15 @@ ended_says b asked Unfinished h ps t e k = absurd (false≢true e)
 spent_too : (program : Program) (turns : ℕ) (cs others : List Place) → IsLegal (step program) (first program) cs → turns < cost_of program cs → Settles (step program) (first program) others → turns < cost_of program others
 spent_too program turns cs others legal over all = omega (arith, over, all.dearest cs legal)
 
+-- where main has ended unless a process faulted, it doesn't wait
+not_deadlocked : (fs : List FaultAt) (ended : Bool) → (fs ≡ [] → ended ≡ true) → exit_by fs ended ≢ Deadlocked
+not_deadlocked [] true ends is = cc is
+not_deadlocked [] false ends is = false≢true (ends refl)
+not_deadlocked (f ∷ fs) ended ends is = cc is
+
 -- what a run says, by how it ended
 run_by : (b : List ℕ) (program : Program) (asked : Asked) (history : List Turn) (places cs : List Place) (e : Ending) → length b ≤ source_limit → IsHistoryOf b program asked.turns history places cs → EndsSo program asked.turns cs e
-    → (asked.chosen ≡ [] → IsFair program history places) → SaysRun asked b (exit_in e) history places (text_in asked history places e)
+    → (asked.chosen ≡ [] → e ≡ ending.Spent → (IsDeterministic program → ⊥) → IsFair program history places) → SaysRun asked b (exit_in e) history places (text_in asked history places e)
 run_by b program asked history places cs (ending.Ended o) le kept h fair =
     ended_says b asked (exit_of o) history places (asked.tells history places o) (end_by o.faults o.main_ended)
     (record {
@@ -121,6 +141,8 @@ run_by b program asked history places cs (ending.Ended o) le kept h fair =
       text_is = ap (asked.tells history places) h.2;
       tells_each = each_told program cs (kept.legal, h.0) (cost_of program cs);
       one_outcome = λ det. settles program det cs (kept.legal, h.0);
+      safe = λ safe is. not_deadlocked (outcome_of program (cost_of program cs) (state_after program cs)).faults (outcome_of program (cost_of program cs) (state_after program cs)).main_ended
+          (safe_comes_to_its_end program safe cs (cost_of program cs) (kept.legal, h.0)) (sym (ap exit_of h.2) ∙ is);
     })
 run_by b program asked history places cs ending.Spent le kept h fair =
     record {
@@ -130,36 +152,60 @@ run_by b program asked history places cs ending.Spent le kept h fair =
       kept = kept;
       over = h;
       text_is = refl;
-      fair = fair;
+      fair = λ none. fair none refl;
       spent_for_all = λ det others ends. spent_too program asked.turns cs others kept.legal h (settles program det others ends);
     }
 
-history_of : (b : List ℕ) (turns slice : ℕ) (chosen : List ℕ) (r : run.Run) → (k : IsRunOf b turns slice chosen r) → IsHistoryOf b k.program turns r.history.items (places_of r.paths.items) k.runs.choices
-history_of b turns slice chosen r k = record { lawful = k.lawful; kept = k.runs.kept; starts = k.runs.places; legal = k.runs.legal; some_steps = k.runs.some_steps; front_within = k.runs.front_within }
+history_of : (b : List ℕ) (turns : ℕ) (chosen : List ℕ) (r : run.Run) → (k : IsRunOf b turns chosen r) → IsHistoryOf b k.program turns r.history.items (places_of r.paths.items) k.runs.choices
+history_of b turns chosen r k = record { lawful = k.lawful; kept = k.runs.kept; starts = k.runs.places; legal = k.runs.legal; some_steps = k.runs.some_steps; front_within = k.runs.front_within }
 
-pub run_says : (b : List ℕ) (asked : Asked) (slice : ℕ) (r : run.Run) → length b ≤ source_limit → IsRunOf b asked.turns slice asked.chosen r
+pub run_says : (b : List ℕ) (asked : Asked) (r : run.Run) → length b ≤ source_limit → IsRunOf b asked.turns asked.chosen r
     → SaysRun asked b (exit_in r.ending) r.history.items (places_of r.paths.items) (text_in asked r.history.items (places_of r.paths.items) r.ending)
-run_says b asked slice r le k =
-    run_by b k.program asked r.history.items (places_of r.paths.items) k.runs.choices r.ending le (history_of b asked.turns slice asked.chosen r k) k.runs.ends
-    (λ none. run_is_fair k.program slice asked.turns r k.runs (subst (λ (cs : List ℕ). Follows k.program slice cs r.history.items) none k.follows))
+run_says b asked r le k =
+    run_by b k.program asked r.history.items (places_of r.paths.items) k.runs.choices r.ending le (history_of b asked.turns asked.chosen r k) k.runs.ends k.fair
+
+-- a run by turns is fair where nobody chose
+fair_by_turns : (program : Program) (turns slice : ℕ) (chosen : List ℕ) (r : run.Run) → IsRun program turns r → Follows program slice chosen r.history.items → chosen ≡ [] → IsFairlySpent program r
+fair_by_turns program turns slice chosen r runs follows none = λ spent free. run_is_fair program slice turns r runs (subst (λ (cs : List ℕ). Follows program slice cs r.history.items) none follows)
+
+pub chosen_run : (b : List ℕ) (turns slice : ℕ) (chosen : List ℕ) (r : run.Run) → IsRunBy b turns slice chosen r → IsRunOf b turns chosen r
+chosen_run b turns slice chosen r k = record {
+  program = k.program;
+  lawful = k.lawful;
+  runs = k.runs;
+  fair = fair_by_turns k.program turns slice chosen r k.runs k.follows;
+}
+
+pub turned_fair : (program : Program) (turns slice : ℕ) (r : run.Run) → IsRun program turns r → Follows program slice [] r.history.items → IsFairlySpent program r
+turned_fair program turns slice r runs follows = fair_by_turns program turns slice [] r runs follows refl
+
+-- nothing is spent that ended
+pub ended_fair : (program : Program) (r : run.Run) (b : Bool) → b ≡ is_spent_by r.ending → b ≡ false → IsFairlySpent program r
+ended_fair program r b is ended = λ spent free. absurd (false≢true (sym ended ∙ is ∙ ap is_spent_by spent))
+
+pub free_fair : (program : Program) (r : run.Run) → IsDeterministic program → IsFairlySpent program r
+free_fair program r settled = λ spent free. absurd (free settled)
+
+pub first_of : (program : Program) (setup : Setup) (a : Told) → a ≡ first_told program setup → IsTableOf program setup a
+first_of program setup a is = (ap (λ (c : Told). c.program) is, ap (λ (c : Told). c.setup) is, ap (λ (c : Told). c.out) is)
 
 -- what `run` and `play_choices` say: the report doesn't depend on the choices
-pub told_of_choices : (b : List ℕ) (turns slice : ℕ) (vars : Bool) (chosen : List ℕ) (r : run.Run) → length b ≤ source_limit → IsRunOf b turns slice chosen r
+pub told_of_choices : (b : List ℕ) (turns : ℕ) (vars : Bool) (chosen : List ℕ) (r : run.Run) → length b ≤ source_limit → IsRunOf b turns chosen r
     → SaysRun (report_asked turns vars chosen) b (exit_in r.ending) r.history.items (places_of r.paths.items) (text_in (report_asked turns vars []) r.history.items (places_of r.paths.items) r.ending)
-told_of_choices b turns slice vars chosen r le k =
+told_of_choices b turns vars chosen r le k =
     subst (λ (t : List ℕ). SaysRun (report_asked turns vars chosen) b (exit_in r.ending) r.history.items (places_of r.paths.items) t) (same_report turns vars chosen r.history.items (places_of r.paths.items) r.ending)
-    (run_says b (report_asked turns vars chosen) slice r le k)
+    (run_says b (report_asked turns vars chosen) r le k)
   where
     same_report : (turns : ℕ) (vars : Bool) (chosen : List ℕ) (h : List Turn) (ps : List Place) (e : Ending) → text_in (report_asked turns vars chosen) h ps e ≡ text_in (report_asked turns vars []) h ps e
     same_report turns vars chosen h ps (ending.Ended o) = refl
     same_report turns vars chosen h ps ending.Spent = refl
 
 -- what `trace` says: its text is the same however the run ended
-pub told_by_trace : (b : List ℕ) (turns slice : ℕ) (r : run.Run) (text : List ℕ) → length b ≤ source_limit → IsRunOf b turns slice [] r → text ≡ trace_text (trace_of_history turns r.history.items b)
+pub told_by_trace : (b : List ℕ) (turns : ℕ) (r : run.Run) (text : List ℕ) → length b ≤ source_limit → IsRunOf b turns [] r → text ≡ trace_text (trace_of_history turns r.history.items b)
     → IsTraceText text (trace_of_history turns r.history.items b) → SaysTrace turns b (exit_in r.ending) r.history.items (places_of r.paths.items) text
-told_by_trace b turns slice r text le k e readable = (
+told_by_trace b turns r text le k e readable = (
   subst (λ (t : List ℕ). SaysRun (trace_asked turns b) b (exit_in r.ending) r.history.items (places_of r.paths.items) t) (one_text turns b r.history.items (places_of r.paths.items) r.ending ∙ sym e)
-      (run_says b (trace_asked turns b) slice r le k),
+      (run_says b (trace_asked turns b) r le k),
   λ played. readable,
 )
   where
@@ -400,6 +446,7 @@ says_history (Some (command.Trace setup)) b exit h ps t k = run_history (trace_a
 says_history (Some (command.Replay vars)) b exit h ps t k = replay_history vars b exit h ps t k
 says_history (Some command.Check) b exit h ps t k = told_history TellsDeterminism b exit h ps t k
 says_history (Some command.List) b exit h ps t k = told_history TellsList b exit h ps t k
+says_history (Some command.Flow) b exit h ps t k = told_history TellsFlow b exit h ps t k
 says_history (Some (command.Make number)) b exit h ps t k = made_history number exit h ps t k
 says_history (Some (command.Demo number setup)) b exit h ps t k = run_history (summary_asked setup.turns) (made_text number) exit h ps t k.1
 
@@ -432,6 +479,7 @@ completed (command.Trace setup) b exit h ps t k r short v = run_completed (trace
 completed (command.Replay vars) b exit h ps t k r short v = replay_completed vars b exit h ps t k r v
 completed command.Check b exit h ps t k r short v = told_completed TellsDeterminism b exit h ps t k r v.0 v.1
 completed command.List b exit h ps t k r short v = told_completed TellsList b exit h ps t k r v.0 v.1
+completed command.Flow b exit h ps t k r short v = told_completed TellsFlow b exit h ps t k r v.0 v.1
 completed (command.Make number) b exit h ps t k r short v = made_completed number exit h ps t k
 completed (command.Demo number setup) b exit h ps t k r short v = run_completed (summary_asked setup.turns) (made_text number) exit h ps t k.1 (demo_reads exit k.0) (short number) v
 
@@ -456,6 +504,7 @@ refused_of (command.Trace setup) b exit h ps t k r short v w = run_refused (trac
 refused_of (command.Replay vars) b exit h ps t k r short v w = replay_refused vars b exit h ps t k r v w
 refused_of command.Check b exit h ps t k r short v w = told_refused TellsDeterminism b exit h ps t k r w.0 v w.1
 refused_of command.List b exit h ps t k r short v w = told_refused TellsList b exit h ps t k r w.0 v w.1
+refused_of command.Flow b exit h ps t k r short v w = told_refused TellsFlow b exit h ps t k r w.0 v w.1
 refused_of (command.Make number) b exit h ps t k r short v w = absurd w
 refused_of (command.Demo number setup) b exit h ps t k r short v w = run_refused (summary_asked setup.turns) (made_text number) exit h ps t k.1 (demo_reads exit k.0) (short number) v w
 
@@ -480,6 +529,7 @@ too_long_by (command.Trace setup) b exit h ps t k r l = run_long (trace_asked se
 too_long_by (command.Replay vars) b exit h ps t k r l = replay_long vars b exit h ps t k r l
 too_long_by command.Check b exit h ps t k r l = told_long TellsDeterminism b exit h ps t k r l
 too_long_by command.List b exit h ps t k r l = told_long TellsList b exit h ps t k r l
+too_long_by command.Flow b exit h ps t k r l = told_long TellsFlow b exit h ps t k r l
 too_long_by (command.Make number) b exit h ps t k r l = absurd l
 too_long_by (command.Demo number setup) b exit h ps t k r l = absurd l
 
@@ -489,6 +539,7 @@ malformed_by (command.Trace setup) b exit h ps t k r l = absurd l
 malformed_by (command.Replay vars) b exit h ps t k r l = replay_malformed vars b exit h ps t k r l
 malformed_by command.Check b exit h ps t k r l = absurd l
 malformed_by command.List b exit h ps t k r l = absurd l
+malformed_by command.Flow b exit h ps t k r l = absurd l
 malformed_by (command.Make number) b exit h ps t k r l = absurd l
 malformed_by (command.Demo number setup) b exit h ps t k r l = absurd l
 
@@ -499,6 +550,7 @@ says_unread (command.Trace setup) b other exit h ps t e k = absurd (false≢true
 says_unread (command.Replay vars) b other exit h ps t e k = absurd (false≢true (sym e))
 says_unread command.Check b other exit h ps t e k = absurd (false≢true (sym e))
 says_unread command.List b other exit h ps t e k = absurd (false≢true (sym e))
+says_unread command.Flow b other exit h ps t e k = absurd (false≢true (sym e))
 says_unread (command.Make number) b other exit h ps t e k = k
 says_unread (command.Demo number setup) b other exit h ps t e k = k
 
@@ -510,6 +562,7 @@ no_memory_says (Some (command.Trace setup)) b exit h ps t c e u = (subst (λ (x 
 no_memory_says (Some (command.Replay vars)) b exit h ps t c e u = subst (λ (x : Exit). SaysReplay vars b x h ps t) (sym e) u
 no_memory_says (Some command.Check) b exit h ps t c e u = subst (λ (x : Exit). SaysTold TellsDeterminism b x h ps t) (sym e) u
 no_memory_says (Some command.List) b exit h ps t c e u = subst (λ (x : Exit). SaysTold TellsList b x h ps t) (sym e) u
+no_memory_says (Some command.Flow) b exit h ps t c e u = subst (λ (x : Exit). SaysTold TellsFlow b x h ps t) (sym e) u
 no_memory_says (Some (command.Make number)) b exit h ps t c e u = inr (e, u)
 no_memory_says (Some (command.Demo number setup)) b exit h ps t c e u = (ap is_of_reading e, subst (λ (x : Exit). SaysRun (summary_asked setup.turns) (made_text number) x h ps t) (sym e) u)
 
@@ -526,6 +579,21 @@ pub both_ok : {T E : Type 0} (r : Result T E) (P Q R : T → Type 0) → ((x : T
 both_ok (Ok x) P Q R f p q = f x p q
 both_ok (Err e) P Q R f p q = tt
 
+-- only of a safe program it is told that there is no deadlock
+no_risk : (risk : Option Line) → codes "no deadlock\n" ≡ flow_text risk → risk ≡ None
+no_risk None e = refl
+no_risk (Some line) e = absurd (false≢true (sym (ap (λ (t : List ℕ). bytes_eq t (codes "no deadlock\n")) e)))
+
+-- and of it no run ends with main waiting
+pub excludes_deadlock : (b : List ℕ) (before : List Turn) (starts : List Place) → ((p q : Program) → IsCheckedOf b p → IsCheckedOf b q → p ≡ q) → Says command.Flow b Done before starts (codes "no deadlock\n")
+    → (asked : Asked) (h : List Turn) (ps : List Place) (t : List ℕ) → SaysRun asked b Deadlocked h ps t → ⊥
+excludes_deadlock b before starts one k asked h ps t run =
+    let flow = k.tells in
+    let p = flow.1.program in
+    let safe : IsFlowSafe p = subst (IsFlowVerdict p) (no_risk flow.0 (k.unplayed.text_is ∙ flow.2)) flow.1.verdict in
+    let lawful : IsCheckedOf b p = record { statements = k.statements; read = k.read; clean = k.clean; checked = flow.1.checked } in
+    run.safe (subst IsFlowSafe (one p run.program lawful run.kept.lawful) safe) refl
+
 -- a command that doesn't read meets no read fault
 pub no_read_fault : (c : Command) (b : List ℕ) (exit : Exit) (h : List Turn) (ps : List Place) (t : List ℕ) → is_reading c ≡ false → Says c b exit h ps t → exit ≡ ReadFault → ⊥
 no_read_fault (command.Run setup vars) b exit h ps t e k f = false≢true (sym e)
@@ -533,6 +601,7 @@ no_read_fault (command.Trace setup) b exit h ps t e k f = false≢true (sym e)
 no_read_fault (command.Replay vars) b exit h ps t e k f = false≢true (sym e)
 no_read_fault command.Check b exit h ps t e k f = false≢true (sym e)
 no_read_fault command.List b exit h ps t e k f = false≢true (sym e)
+no_read_fault command.Flow b exit h ps t e k f = false≢true (sym e)
 no_read_fault (command.Make number) b exit h ps t e (inl k) f = cc (sym k.0 ∙ f)
 no_read_fault (command.Make number) b exit h ps t e (inr k) f = cc (sym k.0 ∙ f)
 no_read_fault (command.Demo number setup) b exit h ps t e k f = demo_reads exit k.0 f
@@ -544,6 +613,7 @@ read_fault_says (command.Trace setup) b exit h ps t c e u = (subst (λ (x : Exit
 read_fault_says (command.Replay vars) b exit h ps t c e u = subst (λ (x : Exit). SaysReplay vars b x h ps t) (sym e) u
 read_fault_says command.Check b exit h ps t c e u = subst (λ (x : Exit). SaysTold TellsDeterminism b x h ps t) (sym e) u
 read_fault_says command.List b exit h ps t c e u = subst (λ (x : Exit). SaysTold TellsList b x h ps t) (sym e) u
+read_fault_says command.Flow b exit h ps t c e u = subst (λ (x : Exit). SaysTold TellsFlow b x h ps t) (sym e) u
 read_fault_says (command.Make number) b exit h ps t c e u = absurd (false≢true c)
 read_fault_says (command.Demo number setup) b exit h ps t c e u = absurd (false≢true c)
 
@@ -553,6 +623,7 @@ too_long_says (command.Trace setup) b exit h ps t c e l u = (subst (λ (x : Exit
 too_long_says (command.Replay vars) b exit h ps t c e l u = subst (λ (x : Exit). SaysReplay vars b x h ps t) (sym e) (inl l, u)
 too_long_says command.Check b exit h ps t c e l u = subst (λ (x : Exit). SaysTold TellsDeterminism b x h ps t) (sym e) (l, u)
 too_long_says command.List b exit h ps t c e l u = subst (λ (x : Exit). SaysTold TellsList b x h ps t) (sym e) (l, u)
+too_long_says command.Flow b exit h ps t c e l u = subst (λ (x : Exit). SaysTold TellsFlow b x h ps t) (sym e) (l, u)
 too_long_says (command.Make number) b exit h ps t c e l u = absurd (false≢true c)
 too_long_says (command.Demo number setup) b exit h ps t c e l u = absurd (false≢true c)
 

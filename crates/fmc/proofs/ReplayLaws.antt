@@ -1,10 +1,12 @@
 -- Traces and their replays.
-use Rattle.std.proofs.Common.{◌≡◌, ◌⊎◌, inl, inr, ℕ, zero, suc, ◌+◌, ◌<◌, ◌≤◌, Bool, true, false, List, [], ◌∷◌, ◌++◌, length, map, replicate, take, refl, sym, ap, ap₂, subst, ◌∙◌, arith}
-use Rattle.std.specs.Prelude.{Option, Some, None, is_some, slice_get, codes}
+use Rattle.std.proofs.Common.{◌≡◌, ◌⊎◌, inl, inr, ℕ, zero, suc, ◌+◌, ◌<◌, ◌≤◌, Bool, true, false, List, [], ◌∷◌, ◌++◌, length, replicate, take, drop, refl, sym, ap, ap₂, subst, ◌∙◌, arith}
+use Rattle.std.specs.Prelude.{Option, Some, None, is_some, option_map, slice_get, codes}
 use Rattle.std.specs.Fmt.{decimal}
-use Rattle.std.specs.List.{All, AllByRecursion, flat_map}
+use Rattle.std.specs.List.{All, AllByRecursion}
 use Rattle.std.proofs.lemmas.Bool.{false≢true}
-use Rattle.std.proofs.lemmas.List.{take_all}
+use Rattle.std.proofs.Math.Seq.{take-append_seam}
+use Rattle.std.proofs.lemmas.List.{append-nil, length-append, length-replicate, take-append-drop, take-append-le, take_all}
+use Rattle.std.proofs.lemmas.List.Concat.{flat_map-append}
 use Rattle.std.proofs.lemmas.List.Elements.{All-from_recursion, recursion_from_All}
 use Rattle.std.proofs.lemmas.Option.{get_or_from_slice_get}
 use Rattle.fm_base.specs.declared.schedule.Setup.{Setup}
@@ -26,7 +28,7 @@ use Rattle.fm_table.specs.Told.{IsKept, Told, cost_of as told_cost, stand_of, wi
 use Rattle.fm_table.specs.Turning.{MakesSteps, PlaysTo, with_steps}
 use Rattle.fm_table.proofs.Fewness.{few_entries}
 use Rattle.fm_table.proofs.Tables.{entry_at}
-use Rattle.fm_trace.specs.Texts.{IsEntry, IsFirstMalformed, IsTraceText, IsTraceable, history_of, trace_of_history, trace_text}
+use Rattle.fm_trace.specs.Texts.{IsEntry, IsFirstMalformed, IsTraceText, IsTraceable, each_time, entries_of, history_of, trace_of_history, trace_text}
 use Rattle.fm_trace.specs.declared.trace.Run as trace_run
 use Rattle.fm_trace.specs.declared.trace.Trace.{Trace}
 use Rattle.fm_front.specs.Program.{IsCheckedOf}
@@ -63,11 +65,11 @@ run_traceable setup program r k =
     }
 
 -- what `trace` says, by the history that was written
-pub written_says : (b : List ℕ) (setup : Setup) (r : run.Run) (text : List ℕ) (written : List Turn) → length b ≤ source_limit → IsRunOf b setup.turns setup.slice [] r → written ≡ r.history.items
+pub written_says : (b : List ℕ) (setup : Setup) (r : run.Run) (text : List ℕ) (written : List Turn) → length b ≤ source_limit → IsRunOf b setup.turns [] r → written ≡ r.history.items
     → text ≡ trace_text (trace_of_history setup.turns written b) → (IsTraceable setup.turns written → IsTraceText text (trace_of_history setup.turns written b))
     → SaysTrace setup.turns b (exit_in r.ending) r.history.items (places_of r.paths.items) text
 written_says b setup r text written le k same text_is readable =
-    told_by_trace b setup.turns setup.slice r text le k
+    told_by_trace b setup.turns r text le k
     (subst (λ (h : List Turn). text ≡ trace_text (trace_of_history setup.turns h b)) same text_is)
     (subst (λ (h : List Turn). IsTraceText text (trace_of_history setup.turns h b)) same
     (readable (subst (λ (h : List Turn). IsTraceable setup.turns h) (sym same) (run_traceable setup k.program r k.runs))))
@@ -186,10 +188,10 @@ lacking_comes vars program setup ts a place h =
 
 -- ---- entries, one behind the other
 
-take_one : (ts : List Turn) (place : ℕ) (t : Turn) → slice_get ts place ≡ Some t → take place ts ++ t ∷ [] ≡ take (suc place) ts
-take_one [] place t at = absurd (cc at)
-take_one (u ∷ ts) zero t at = let same : u ≡ t = cc at in ap (λ (x : Turn). x ∷ []) (sym same)
-take_one (u ∷ ts) (suc n) t at = ap (λ (us : List Turn). u ∷ us) (take_one ts n t at)
+take_one : {A : Type 0} (xs : List A) (place : ℕ) (x : A) → slice_get xs place ≡ Some x → take place xs ++ x ∷ [] ≡ take (suc place) xs
+take_one [] place x at = absurd (cc at)
+take_one (y ∷ ys) zero x at = let same : y ≡ x = cc at in ap (λ z. z ∷ []) (sym same)
+take_one (y ∷ ys) (suc n) x at = ap (λ zs. y ∷ zs) (take_one ys n x at)
 
 -- an entry more of those that are played
 pub come_more : (program : Program) (setup : Setup) (ts : List Turn) (place : ℕ) (t : Turn) (a b : Told) → place < length ts → slice_get ts place ≡ Some t → 1 ≤ t.steps → a ≡ told_after program setup (take place ts) → MakesSteps t.number t.steps a b
@@ -211,14 +213,51 @@ pub makes_by : (a b : Told) (t : Turn) (r : Option ℕ) → is_some r ≡ false 
 makes_by a b t None e h = h
 makes_by a b t (Some k) e h = absurd (cc e)
 
--- each entry has a step
-each_steps : (rs : List trace_run.Run) (place : ℕ) (t : Turn) → AllByRecursion IsEntry rs → slice_get (map (λ (r : trace_run.Run). r.turn) rs) place ≡ Some t → 1 ≤ t.steps
-each_steps [] place t all at = absurd (cc at)
-each_steps (r ∷ rs) zero t all at = let same : r.turn ≡ t = cc at in subst (λ (u : Turn). 1 ≤ u.steps) same all.0.some_steps
-each_steps (r ∷ rs) (suc n) t all at = each_steps rs n t all.1 at
+-- the run at a place
+each_entry : (rs : List trace_run.Run) (place : ℕ) (r : trace_run.Run) → AllByRecursion IsEntry rs → slice_get rs place ≡ Some r → IsEntry r
+each_entry [] place r all at = absurd (cc at)
+each_entry (u ∷ us) zero r all at = let same : u ≡ r = cc at in subst IsEntry same all.0
+each_entry (u ∷ us) (suc n) r all at = each_entry us n r all.1 at
 
-pub entry_steps : (rs : List trace_run.Run) (place : ℕ) (t : Turn) → All IsEntry rs → slice_get (map (λ (r : trace_run.Run). r.turn) rs) place ≡ Some t → 1 ≤ t.steps
-entry_steps rs place t all at = each_steps rs place t (recursion_from_All IsEntry rs all) at
+pub run_is_entry : (rs : List trace_run.Run) (place : ℕ) (r : trace_run.Run) → All IsEntry rs → slice_get rs place ≡ Some r → IsEntry r
+run_is_entry rs place r all at = each_entry rs place r (recursion_from_All IsEntry rs all) at
+
+-- behind others each of its times is the same entry
+pub at_time : (h : List Turn) (n made place : ℕ) (t : Turn) → made < n → length h + made ≡ place → slice_get (h ++ replicate n t) place ≡ Some t
+at_time [] zero made place t low e = absurd (omega (arith, low))
+at_time [] (suc n) made zero t low e = refl
+at_time [] (suc n) made (suc k) t low e = at_time [] n k k t (omega (arith, low, e)) (omega arith)
+at_time (u ∷ us) n made zero t low e = absurd (omega (arith, e))
+at_time (u ∷ us) n made (suc k) t low e = at_time us n made k t low (omega (arith, e))
+
+pub length_times : (h : List Turn) (n : ℕ) (t : Turn) → length (h ++ replicate n t) ≡ length h + n
+length_times h n t = length-append h (replicate n t) ∙ ap (λ (k : ℕ). length h + k) (length-replicate n t)
+
+pub take_front : (h more : List Turn) → take (length h + 0) (h ++ more) ≡ h
+take_front h more = let k : length h + 0 ≡ length h = omega arith in ap (λ (n : ℕ). take n (h ++ more)) k ∙ take-append_seam h more
+
+-- the entries up to a run, those of it, and those behind it
+pub record IsPart (rs : List trace_run.Run) (place : ℕ) (r : trace_run.Run) : Type 0 where
+  pub next : entries_of (take (place + 1) rs) ≡ entries_of (take place rs) ++ each_time r
+  pub whole : entries_of rs ≡ (entries_of (take place rs) ++ each_time r) ++ entries_of (drop (place + 1) rs)
+
+pub part_at : (rs : List trace_run.Run) (place : ℕ) (r : trace_run.Run) → slice_get rs place ≡ Some r → IsPart rs place r
+part_at rs place r at =
+    let k : place + 1 ≡ suc place = omega arith in
+    let one : take (place + 1) rs ≡ take place rs ++ r ∷ [] = ap (λ (n : ℕ). take n rs) k ∙ sym (take_one rs place r at) in
+    let next : entries_of (take (place + 1) rs) ≡ entries_of (take place rs) ++ each_time r =
+    ap entries_of one ∙ flat_map-append each_time (take place rs) (r ∷ []) ∙ ap (λ (ts : List Turn). entries_of (take place rs) ++ ts) (append-nil (each_time r)) in
+    record {
+      next = next;
+      whole =
+          ap entries_of (sym (take-append-drop (place + 1) rs)) ∙ flat_map-append each_time (take (place + 1) rs) (drop (place + 1) rs)
+          ∙ ap (λ (ts : List Turn). ts ++ entries_of (drop (place + 1) rs)) next;
+    }
+
+get_longer : (ts more : List Turn) (place : ℕ) (t : Turn) → slice_get ts place ≡ Some t → (slice_get (ts ++ more) place ≡ Some t) × (place < length ts)
+get_longer [] more place t at = absurd (cc at)
+get_longer (u ∷ us) more zero t at = (at, omega arith)
+get_longer (u ∷ us) more (suc n) t at = let r = get_longer us more n t at in (r.0, omega (arith, r.1))
 
 -- so many were played
 module _ (program : Program) (setup : Setup) (ts : List Turn) where
@@ -231,16 +270,76 @@ module _ (program : Program) (setup : Setup) (ts : List Turn) where
   pub come_lacking : (place : ℕ) (a b : Told) (t : Turn) → slice_get ts place ≡ Some t → a ≡ told_after program setup (take place ts) → IsLacking a t → HasCome program setup ts b (Some place)
   come_lacking place a b t at is lacks = (t, at, subst (λ (c : Told). IsLacking c t) is lacks)
 
--- ---- traces that are read
+  -- and what came of the first of them came of all
+  pub lacking_longer : (more : List Turn) (place : ℕ) (a : Told) → HasCome program setup ts a (Some place) → HasCome program setup (ts ++ more) a (Some place)
+  lacking_longer more place a h =
+      let g = get_longer ts more place h.0 h.1 in
+      let low = g.1 in
+      (h.0, g.0, subst (λ (us : List Turn). IsLacking (told_after program setup us) h.0) (sym (take-append-le place ts more (omega (arith, low)))) h.2)
 
--- each entry comes once
-each_once : (rs : List trace_run.Run) → AllByRecursion IsEntry rs → flat_map (λ (r : trace_run.Run). replicate r.times r.turn) rs ≡ map (λ (r : trace_run.Run). r.turn) rs
-each_once [] all = refl
-each_once (r ∷ rs) all =
-    ap (λ (n : ℕ). replicate n r.turn ++ flat_map (λ (u : trace_run.Run). replicate u.times u.turn) rs) all.0.single ∙ ap (λ (ts : List Turn). r.turn ∷ ts) (each_once rs all.1)
+  pub spent_longer : (more : List Turn) (a : Told) → HasCome program setup ts a None → a.setup.turns < told_cost a → HasCome program setup (ts ++ more) a None
+  spent_longer more a h over =
+      let low = h.1 in
+      (h.0, omega (arith, low, length-append ts more), h.2 ∙ ap (told_after program setup) (sym (take-append-le h.0 ts more low)), inr (subst (λ (s : Setup). s.turns < told_cost a) (ap (λ (b : Told). b.setup) h.2) over))
 
-pub history_map : (rs : List trace_run.Run) → All IsEntry rs → flat_map (λ (r : trace_run.Run). replicate r.times r.turn) rs ≡ map (λ (r : trace_run.Run). r.turn) rs
-history_map rs all = each_once rs (recursion_from_All IsEntry rs all)
+  pub all_come : (a : Told) → HasCome program setup ts a None → told_cost a ≤ a.setup.turns → a ≡ told_after program setup ts
+  all_come a h within = go h.3
+    where
+      go : (h.0 ≡ length ts) ⊎ (setup.turns < told_cost a) → a ≡ told_after program setup ts
+      go (inl e) = h.2 ∙ ap (told_after program setup) (take_all h.0 ts (omega (arith, e)))
+      go (inr over) = let same = ap (λ (b : Told). b.setup.turns) h.2 in absurd (omega (arith, over, within, same))
+
+pub lacks_below : (program : Program) (setup : Setup) (ts : List Turn) (a : Told) (place : ℕ) → HasCome program setup ts a (Some place) → place < length ts
+lacks_below program setup ts a place h = (get_longer ts [] place h.0 h.1).1
+
+-- behind entries a table is told by them
+pub told_by : (program : Program) (setup : Setup) (ts : List Turn) (a : Told) → a ≡ told_after program setup ts → a ≡ told_after a.program a.setup a.history
+told_by program setup ts a is = subst (λ (b : Told). b ≡ told_after b.program b.setup b.history) (sym is) refl
+
+come_behind : (program : Program) (setup : Setup) (ts more : List Turn) (a b : Told) (o : Option ℕ) → a ≡ told_after program setup ts → HasCome a.program a.setup (a.history ++ more) b (option_map (λ made. length a.history + made) o)
+    → HasCome program setup (ts ++ more) b (option_map (λ made. length ts + made) o)
+come_behind program setup ts more a b o is h = subst (λ (t : Told). HasCome t.program t.setup (t.history ++ more) b (option_map (λ made. length t.history + made) o)) is h
+
+-- a run, behind those before it
+module _ (program : Program) (setup : Setup) (rs : List trace_run.Run) (place : ℕ) (r : trace_run.Run) (at : slice_get rs place ≡ Some r) where
+  abbrev front : List Turn
+  front = entries_of (take place rs)
+
+  part : IsPart rs place r
+  part = part_at rs place r at
+
+  pub run_counted : length (entries_of (take (place + 1) rs)) ≡ length front + r.times
+  run_counted = ap length part.next ∙ length_times front r.times r.turn
+
+  pub run_within : length front + r.times ≤ length (entries_of rs)
+  run_within =
+      let all = ap length part.whole in
+      let some = length-append (front ++ each_time r) (entries_of (drop (place + 1) rs)) in
+      omega (arith, all, some, length_times front r.times r.turn)
+
+  module _ (a b : Told) (o : Option ℕ) (is : a ≡ told_after program setup front) (come : HasCome a.program a.setup (a.history ++ each_time r) b (option_map (λ made. length a.history + made) o)) where
+    here : HasCome program setup (front ++ each_time r) b (option_map (λ made. length front + made) o)
+    here = come_behind program setup front (each_time r) a b o is come
+
+    pub run_lacking : (made k : ℕ) → o ≡ Some made → length front + made ≡ k → HasCome program setup (entries_of rs) b (Some k)
+    run_lacking made k some count =
+        subst (λ (ts : List Turn). HasCome program setup ts b (Some k)) (sym part.whole)
+        (lacking_longer program setup (front ++ each_time r) (entries_of (drop (place + 1) rs)) k b
+        (subst (λ (q : Option ℕ). HasCome program setup (front ++ each_time r) b q) (ap (option_map (λ made. length front + made)) some ∙ ap Some count) here))
+
+    none_here : o ≡ None → HasCome program setup (front ++ each_time r) b None
+    none_here none = subst (λ (q : Option ℕ). HasCome program setup (front ++ each_time r) b (option_map (λ made. length front + made) q)) none here
+
+    pub run_spent : o ≡ None → b.setup.turns < told_cost b → HasCome program setup (entries_of rs) b None
+    run_spent none over =
+        subst (λ (ts : List Turn). HasCome program setup ts b None) (sym part.whole)
+        (spent_longer program setup (front ++ each_time r) (entries_of (drop (place + 1) rs)) b (none_here none) over)
+
+    pub run_all : o ≡ None → told_cost b ≤ b.setup.turns → b ≡ told_after program setup (entries_of (take (place + 1) rs))
+    run_all none within = all_come program setup (front ++ each_time r) b (none_here none) within ∙ ap (told_after program setup) (sym part.next)
+
+pub runs_all : (program : Program) (setup : Setup) (rs : List trace_run.Run) (place : ℕ) (a : Told) → length rs ≤ place → a ≡ told_after program setup (entries_of (take place rs)) → HasCome program setup (entries_of rs) a None
+runs_all program setup rs place a high is = (length (entries_of rs), omega arith, is ∙ ap (told_after program setup) (ap entries_of (take_all place rs high) ∙ sym (take_all (length (entries_of rs)) (entries_of rs) (omega arith))), inl refl)
 
 -- ---- replies
 
@@ -316,6 +415,7 @@ ended_again setup vars b exit h ps text end k read within =
         text_is = refl;
         tells_each = k.tells_each;
         one_outcome = k.one_outcome;
+        safe = k.safe;
       },
       record {
         within = within;

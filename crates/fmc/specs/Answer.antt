@@ -26,6 +26,8 @@ use Rattle.fm_rules.specs.Units.{units_of}
 use Rattle.fm_rules.specs.Names.{names_of}
 use Rattle.fm_rules.specs.Race.{IsRaceVerdict}
 use Rattle.fm_rules.specs.declared.program.Program.{Program}
+use Rattle.fm_rules.specs.Program.{IsChecked}
+use Rattle.fm_flow_law.specs.Flow.{IsFlowSafe, IsFlowVerdict}
 use Rattle.fm_front.specs.Verdict.{IsBroken, AreStatementsOf}
 use Rattle.fm_front.specs.Program.{IsCheckedOf}
 use Rattle.fm_run.specs.Runs.{HaveSteps, IsFrontWithin, Follows}
@@ -74,6 +76,8 @@ pub record IsEnded (source : List ℕ) (asked : Asked) (exit : Exit) (history : 
   -- where the program is deterministic, so it is under every other schedule: it goes on to an end, and one that ends gives
   -- the same state at the same cost
   pub one_outcome : IsDeterministic program → Settles (step program) (first program) choices
+  -- where no sentence of the flow check holds, main has ended, or a process faulted
+  pub safe : IsFlowSafe program → exit ≢ Deadlocked
 
 -- the kept schedule costs more than the turns
 pub record IsSpent (source : List ℕ) (asked : Asked) (history : List Turn) (places : List Place) (text : List ℕ) : Type 0 where
@@ -83,8 +87,9 @@ pub record IsSpent (source : List ℕ) (asked : Asked) (history : List Turn) (pl
   pub kept : IsHistoryOf source program asked.turns history places choices
   pub over : asked.turns < cost_of program choices
   pub text_is : text ≡ asked.tells_spent history
-  -- where nobody chose, each process that could step came before as many entries as there are processes
-  pub fair : asked.chosen ≡ [] → IsFair program history places
+  -- where nobody chose, and the program isn't deterministic, each process that could step came before as many entries as there are
+  -- processes
+  pub fair : asked.chosen ≡ [] → (IsDeterministic program → ⊥) → IsFair program history places
   -- where the program is deterministic, so does every schedule that ends
   pub spent_for_all : IsDeterministic program → (others : List Place) → IsEnding (step program) (first program) others → asked.turns < cost_of program others
 
@@ -138,7 +143,7 @@ pub record IsListOf (source text : List ℕ) : Type 0 where
   pub read : AreStatementsOf (cards_of source) statements
   pub listed : text ≡ listed_text statements
 
--- the least line of a MERGER or PROBE that a process may come to
+-- the least line of a PROBE, or of a MERGER that may have several writers, that a process may come to
 abbrev pub IsFirstRaceOf : List Placed → Option Line → Type 0
 IsFirstRaceOf statements race = ∥ IsRaceVerdict (units_of statements) (context_of (units_of statements) (names_of (units_of statements))) race ∥₁
 
@@ -149,6 +154,20 @@ determinism_text (Some line) = codes "not deterministic: line " ++ decimal line.
 -- whether every schedule comes to one outcome
 abbrev pub TellsDeterminism : List Placed → List ℕ → Type 0
 TellsDeterminism statements told = (race : Option Line) × IsFirstRaceOf statements race × (told ≡ determinism_text race)
+
+-- the least line at which a sentence of the flow check holds of the program of the statements, or none
+pub record IsFlowOf (statements : List Placed) (risk : Option Line) : Type 0 where
+  pub program : Program
+  pub checked : IsChecked statements program.units program.names
+  pub verdict : IsFlowVerdict program risk
+
+abbrev pub flow_text : Option Line → List ℕ
+flow_text None = codes "no deadlock\n"
+flow_text (Some line) = codes "may deadlock: line " ++ decimal line.0 ++ 10 ∷ []
+
+-- whether the program may deadlock
+abbrev pub TellsFlow : List Placed → List ℕ → Type 0
+TellsFlow statements told = (risk : Option Line) × IsFlowOf statements risk × (told ≡ flow_text risk)
 
 -- nothing was played
 abbrev pub IsNoHistory : List Turn → List Place → Type 0
@@ -166,6 +185,7 @@ HasHistory (Some (command.Trace setup)) source history places = IsHistoryIn setu
 HasHistory (Some (command.Replay vars)) source history places = IsNoHistory history places
 HasHistory (Some command.Check) source history places = IsNoHistory history places
 HasHistory (Some command.List) source history places = IsNoHistory history places
+HasHistory (Some command.Flow) source history places = IsNoHistory history places
 HasHistory (Some (command.Make number)) source history places = IsNoHistory history places
 HasHistory (Some (command.Demo number setup)) source history places = IsHistoryIn setup.turns (made_text number) history places
 
@@ -224,6 +244,7 @@ Says (command.Trace setup) b exit h ps t = SaysTrace setup.turns b exit h ps t
 Says (command.Replay vars) b exit h ps t = SaysReplay vars b exit h ps t
 Says command.Check b exit h ps t = SaysTold TellsDeterminism b exit h ps t
 Says command.List b exit h ps t = SaysTold TellsList b exit h ps t
+Says command.Flow b exit h ps t = SaysTold TellsFlow b exit h ps t
 Says (command.Make number) b exit h ps t = SaysMade number exit h ps t
 Says (command.Demo number setup) b exit h ps t = SaysDemo number setup.turns exit h ps t
 
@@ -239,6 +260,7 @@ is_reading (command.Trace setup) = true
 is_reading (command.Replay vars) = true
 is_reading command.Check = true
 is_reading command.List = true
+is_reading command.Flow = true
 is_reading (command.Make number) = false
 is_reading (command.Demo number setup) = false
 
@@ -253,6 +275,7 @@ limit_of (command.Trace setup) = source_limit
 limit_of (command.Replay vars) = trace_limit
 limit_of command.Check = source_limit
 limit_of command.List = source_limit
+limit_of command.Flow = source_limit
 limit_of (command.Make number) = source_limit
 limit_of (command.Demo number setup) = source_limit
 
@@ -282,6 +305,7 @@ IsReady (command.Trace setup) b = IsLawful b
 IsReady (command.Replay vars) b = IsTraceOf IsAccepted b
 IsReady command.Check b = IsLawful b
 IsReady command.List b = IsLawful b
+IsReady command.Flow b = IsLawful b
 IsReady (command.Make number) b = Unit {0}
 IsReady (command.Demo number setup) b = IsAccepted (made_text number)
 
@@ -292,6 +316,7 @@ IsCompleted (command.Trace setup) exit = ((exit ≡ Done) ⊎ ((exit ≡ Faulted
 IsCompleted (command.Replay vars) exit = IsPlayedExit exit ⊎ ((exit ≡ Illegal) ⊎ ((exit ≡ Unfinished) ⊎ (exit ≡ NoMemory)))
 IsCompleted command.Check exit = (exit ≡ Done) ⊎ (exit ≡ NoMemory)
 IsCompleted command.List exit = (exit ≡ Done) ⊎ (exit ≡ NoMemory)
+IsCompleted command.Flow exit = (exit ≡ Done) ⊎ (exit ≡ NoMemory)
 IsCompleted (command.Make number) exit = (exit ≡ Done) ⊎ (exit ≡ NoMemory)
 IsCompleted (command.Demo number setup) exit = ((exit ≡ Done) ⊎ ((exit ≡ Faulted) ⊎ (exit ≡ Deadlocked))) ⊎ ((exit ≡ Spent) ⊎ (exit ≡ NoMemory))
 
@@ -306,6 +331,7 @@ IsRefusedBy (command.Trace setup) b v = IsUnlawful b v
 IsRefusedBy (command.Replay vars) b v = IsTraceOf (λ source. IsRefusedFor source v) b
 IsRefusedBy command.Check b v = IsUnlawful b v
 IsRefusedBy command.List b v = IsUnlawful b v
+IsRefusedBy command.Flow b v = IsUnlawful b v
 IsRefusedBy (command.Make number) b v = ⊥
 IsRefusedBy (command.Demo number setup) b v = IsRefusedFor (made_text number) v
 
@@ -322,6 +348,7 @@ IsTooLongBy (command.Trace setup) b = source_limit < length b
 IsTooLongBy (command.Replay vars) b = IsTooLongTrace b
 IsTooLongBy command.Check b = source_limit < length b
 IsTooLongBy command.List b = source_limit < length b
+IsTooLongBy command.Flow b = source_limit < length b
 IsTooLongBy (command.Make number) b = ⊥
 IsTooLongBy (command.Demo number setup) b = ⊥
 
@@ -335,6 +362,7 @@ IsMalformedBy (command.Trace setup) b = ⊥
 IsMalformedBy (command.Replay vars) b = (length b ≤ trace_limit) × (line : ℕ) × IsFirstMalformed b line
 IsMalformedBy command.Check b = ⊥
 IsMalformedBy command.List b = ⊥
+IsMalformedBy command.Flow b = ⊥
 IsMalformedBy (command.Make number) b = ⊥
 IsMalformedBy (command.Demo number setup) b = ⊥
 

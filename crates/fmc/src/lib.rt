@@ -1,10 +1,11 @@
-//! Checks and runs Fortran M programs. The call of the program is `fmc`; `play_choices` runs a source
-//! under a schedule of the caller's.
+//! Checks and runs Fortran M programs. The call of the program is `fmc`, whose runs are played by workers of the caller's;
+//! `play_choices` runs a source under a schedule of the caller's.
 #![tactic(auto)]
 
 mod answer;
 mod laws;
 mod listing;
+mod playing;
 mod replaying;
 mod replies;
 mod response;

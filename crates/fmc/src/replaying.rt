@@ -1,14 +1,14 @@
 //! The reply to a trace.
 
-ghost use Rattle.std.specs.Prelude.{◌≡◌, ◌≤◌, ◌<◌, Some, slice_get, ◌++◌, ◌∷◌, ℕ, List, [], length, map, nat_lt, true, false, codes, All, IfOk};
+ghost use Rattle.std.specs.Prelude.{◌≡◌, ◌+◌, ◌≤◌, ◌<◌, Some, option_map, slice_get, ◌++◌, ◌∷◌, ℕ, List, [], length, nat_lt, true, false, codes, All, IfOk, IfSome};
 ghost use Rattle.std.specs.Fmt.{decimal};
 ghost use Rattle.fm_table.specs.Told.{cost_of as told_cost, first_told};
 ghost use Rattle.fm_table.specs.Turning.{MakesSteps};
-ghost use Rattle.fm_trace.specs.Texts.{IsEntry, IsTrace, IsTraceText, history_of};
+ghost use Rattle.fm_trace.specs.Texts.{IsEntry, IsTrace, IsTraceText, each_time, entries_of, history_of};
 ghost use Rattle.fm_words.specs.declared.command.Command.TheVariants as command;
 ghost use Rattle.fmc.specs.Exits.{is_decided};
 ghost use Rattle.fmc.specs.Outcomes.{IsUnplayed, source_limit};
-ghost use Rattle.fmc.specs.Replay.{ComesTo, HasCome, IsLacking, SaysTable, trace_limit};
+ghost use Rattle.fmc.specs.Replay.{ComesTo, HasCome, IsLacking, SaysTable, told_after, trace_limit};
 ghost use Rattle.fmc.specs.Reply.{IsReply, bytes_of, places_in};
 
 use crate::answer::{Exit, Reply, Text};
@@ -56,12 +56,12 @@ fn is_long(source: &[u8]) -> bool
     SOURCE_LIMIT < source.len()
 }
 
-// The entry at a place.
-fn turn_at(entries: &[Run], place: usize) -> Turn
-    requires { place < length entries.now }
-    ensures { slice_get (map (λ e. e.turn) entries.now) place ≡ Some result }
+// The run at a place.
+fn run_at(runs: &[Run], place: usize) -> Run
+    requires { place < length runs.now }
+    ensures { slice_get runs.now place ≡ Some result }
 {
-    entries[place].turn
+    runs[place]
 }
 
 // Plays an entry, where the turns aren't spent: whether it asks for a step that isn't there.
@@ -75,25 +75,45 @@ fn lacks_step(alloc: Global, table: &mut Table, entry: Turn) -> Result<bool, NoM
     Ok(missing.is_some())
 }
 
-// Plays entries from the first until one asks for a step that isn't there, or they cost more than the turns: the place of that one.
-fn play_entries(
-    alloc: Global,
-    table: &mut Table,
-    entries: &[Run],
-) -> Result<Option<usize>, NoMemory>
-    requires fresh { table.old ≡ first_told table.old.program table.old.setup }
-    requires entries { All IsEntry entries.now }
-    ensures { IfOk result (λ r. HasCome table.old.program table.old.setup (map (λ e. e.turn) entries.now) table.new r) }
+// Plays an entry as often as it comes, until it asks for a step that isn't there, or there are entries that cost more than the turns:
+// how many were made before the one that asks for such a step.
+fn play_run(alloc: Global, table: &mut Table, run: Run) -> Result<Option<u32>, NoMemory>
+    requires told { table.old ≡ told_after table.old.program table.old.setup table.old.history }
+    requires steps { 1 ≤ run.turn.steps }
+    ensures come { IfOk result (λ r. HasCome table.old.program table.old.setup (table.old.history ++ each_time run) table.new (option_map (λ made. length table.old.history + made) r)) }
+    ensures fewer { IfOk result (λ r. IfSome r (λ made. made < run.times)) }
 {
-    'entries: for place in 0..entries.len() {
+    'times: for made in 0..run.times {
         if table.is_spent() {
             return Ok(None);
         }
-        let entry = turn_at(entries, place);
-        let lacks = lacks_step(alloc, table, entry)?;
+        let lacks = lacks_step(alloc, table, run.turn)?;
         if lacks {
-            return Ok(Some(place));
+            return Ok(Some(made));
         }
+    }
+    Ok(None)
+}
+
+// Plays entries from the first until one asks for a step that isn't there, or they cost more than the turns: the place of that one.
+fn play_entries(alloc: Global, table: &mut Table, runs: &[Run]) -> Result<Option<u64>, NoMemory>
+    requires fresh { table.old ≡ first_told table.old.program table.old.setup }
+    requires runs { All IsEntry runs.now }
+    requires few { length (entries_of runs.now) ≤ 1000000001 }
+    ensures come { IfOk result (λ r. HasCome table.old.program table.old.setup (entries_of runs.now) table.new r) }
+    ensures fewer { IfOk result (λ r. IfSome r (λ place. place < length (entries_of runs.now))) }
+{
+    let mut played: u64 = 0;
+    'runs: for place in 0..runs.len() {
+        let run = run_at(runs, place);
+        let lacking = play_run(alloc, table, run)?;
+        if let Some(made) = lacking {
+            return Ok(Some(played + u64::from(made)));
+        }
+        if table.is_spent() {
+            return Ok(None);
+        }
+        played += u64::from(run.times);
     }
     Ok(None)
 }
@@ -123,19 +143,20 @@ fn replay_in(
     alloc: Global,
     program: Arc<Program>,
     turns: u64,
-    entries: &[Run],
+    runs: &[Run],
     vars: bool,
 ) -> Result<(Exit, Text), NoMemory>
     requires some { 1 ≤ turns }
     requires few { turns ≤ 1_000_000_000 }
-    requires entries { All IsEntry entries.now }
-    ensures { IfOk result (λ r. ComesTo vars r.0 program.value turns (map (λ e. e.turn) entries.now) (bytes_of r.1)) }
+    requires runs { All IsEntry runs.now }
+    requires few_entries { length (entries_of runs.now) ≤ 1000000001 }
+    ensures { IfOk result (λ r. ComesTo vars r.0 program.value turns (entries_of runs.now) (bytes_of r.1)) }
 {
     let mut table = Table::new(alloc, program, setup_of(turns))?;
-    let come = play_entries(alloc, &mut table, entries)?;
+    let come = play_entries(alloc, &mut table, runs)?;
     match come {
         Some(place) => {
-            let text = numbered(alloc, b"illegal turn: entry ", place as u64 + 1)?;
+            let text = numbered(alloc, b"illegal turn: entry ", place + 1)?;
             Ok((Exit::Illegal, Text::Made(text)))
         }
         None => {

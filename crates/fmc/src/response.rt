@@ -10,23 +10,27 @@ ghost use Rattle.fm_run.specs.Orders.{places_of};
 ghost use Rattle.fm_words.specs.declared.command.Command.TheVariants as command;
 ghost use Rattle.fmc.specs.Exits.{is_decided};
 ghost use Rattle.fmc.specs.Outcomes.{source_limit};
-ghost use Rattle.fmc.specs.Answer.{FollowsIn, IsListOf, determinism_text, IsPlayedExit, SaysDemo, SaysMade, SaysRun, SaysTrace, count_line, ended_word, limit_of, report_asked, summary_asked, summary_by};
-ghost use Rattle.fmc.specs.Reply.{bytes_of, places_in, IsReply, IsRunOf, IsSummary, exit_in, text_in};
+ghost use Rattle.fmc.specs.Answer.{FollowsIn, IsListOf, determinism_text, flow_text, IsPlayedExit, SaysDemo, SaysMade, SaysRun, SaysTrace, count_line, ended_word, limit_of, report_asked, summary_asked, summary_by};
+ghost use Rattle.fmc.specs.Reply.{bytes_of, places_in, IsFlowReply, IsReply, IsSummary, exit_in, text_in};
 
 use crate::answer::{Exit, Ran, Reply, Text};
 use crate::listing::list_text;
+use crate::playing::{run_chosen, run_source};
 use crate::replaying::try_replay;
 use crate::replies::{exit_of, no_memory, refusal_reply, unplayed_reply};
 use fm_base::{CheckFail, Line, NoMemory, Path, Setup};
+use fm_flow::flow;
 use fm_front::{check_statements, front, statements};
 use fm_make::make;
 use fm_mean::Outcome;
 use fm_report::{report, spent_text};
+use fm_rules::Program;
 use fm_run::{Ending, Run};
-use fm_table::run_table;
+use fm_table::Table;
 use fm_trace::write;
 use fm_tree::Placed;
 use fm_words::Command;
+use fm_workers::Workers;
 use std::alloc::Global;
 use std::sync::Arc;
 
@@ -47,17 +51,6 @@ fn report_in(alloc: Global, run: &Run, turns: u64, vars: bool) -> Result<Vec<u8>
         Ending::Ended(outcome) => report(alloc, outcome, vars),
         Ending::Spent => spent_text(alloc, turns),
     }
-}
-
-/// A run of the program of a source of these bytes, under these choices. Refused by the least rule that the source breaks.
-fn run_source(alloc: Global, bytes: &[u8], choices: &[u64], setup: Setup) -> Result<Run, CheckFail>
-    requires { length bytes.now ≤ source_limit }
-    ensures run { IfOk result (λ run. IsRunOf bytes.now setup.turns setup.slice choices.now run) }
-    ensures refused { IfErr result (IsRefusal (IsBroken bytes.now)) }
-{
-    let program = front(alloc, bytes)?;
-    let shared = Arc::new(alloc, program)?;
-    Ok(run_table(alloc, shared, setup, choices)?)
 }
 
 // The answer of a run.
@@ -88,17 +81,43 @@ pub fn play_source(
     ensures exit { IfOk result (λ r. IsPlayedExit r.0.exit) }
     ensures refused { IfErr result (IsRefusal (IsBroken bytes.now)) }
 {
-    let run = run_source(alloc, bytes, choices, setup)?;
+    let run = run_chosen(alloc, bytes, choices, setup)?;
     let text = report_in(alloc, &run, setup.turns, vars)?;
     Ok((answer_of(run), text))
 }
 
-fn try_run(alloc: Global, bytes: &[u8], setup: Setup, vars: bool) -> Result<Reply, NoMemory>
-    requires { length bytes.now ≤ source_limit }
+/// The answer of a run that workers play of a source of these bytes, and its text.
+fn drive_source<W: Workers<Table>>(
+    alloc: Global,
+    bytes: &[u8],
+    setup: Setup,
+    vars: bool,
+    workers: &W,
+) -> Result<(Ran, Vec<u8>), CheckFail>
+    requires crosses { W.crosses }
+    requires size { length bytes.now ≤ source_limit }
+    ensures says { IfOk result (λ r. SaysRun (report_asked setup.turns vars []) bytes.now r.0.exit r.0.history.items (places_in r.0) r.1.items) }
+    ensures exit { IfOk result (λ r. IsPlayedExit r.0.exit) }
+    ensures refused { IfErr result (IsRefusal (IsBroken bytes.now)) }
+{
+    let run = run_source(alloc, bytes, setup, workers)?;
+    let text = report_in(alloc, &run, setup.turns, vars)?;
+    Ok((answer_of(run), text))
+}
+
+fn try_run<W: Workers<Table>>(
+    alloc: Global,
+    bytes: &[u8],
+    setup: Setup,
+    vars: bool,
+    workers: &W,
+) -> Result<Reply, NoMemory>
+    requires crosses { W.crosses }
+    requires size { length bytes.now ≤ source_limit }
     ensures reply { IfOk result (λ r. IsReply (command.Run setup vars) bytes.now r) }
     ensures kind { IfOk result (λ r. is_decided r.ran.exit ≡ true) }
 {
-    match play_source(alloc, bytes, &[], setup, vars) {
+    match drive_source(alloc, bytes, setup, vars, workers) {
         Ok((ran, text)) => Ok(Reply {
             ran,
             text: Text::Made(text),
@@ -109,23 +128,35 @@ fn try_run(alloc: Global, bytes: &[u8], setup: Setup, vars: bool) -> Result<Repl
 }
 
 /// The answer of a run of a source of these bytes, and its trace.
-fn trace_source(alloc: Global, bytes: &[u8], setup: Setup) -> Result<(Ran, Vec<u8>), CheckFail>
-    requires { length bytes.now ≤ source_limit }
+fn trace_source<W: Workers<Table>>(
+    alloc: Global,
+    bytes: &[u8],
+    setup: Setup,
+    workers: &W,
+) -> Result<(Ran, Vec<u8>), CheckFail>
+    requires crosses { W.crosses }
+    requires size { length bytes.now ≤ source_limit }
     ensures says { IfOk result (λ r. SaysTrace setup.turns bytes.now r.0.exit r.0.history.items (places_in r.0) r.1.items) }
     ensures exit { IfOk result (λ r. IsPlayedExit r.0.exit) }
     ensures refused { IfErr result (IsRefusal (IsBroken bytes.now)) }
 {
-    let run = run_source(alloc, bytes, &[], setup)?;
+    let run = run_source(alloc, bytes, setup, workers)?;
     let text = write(alloc, &run.history, setup.turns, bytes)?;
     Ok((answer_of(run), text))
 }
 
-fn try_trace(alloc: Global, bytes: &[u8], setup: Setup) -> Result<Reply, NoMemory>
-    requires { length bytes.now ≤ source_limit }
+fn try_trace<W: Workers<Table>>(
+    alloc: Global,
+    bytes: &[u8],
+    setup: Setup,
+    workers: &W,
+) -> Result<Reply, NoMemory>
+    requires crosses { W.crosses }
+    requires size { length bytes.now ≤ source_limit }
     ensures reply { IfOk result (λ r. IsReply (command.Trace setup) bytes.now r) }
     ensures kind { IfOk result (λ r. is_decided r.ran.exit ≡ true) }
 {
-    match trace_source(alloc, bytes, setup) {
+    match trace_source(alloc, bytes, setup, workers) {
         Ok((ran, text)) => Ok(Reply {
             ran,
             text: Text::Made(text),
@@ -180,23 +211,35 @@ fn summary_in(alloc: Global, run: &Run, turns: u64) -> Result<Vec<u8>, NoMemory>
 }
 
 /// The answer of a demonstration by a source of these bytes, and its text.
-fn show_source(alloc: Global, bytes: &[u8], setup: Setup) -> Result<(Ran, Vec<u8>), CheckFail>
-    requires { length bytes.now ≤ source_limit }
+fn show_source<W: Workers<Table>>(
+    alloc: Global,
+    bytes: &[u8],
+    setup: Setup,
+    workers: &W,
+) -> Result<(Ran, Vec<u8>), CheckFail>
+    requires crosses { W.crosses }
+    requires size { length bytes.now ≤ source_limit }
     ensures says { IfOk result (λ r. SaysRun (summary_asked setup.turns) bytes.now r.0.exit r.0.history.items (places_in r.0) r.1.items) }
     ensures exit { IfOk result (λ r. IsPlayedExit r.0.exit) }
     ensures refused { IfErr result (IsRefusal (IsBroken bytes.now)) }
 {
-    let run = run_source(alloc, bytes, &[], setup)?;
+    let run = run_source(alloc, bytes, setup, workers)?;
     let text = summary_in(alloc, &run, setup.turns)?;
     Ok((answer_of(run), text))
 }
 
-fn summary_reply(alloc: Global, bytes: &[u8], setup: Setup) -> Result<Reply, NoMemory>
-    requires { length bytes.now ≤ source_limit }
+fn summary_reply<W: Workers<Table>>(
+    alloc: Global,
+    bytes: &[u8],
+    setup: Setup,
+    workers: &W,
+) -> Result<Reply, NoMemory>
+    requires crosses { W.crosses }
+    requires size { length bytes.now ≤ source_limit }
     ensures summary { IfOk result (IsSummary bytes.now setup.turns) }
     ensures kind { IfOk result (λ r. is_decided r.ran.exit ≡ true) }
 {
-    match show_source(alloc, bytes, setup) {
+    match show_source(alloc, bytes, setup, workers) {
         Ok((ran, text)) => Ok(Reply {
             ran,
             text: Text::Made(text),
@@ -207,12 +250,18 @@ fn summary_reply(alloc: Global, bytes: &[u8], setup: Setup) -> Result<Reply, NoM
 }
 
 /// The program of a number is made and run.
-fn try_demo(alloc: Global, number: u64, setup: Setup) -> Result<Reply, NoMemory>
+fn try_demo<W: Workers<Table>>(
+    alloc: Global,
+    number: u64,
+    setup: Setup,
+    workers: &W,
+) -> Result<Reply, NoMemory>
+    requires { W.crosses }
     ensures reply { IfOk result (λ r. SaysDemo number setup.turns r.ran.exit r.ran.history.items (places_in r.ran) (bytes_of r.text)) }
     ensures kind { IfOk result (λ r. is_decided r.ran.exit ≡ true) }
 {
     let source = make(alloc, number)?;
-    summary_reply(alloc, &source, setup)
+    summary_reply(alloc, &source, setup, workers)
 }
 
 /// The program of a number is written.
@@ -238,6 +287,20 @@ fn determinism_text(alloc: Global, race: Option<Line>) -> Result<Text, NoMemory>
     }
 }
 
+fn flow_text(alloc: Global, risk: Option<Line>) -> Result<Text, NoMemory>
+    ensures { IfOk result (λ t. bytes_of t ≡ flow_text risk) }
+{
+    match risk {
+        None => Ok(Text::Fixed(b"no deadlock\n")),
+        Some(line) => {
+            let mut text = Vec::from_slice(alloc, b"may deadlock: line ")?;
+            text.extend_from_slice(line.0.to_string(alloc)?.as_bytes())?;
+            text.push(b'\n')?;
+            Ok(Text::Made(text))
+        }
+    }
+}
+
 fn try_check(alloc: Global, bytes: &[u8]) -> Result<Reply, NoMemory>
     requires { length bytes.now ≤ source_limit }
     ensures reply { IfOk result (λ r. IsReply command.Check bytes.now r) }
@@ -248,6 +311,28 @@ fn try_check(alloc: Global, bytes: &[u8]) -> Result<Reply, NoMemory>
             let text = determinism_text(alloc, program.first_race())?;
             Ok(unplayed_reply(alloc, Exit::Done, text))
         }
+        Err(CheckFail::Refused(refusal)) => refusal_reply(alloc, refusal),
+        Err(CheckFail::NoMemory) => Err(NoMemory),
+    }
+}
+
+/// The reply of the flow check of a program.
+fn flow_reply(alloc: Global, program: &Program) -> Result<Reply, NoMemory>
+    ensures exit { IfOk result (λ r. r.ran.exit ≡ Exit.Done) }
+    ensures text { IfOk result (IsFlowReply program.now) }
+{
+    let risk = flow(alloc, program)?;
+    let text = flow_text(alloc, risk)?;
+    Ok(unplayed_reply(alloc, Exit::Done, text))
+}
+
+fn try_flow(alloc: Global, bytes: &[u8]) -> Result<Reply, NoMemory>
+    requires { length bytes.now ≤ source_limit }
+    ensures reply { IfOk result (λ r. IsReply command.Flow bytes.now r) }
+    ensures kind { IfOk result (λ r. is_decided r.ran.exit ≡ true) }
+{
+    match front(alloc, bytes) {
+        Ok(program) => flow_reply(alloc, &program),
         Err(CheckFail::Refused(refusal)) => refusal_reply(alloc, refusal),
         Err(CheckFail::NoMemory) => Err(NoMemory),
     }
@@ -294,20 +379,22 @@ fn try_list(alloc: Global, bytes: &[u8]) -> Result<Reply, NoMemory>
     }
 }
 
-/// The reply to a source of these bytes, on which `make` and `demo` don't depend.
-pub fn reply(alloc: Global, command: Command, bytes: &[u8]) -> Reply
-    requires { length bytes.now ≤ limit_of command }
+/// The reply to a source of these bytes, on which `make` and `demo` don't depend. Workers play what is run.
+pub fn reply<W: Workers<Table>>(alloc: Global, command: Command, bytes: &[u8], workers: &W) -> Reply
+    requires crosses { W.crosses }
+    requires size { length bytes.now ≤ limit_of command }
     ensures reply { IsReply command bytes.now result }
     ensures kind { is_decided result.ran.exit ≡ true }
 {
     let tried = match command {
-        Command::Run { setup, vars } => try_run(alloc, bytes, setup, vars),
-        Command::Trace { setup } => try_trace(alloc, bytes, setup),
+        Command::Run { setup, vars } => try_run(alloc, bytes, setup, vars, workers),
+        Command::Trace { setup } => try_trace(alloc, bytes, setup, workers),
         Command::Replay { vars } => try_replay(alloc, bytes, vars),
         Command::Check => try_check(alloc, bytes),
         Command::List => try_list(alloc, bytes),
+        Command::Flow => try_flow(alloc, bytes),
         Command::Make { number } => try_make(alloc, number),
-        Command::Demo { number, setup } => try_demo(alloc, number, setup),
+        Command::Demo { number, setup } => try_demo(alloc, number, setup, workers),
     };
     match tried {
         Ok(reply) => reply,

@@ -1,6 +1,6 @@
 //! The top call.
 
-ghost use Rattle.std.specs.Prelude.{◌≡◌, ◌≢◌, ◌≤◌, ℕ, Bool, true, false, List, [], map, length, IfSome, IfOk, IfErr, Some, is_none};
+ghost use Rattle.std.specs.Prelude.{◌≡◌, ◌≢◌, ◌≤◌, ℕ, Bool, true, false, List, [], map, length, IfSome, IfOk, IfErr, Some, is_none, codes};
 ghost use Rattle.std.specs.Io.KnownBytes.{Appends, IsAtEnd};
 ghost use Rattle.fm_base.specs.declared.rule.Refusal.{Refusal};
 ghost use Rattle.fm_base.specs.Verdict.{IsRefusal};
@@ -18,7 +18,7 @@ ghost use Rattle.fmc.specs.declared.answer.Exit as declared_exit;
 ghost use Rattle.fmc.specs.Exits.{is_usage, is_read};
 ghost use Rattle.fmc.specs.Outcomes.{source_limit};
 ghost use Rattle.fmc.specs.Replay.{trace_limit};
-ghost use Rattle.fmc.specs.Answer.{Answers, FollowsIn, Says, SaysRun, HasHistory, IsReady, IsRefusedBy, IsCompleted, IsMalformedBy, IsMalformedExit, IsRefusedExit, IsTooLongBy, IsTooLongExit, IsPlayedExit, are_reading, is_reading, limit_of, report_asked};
+ghost use Rattle.fmc.specs.Answer.{Answers, Asked, FollowsIn, Says, SaysRun, HasHistory, IsReady, IsRefusedBy, IsCompleted, IsMalformedBy, IsMalformedExit, IsRefusedExit, IsTooLongBy, IsTooLongExit, IsPlayedExit, are_reading, is_reading, limit_of, report_asked};
 ghost use Rattle.fmc.specs.Reply.{IsReplyFor, IsReplyOf, bytes_of, places_in};
 
 use crate::answer::{Exit, Ran, Reply, Text};
@@ -26,7 +26,9 @@ use crate::replies::{no_memory, unplayed_reply};
 use crate::response::{play_source, reply};
 use fm_base::{CheckFail, Plan, Setup};
 use fm_io::{ReadFail, Sink, Source, WriteFail, read_all, write_all};
+use fm_table::Table;
 use fm_words::{Command, WordsFail, words as command_in};
+use fm_workers::Workers;
 use std::alloc::Global;
 
 /// The most bytes of a source.
@@ -38,7 +40,8 @@ const TRACE_LIMIT: usize = 100_000_000;
 /// The most steps of a piece under a schedule of the caller's.
 const SLICE: u32 = 1_000;
 
-const USAGE: &[u8] = b"usage: fmc run or trace or replay or check or list or make N or demo N\n";
+const USAGE: &[u8] =
+    b"usage: fmc run or trace or replay or check or list or make N or demo N or flow\n";
 
 fn limit_of(command: &Command) -> usize
     ensures { result ≡ limit_of command.now }
@@ -49,14 +52,21 @@ fn limit_of(command: &Command) -> usize
         Command::Replay { .. } => TRACE_LIMIT,
         Command::Check => LIMIT,
         Command::List => LIMIT,
+        Command::Flow => LIMIT,
         Command::Make { .. } => LIMIT,
         Command::Demo { .. } => LIMIT,
     }
 }
 
 /// The reply to a command that works on the source.
-fn respond_to<S: Source>(alloc: Global, command: Command, source: &mut S) -> Reply
-    requires { is_reading command ≡ true }
+fn respond_to<S: Source, W: Workers<Table>>(
+    alloc: Global,
+    command: Command,
+    source: &mut S,
+    workers: &W,
+) -> Reply
+    requires crosses { W.crosses }
+    requires reading { is_reading command ≡ true }
     ensures reply { IsReplyOf (Some command) (S.left source.old) result }
     ensures no_usage { is_usage result.ran.exit ≡ false }
     ensures no_write { result.ran.exit ≢ Exit.WriteFault }
@@ -65,7 +75,7 @@ fn respond_to<S: Source>(alloc: Global, command: Command, source: &mut S) -> Rep
     ensures later { S.faults source.old ≤ S.faults source.new }
 {
     match read_all(alloc, source, limit_of(&command)) {
-        Ok(bytes) => reply(alloc, command, &bytes),
+        Ok(bytes) => reply(alloc, command, &bytes, workers),
         Err(ReadFail::Fault) => {
             unplayed_reply(alloc, Exit::ReadFault, Text::Fixed(b"read fault\n"))
         }
@@ -85,12 +95,19 @@ fn is_reading(command: &Command) -> bool
         Command::Replay { .. } => true,
         Command::Check => true,
         Command::List => true,
+        Command::Flow => true,
         Command::Make { .. } => false,
         Command::Demo { .. } => false,
     }
 }
 
-fn respond<S: Source>(alloc: Global, words: &[&str], source: &mut S) -> Reply
+fn respond<S: Source, W: Workers<Table>>(
+    alloc: Global,
+    words: &[&str],
+    source: &mut S,
+    workers: &W,
+) -> Reply
+    requires { W.crosses }
     ensures reply { IsReplyOf (command_of (map (λ w. w.now) words.now)) (S.left source.old) result }
     ensures unread_reply { are_reading (command_of (map (λ w. w.now) words.now)) ≡ false → (b : List ℕ)
         → IsReplyFor (command_of (map (λ w. w.now) words.now)) b result }
@@ -104,9 +121,9 @@ fn respond<S: Source>(alloc: Global, words: &[&str], source: &mut S) -> Reply
     match command_in(alloc, words) {
         Ok(command) => {
             if is_reading(&command) {
-                respond_to(alloc, command, source)
+                respond_to(alloc, command, source, workers)
             } else {
-                reply(alloc, command, &[])
+                reply(alloc, command, &[], workers)
             }
         }
         Err(WordsFail::Usage) => unplayed_reply(alloc, Exit::Usage, Text::Fixed(USAGE)),
@@ -148,7 +165,18 @@ fn finish<K: Sink>(sink: &mut K, reply: Reply) -> Ran
 /// writing; the first refusal in this order is the answer. The words are those after the program's name;
 /// the answer's exit, schedule and text are those of the bytes that the source had left. `make` and
 /// `demo` don't read the source.
-pub fn fmc<S: Source, K: Sink>(alloc: Global, words: &[&str], source: &mut S, sink: &mut K) -> Ran
+///
+/// What is run is played by workers, whatever they do with the table that they are lent; the run goes on from what they
+/// give back, by turns, and begins anew where they give none back, or another one.
+pub fn fmc<S: Source, K: Sink, W: Workers<Table>>(
+    alloc: Global,
+    words: &[&str],
+    source: &mut S,
+    sink: &mut K,
+    workers: &W,
+) -> Ran
+    // What the type of workers needs to start threads.
+    requires { W.crosses }
     // Exit, schedule and text are those of the bytes: the whole text was written and handed on, or a
     // front of the text that would have been.
     ensures answers { IfSome (S.left source.old) (λ b.
@@ -192,7 +220,7 @@ pub fn fmc<S: Source, K: Sink>(alloc: Global, words: &[&str], source: &mut S, si
     ensures malformed { (command : Command) → command_of (map (λ w. w.now) words.now) ≡ Some command → ¬ Rose (S.faults source.old) (S.faults source.new) → ¬ Rose (K.faults sink.old) (K.faults sink.new)
         → IfSome (S.left source.old) (λ b. IsMalformedBy command b → IsMalformedExit result.exit) }
 {
-    let reply = respond(alloc, words, source);
+    let reply = respond(alloc, words, source, workers);
     finish(sink, reply)
 }
 
@@ -238,3 +266,12 @@ pub fn replay_tells_the_run()
         → Says (command.Trace setup) source exit history places text → IsPlayedExit exit → length text ≤ trace_limit
         → (told : List ℕ) × SaysRun (report_asked setup.turns vars []) source exit history places told × Says (command.Replay vars) text exit [] [] told }
 {}
+
+/// Where `flow` writes `no deadlock` of a source, no run of it ends with main waiting, under whatever schedule: not `run`, nor
+/// `trace`, nor a schedule of the caller's.
+pub fn flow_excludes_deadlock()
+    ensures { (source : List ℕ) (before : List Turn) (starts : List Place) → Says command.Flow source Exit.Done before starts (codes "no deadlock\n")
+        → (asked : Asked) (history : List Turn) (places : List Place) (text : List ℕ) → SaysRun asked source Exit.Deadlocked history places text → ⊥ }
+{
+    fm_front::one_program();
+}

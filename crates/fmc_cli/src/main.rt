@@ -3,12 +3,23 @@
 #![tactic(auto)]
 
 use fm_io::{StdSink, StdSource, WriteFail, write_all};
+use fm_table::Table;
+use fm_workers::Workers;
 use fmc::{Exit, fmc};
 use std::alloc::{AllocError, Global};
 use std::io::ErrorKind;
 use std::process::ExitCode;
 use std::rt::Env;
 use std::{env, io};
+
+/// Workers that give the table back at once: the run goes by turns.
+struct Turns;
+
+impl Workers<Table> for Turns {
+    fn drive(&self, table: Table, _count: u32) -> Option<Table> {
+        Some(table)
+    }
+}
 
 /// The words after the program's name. `InvalidData` where one isn't UTF-8.
 fn words<R: Env + AllocGlobal>(rt: &R) -> io::Result<Vec<String>> {
@@ -32,7 +43,7 @@ fn views<'a>(alloc: Global, words: &'a [String]) -> Result<Vec<&'a str>, AllocEr
 fn exit(rt: &HostRuntime, words: &[&str]) -> Exit {
     let mut source = StdSource::new(rt.stdin());
     let mut sink = StdSink::new(rt.stdout());
-    fmc(rt.alloc(), words, &mut source, &mut sink).exit
+    fmc(rt.alloc(), words, &mut source, &mut sink, &Turns).exit
 }
 
 /// The exit where memory is wanting while the words are read, and its text.

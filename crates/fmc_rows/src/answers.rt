@@ -3,9 +3,20 @@
 ghost use Rattle.std.specs.Prelude.{◌<◌};
 
 use fm_io::{MemSink, MemSource};
+use fm_table::Table;
+use fm_workers::Workers;
 use fmc::{Ran, fmc, play_choices};
 use std::alloc::Global;
 use std::test::Fail;
+
+/// Workers that give the table back at once.
+pub struct Back;
+
+impl Workers<Table> for Back {
+    fn drive(&self, table: Table, _count: u32) -> Option<Table> {
+        Some(table)
+    }
+}
 
 /// How a source gives its bytes and a sink takes them: the most bytes of a piece, and the calls that fail, from 1.
 pub struct Streams {
@@ -25,6 +36,24 @@ const SURE: Streams = Streams {
     write_fails: &[],
 };
 
+/// What is answered over these streams, and what was written, where these workers play what is run.
+pub fn answer_with<W: Workers<Table>>(
+    alloc: Global,
+    streams: &Streams,
+    words: &[&str],
+    source: Vec<u8>,
+    workers: &W,
+) -> Result<(Ran, Vec<u8>), Fail>
+    requires { W.crosses }
+{
+    let read_fails = Vec::from_slice(alloc, streams.read_fails)?;
+    let write_fails = Vec::from_slice(alloc, streams.write_fails)?;
+    let mut source = MemSource::new(source, streams.read, read_fails);
+    let mut sink = MemSink::new(alloc, streams.write, 65_536, write_fails)?;
+    let ran = fmc(alloc, words, &mut source, &mut sink, workers);
+    Ok((ran, Vec::from_slice(alloc, sink.bytes())?))
+}
+
 /// What is answered over these streams, and what was written.
 pub fn answer_over(
     alloc: Global,
@@ -32,12 +61,25 @@ pub fn answer_over(
     words: &[&str],
     source: Vec<u8>,
 ) -> Result<(Ran, Vec<u8>), Fail> {
-    let read_fails = Vec::from_slice(alloc, streams.read_fails)?;
-    let write_fails = Vec::from_slice(alloc, streams.write_fails)?;
-    let mut source = MemSource::new(source, streams.read, read_fails);
-    let mut sink = MemSink::new(alloc, streams.write, 65_536, write_fails)?;
-    let ran = fmc(alloc, words, &mut source, &mut sink);
-    Ok((ran, Vec::from_slice(alloc, sink.bytes())?))
+    answer_with(alloc, streams, words, source, &Back)
+}
+
+/// What is answered, and what was written, where these workers play what is run.
+pub fn answer_by<W: Workers<Table>>(
+    alloc: Global,
+    words: &[&str],
+    source: &[u8],
+    workers: &W,
+) -> Result<(Ran, Vec<u8>), Fail>
+    requires { W.crosses }
+{
+    answer_with(
+        alloc,
+        &SURE,
+        words,
+        Vec::from_slice(alloc, source)?,
+        workers,
+    )
 }
 
 /// What is answered, and what was written.

@@ -12,6 +12,8 @@ mod examples;
 #[cfg(test)]
 mod faults;
 #[cfg(test)]
+mod flow;
+#[cfg(test)]
 mod io;
 #[cfg(test)]
 mod language;
@@ -31,3 +33,5 @@ mod traces;
 mod trees;
 #[cfg(test)]
 mod words;
+#[cfg(test)]
+mod workers;

@@ -1,17 +1,19 @@
 //! Programs, and the whole texts and exits that they are answered with.
 
 use crate::answers::{answer, play};
+use crate::schedules::first_other;
 use fmc::Exit;
 use std::alloc::Global;
 use std::test::Fail;
 
-const USAGE: &[u8] = b"usage: fmc run or trace or replay or check or list or make N or demo N\n";
+const USAGE: &[u8] =
+    b"usage: fmc run or trace or replay or check or list or make N or demo N or flow\n";
 
 /// A source, and the exit and the text for it.
 pub(crate) struct Row {
     pub(crate) source: &'static [u8],
     pub(crate) exit: Exit,
-    text: &'static [u8],
+    pub(crate) text: &'static [u8],
 }
 
 const LEAST: &[u8] = b"      PROGRAM P\n      PRINT *, 1\n      END\n";
@@ -400,6 +402,141 @@ const CALLS: [Call; 12] = [
         },
     },
 ];
+
+/// A merger of one writer.
+const ONE: &[u8] = b"      PROGRAM ONE
+      INPORT (INTEGER) P
+      OUTPORT (INTEGER) Q
+      MERGER(IN=P,OUT=Q)
+      SEND(Q) 4
+      RECEIVE(P) I
+      PRINT *, I
+      END
+";
+
+/// Mergers of one writer between processes.
+const ACROSS: &[u8] = b"      PROGRAM ACROSS
+      INPORT (INTEGER) P(2)
+      OUTPORT (INTEGER) Q(2)
+      DO I = 1, 2
+      MERGER(IN=P(I),OUT=Q(I))
+      ENDDO
+      PROCESSES
+      PROCESSCALL W(1,Q(1))
+      PROCESSCALL W(2,Q(2))
+      PROCESSCALL R(P(1),P(2))
+      ENDPROCESSES
+      END
+      PROCESS W(N,Q)
+      OUTPORT (INTEGER) Q
+      SEND(Q) N
+      SEND(Q) N + 10
+      ENDCHANNEL(Q)
+      END
+      PROCESS R(P,Q)
+      INPORT (INTEGER) P, Q
+      RECEIVE(P) I
+      RECEIVE(Q) J
+      RECEIVE(Q) K
+      PRINT *, I, J, K
+      END
+";
+
+/// What `check` writes where one writer stands behind a MERGER, and where several may.
+const MERGERS: [Row; 7] = [
+    Row {
+        source: ONE,
+        exit: Exit::Done,
+        text: b"deterministic\n",
+    },
+    Row {
+        source: ACROSS,
+        exit: Exit::Done,
+        text: b"deterministic\n",
+    },
+    // One element of an array.
+    Row {
+        source: b"      PROGRAM P
+      INPORT (INTEGER) P
+      OUTPORT (INTEGER) Q(2)
+      MERGER(IN=P,OUT=Q(2))
+      END
+",
+        exit: Exit::Done,
+        text: b"deterministic\n",
+    },
+    // A whole array, of one element.
+    Row {
+        source: b"      PROGRAM P
+      INPORT (INTEGER) P
+      OUTPORT (INTEGER) Q(1)
+      MERGER(IN=P,OUT=Q)
+      END
+",
+        exit: Exit::Done,
+        text: b"not deterministic: line 4\n",
+    },
+    // One outport twice.
+    Row {
+        source: b"      PROGRAM P
+      INPORT (INTEGER) P
+      OUTPORT (INTEGER) Q
+      MERGER(IN=P,OUT=Q,OUT=Q)
+      END
+",
+        exit: Exit::Done,
+        text: b"not deterministic: line 4\n",
+    },
+    // A name that is an array's in one of two units.
+    Row {
+        source: b"      PROGRAM P
+      INPORT (INTEGER) P
+      OUTPORT (INTEGER) Q
+      IF (.TRUE.) MERGER(IN=P,OUT=Q)
+      CALL S
+      END
+      SUBROUTINE S
+      INPORT (INTEGER) P
+      OUTPORT (INTEGER) Q(2)
+      IF (.TRUE.) MERGER(IN=P,OUT=Q)
+      END
+",
+        exit: Exit::Done,
+        text: b"not deterministic: line 10\n",
+    },
+    // The same, where that unit isn't reached.
+    Row {
+        source: b"      PROGRAM P
+      INPORT (INTEGER) P
+      OUTPORT (INTEGER) Q
+      MERGER(IN=P,OUT=Q)
+      END
+      SUBROUTINE S
+      INPORT (INTEGER) P
+      OUTPORT (INTEGER) Q(2)
+      MERGER(IN=P,OUT=Q)
+      END
+",
+        exit: Exit::Done,
+        text: b"deterministic\n",
+    },
+];
+
+#[test]
+fn mergers_of_one_writer(rt: HostRuntime) -> Result<(), Fail> {
+    for (i, row) in MERGERS.iter().enumerate() {
+        let (ran, text) = answer(rt.alloc(), &["check"], row.source)?;
+        assert_eq!(rt; text.as_slice(), row.text, "row {i}");
+        assert_eq!(rt; ran.exit, row.exit, "row {i}");
+    }
+    let (ran, text) = answer(rt.alloc(), &["run"], ONE)?;
+    assert_eq!(rt; text.as_slice(), b" 4\n".as_slice());
+    assert_eq!(rt; ran.exit, Exit::Done);
+    let (_, text) = answer(rt.alloc(), &["run"], ACROSS)?;
+    assert_eq!(rt; text.as_slice(), b" 1 2 12\n".as_slice());
+    assert_eq!(rt; first_other(rt.alloc(), ACROSS)?, None);
+    Ok(())
+}
 
 #[test]
 fn runs(rt: HostRuntime) -> Result<(), Fail> {

@@ -1,6 +1,7 @@
 //! Programs under many schedules.
 
 use crate::answers::play;
+use fmc::Exit;
 use rand_core::utils::NextWord;
 use rand_pcg::Pcg32;
 use std::alloc::Global;
@@ -28,6 +29,17 @@ pub fn first_other(alloc: Global, source: &[u8]) -> Result<Option<u64>, Fail> {
     for seed in 0..LISTS {
         let (_, other) = play(alloc, source, &choices(alloc, seed)?)?;
         if other != text {
+            return Ok(Some(seed));
+        }
+    }
+    Ok(None)
+}
+
+/// The number of the first list of choices under which a run of a source ends with main waiting, if there is one.
+pub fn first_deadlock(alloc: Global, source: &[u8]) -> Result<Option<u64>, Fail> {
+    for seed in 0..LISTS {
+        let (ran, _) = play(alloc, source, &choices(alloc, seed)?)?;
+        if ran.exit == Exit::Deadlocked {
             return Ok(Some(seed));
         }
     }

@@ -88,7 +88,7 @@ const RUNS: [(&[&str], Setup, bool); 8] = [
 ];
 
 /// Words that are no command.
-const NOTHING: [&[&str]; 41] = [
+const NOTHING: [&[&str]; 42] = [
     &[],
     &[""],
     &["RUN"],
@@ -97,6 +97,7 @@ const NOTHING: [&[&str]; 41] = [
     &["list", "list"],
     &["check", "--vars"],
     &["check", "--turns=5"],
+    &["flow", "--vars"],
     &["run", "list"],
     &["run", "--"],
     &["run", "-h"],
@@ -137,6 +138,7 @@ fn words_are_their_commands(rt: HostRuntime) -> Result<(), Fail> {
     let alloc = rt.alloc();
     assert_eq!(rt; words(alloc, &["list"]), Ok(Command::List));
     assert_eq!(rt; words(alloc, &["check"]), Ok(Command::Check));
+    assert_eq!(rt; words(alloc, &["flow"]), Ok(Command::Flow));
     assert_eq!(rt;
         words(alloc, &["replay", "--vars"]),
         Ok(Command::Replay { vars: true })

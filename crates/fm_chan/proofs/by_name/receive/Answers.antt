@@ -3,7 +3,7 @@ use Rattle.fm_base.specs.Channels.{Pop, changed}
 use Rattle.fm_chan.specs.Kept.{chan_of}
 use Rattle.fm_chan.specs.Readers.{IsReadyAt}
 use Rattle.fm_chan.specs.Received.{got_at, brings}
-use Rattle.fm_chan.proofs.Maps.{chan_found, adjusted_at, unchanged_at, keep_room, wakes_one, noted_same, adjusted_absent, same_chans, keep_room_absent, wakes_absent, noted_absent}
+use Rattle.fm_chan.proofs.Maps.{chan_found, adjusted_at, unchanged_at, keep_room, room_is, wakes_one, noted_same, adjusted_absent, same_chans, keep_room_absent, wakes_absent, noted_absent}
 use Rattle.fm_chan.proofs.Receiving.{nothing_taken}
 use Rattle.fm_chan.proofs.Waits.{receive_wakes}
 use Rattle.fm_chan.proofs.by_name.receive.Goals as goal
@@ -43,3 +43,6 @@ returns-in-None-clause-noted c = noted_absent c.args.bodies.now c.get_mut.follow
 
 pub returns-in-None-clause-room : goal.returns-in-None-clause-room
 returns-in-None-clause-room c = keep_room_absent c.args.bodies.now c.get_mut.follows.lender-at-none c.args.name.now c.get_mut.follows.holds-at-none c.in-None.ensures.value
+
+pub returns-in-Some-clause-taken : goal.returns-in-Some-clause-taken
+returns-in-Some-clause-taken c = λ came. room_is c.args.bodies.now (c.get_mut.follows.lender c.receive.new.self) c.args.name.now c.in-Some.body.now c.receive.new.self c.in-Some.ensures.value (c.get_mut.follows.holds c.receive.new.self) (c.receive.ensures.taken came)

@@ -1,46 +1,64 @@
-use Rattle.std.proofs.Common.{◌≡◌, length, map, arith, rules}
-use Rattle.std.proofs.lemmas.List.{length-map}
+use Rattle.std.proofs.Common.{take, arith, refl}
+use Rattle.std.specs.Prelude.{◌<◌, ℕ}
 use Rattle.fm_table.specs.Told.{cost_of as told_cost}
-use Rattle.fm_table.proofs.Tables.{over_turns, within_turns}
-use Rattle.fm_trace.specs.declared.trace.Run.{Run}
-use Rattle.fmc.proofs.ReplayLaws.{come_all, come_lacking, come_more, come_spent, entry_steps}
+use Rattle.fm_table.proofs.Tables.{of_some, over_turns, within_turns}
+use Rattle.fm_trace.specs.Texts.{entries_of}
+use Rattle.fmc.proofs.ReplayLaws.{run_all, run_counted, run_is_entry, run_lacking, run_spent, run_within, runs_all, told_by}
 use Rattle.fmc.proofs.replaying.play_entries.Goals as goal
 
-pub entries-init : goal.entries-init
-entries-init c = c.requires.fresh
+pub runs-init : goal.runs-init
+runs-init c = record { told = c.requires.fresh; counted = refl }
 
-pub lacks_step-requires : goal.lacks_step-requires
-lacks_step-requires c = let now = c.entries.table in within_turns now.setup.turns (told_cost now) c.is_spent.result c.is_spent.ensures c.if-is_spent.false
+pub play_run-requires-clause-told : goal.play_run-requires-clause-told
+play_run-requires-clause-told c = let a = c.args.table.now in told_by a.program a.setup (entries_of (take c.runs.place c.args.runs.now)) c.runs.table c.runs.invariant.told
 
-pub entries-preserved : goal.entries-preserved
-entries-preserved c =
+pub play_run-requires-clause-steps : goal.play_run-requires-clause-steps
+play_run-requires-clause-steps c = (run_is_entry c.args.runs.now c.runs.place c.run_at-run.result c.requires.runs c.run_at-run.ensures).some_steps
+
+pub overflow_add-result : goal.overflow_add-result
+overflow_add-result c =
     let a = c.args.table.now in
-    let ts = map (λ (r : Run). r.turn) c.args.entries.now in
-    let count : length ts ≡ length c.args.entries.now = length-map c.args.entries.now (λ (r : Run). r.turn) in
-    let low = c.entries-test.true in
-    come_more a.program a.setup ts c.entries.place c.turn_at-entry.result c.entries.table c.lacks_step.new.table (omega (arith, count, low)) c.turn_at-entry.ensures
-    (entry_steps c.args.entries.now c.entries.place c.turn_at-entry.result c.requires.entries c.turn_at-entry.ensures) c.entries.invariant (c.in_ok-lacks.ensures.none (search rules))
+    let most = run_within a.program a.setup c.args.runs.now c.runs.place c.run_at-run.result c.run_at-run.ensures in
+    let fewer = of_some (λ (n : ℕ). n < c.run_at-run.result.times) c.in_ok-lacking.lacking c.in-Some.made c.in-Some.is c.in_ok-lacking.ensures.fewer in
+    omega (arith, most, fewer, c.requires.few, c.runs.invariant.counted, c.from.ensures)
 
-pub returns-then-is_spent : goal.returns-then-is_spent
-returns-then-is_spent c =
+pub returns-in-Some-clause-come : goal.returns-in-Some-clause-come
+returns-in-Some-clause-come c =
     let a = c.args.table.now in
-    let ts = map (λ (r : Run). r.turn) c.args.entries.now in
-    let count : length ts ≡ length c.args.entries.now = length-map c.args.entries.now (λ (r : Run). r.turn) in
-    let low = c.entries-test.true in
-    let now = c.entries.table in
-    come_spent a.program a.setup ts c.entries.place now (omega (arith, count, low)) c.entries.invariant (over_turns now.setup.turns (told_cost now) c.is_spent.result c.is_spent.ensures c.if-is_spent.true)
+    run_lacking a.program a.setup c.args.runs.now c.runs.place c.run_at-run.result c.run_at-run.ensures c.runs.table c.play_run.new.table c.in_ok-lacking.lacking c.runs.invariant.told c.in_ok-lacking.ensures.come c.in-Some.made _ c.in-Some.is
+    (omega (arith, c.runs.invariant.counted, c.from.ensures))
 
-pub returns-then-lacks : goal.returns-then-lacks
-returns-then-lacks c =
+pub returns-in-Some-clause-fewer : goal.returns-in-Some-clause-fewer
+returns-in-Some-clause-fewer c =
     let a = c.args.table.now in
-    let ts = map (λ (r : Run). r.turn) c.args.entries.now in
-    let count : length ts ≡ length c.args.entries.now = length-map c.args.entries.now (λ (r : Run). r.turn) in
-    come_lacking a.program a.setup ts c.entries.place c.entries.table c.lacks_step.new.table c.turn_at-entry.result c.turn_at-entry.ensures c.entries.invariant (c.in_ok-lacks.ensures.some (search rules))
+    let most = run_within a.program a.setup c.args.runs.now c.runs.place c.run_at-run.result c.run_at-run.ensures in
+    let fewer = of_some (λ (n : ℕ). n < c.run_at-run.result.times) c.in_ok-lacking.lacking c.in-Some.made c.in-Some.is c.in_ok-lacking.ensures.fewer in
+    omega (arith, most, fewer, c.runs.invariant.counted, c.from.ensures)
 
-pub returns : goal.returns
-returns c =
+pub returns-then-is_spent-clause-come : goal.returns-then-is_spent-clause-come
+returns-then-is_spent-clause-come c =
     let a = c.args.table.now in
-    let ts = map (λ (r : Run). r.turn) c.args.entries.now in
-    let count : length ts ≡ length c.args.entries.now = length-map c.args.entries.now (λ (r : Run). r.turn) in
-    let high = c.entries-test.false in
-    come_all a.program a.setup ts c.entries.place c.entries.table (omega (arith, count, high)) c.entries.invariant
+    let now = c.play_run.new.table in
+    run_spent a.program a.setup c.args.runs.now c.runs.place c.run_at-run.result c.run_at-run.ensures c.runs.table now c.in_ok-lacking.lacking c.runs.invariant.told c.in_ok-lacking.ensures.come c.in_default.is
+    (over_turns now.setup.turns (told_cost now) c.is_spent.result c.is_spent.ensures c.if-is_spent.true)
+
+pub overflow_add-played : goal.overflow_add-played
+overflow_add-played c =
+    let a = c.args.table.now in
+    let most = run_within a.program a.setup c.args.runs.now c.runs.place c.run_at-run.result c.run_at-run.ensures in
+    omega (arith, most, c.requires.few, c.runs.invariant.counted, c.from-played.ensures)
+
+pub runs-preserved : goal.runs-preserved
+runs-preserved c =
+    let a = c.args.table.now in
+    let now = c.play_run.new.table in
+    let counted = run_counted a.program a.setup c.args.runs.now c.runs.place c.run_at-run.result c.run_at-run.ensures in record {
+      told = run_all a.program a.setup c.args.runs.now c.runs.place c.run_at-run.result c.run_at-run.ensures c.runs.table now c.in_ok-lacking.lacking c.runs.invariant.told c.in_ok-lacking.ensures.come c.in_default.is
+          (within_turns now.setup.turns (told_cost now) c.is_spent.result c.is_spent.ensures c.if-is_spent.false);
+      counted = omega (arith, counted, c.runs.invariant.counted, c.from-played.ensures);
+    }
+
+pub returns-clause-come : goal.returns-clause-come
+returns-clause-come c =
+    let a = c.args.table.now in
+    runs_all a.program a.setup c.args.runs.now c.runs.place c.runs.table c.runs-test.false c.runs.invariant.told

@@ -9,12 +9,12 @@ returns-in-Ok-clause-reply g c =
 
 pub returns-in-Err-Fault-clause-reply : goal.returns-in-Err-Fault-clause-reply
 returns-in-Err-Fault-clause-reply g c =
-    reply_to_fault c.args.command (g.S.Source.left c.args.source.now) c.unplayed_reply.result c.requires c.unplayed_reply.ensures.exit c.unplayed_reply.ensures.text
+    reply_to_fault c.args.command (g.S.Source.left c.args.source.now) c.unplayed_reply.result c.requires.reading c.unplayed_reply.ensures.exit c.unplayed_reply.ensures.text
 
 pub returns-in-Err-TooLong-clause-reply : goal.returns-in-Err-TooLong-clause-reply
 returns-in-Err-TooLong-clause-reply g c =
     let r = c.unplayed_reply-in-Err-TooLong in
-    reply_to_long c.args.command (g.S.Source.left c.args.source.now) r.result c.requires
+    reply_to_long c.args.command (g.S.Source.left c.args.source.now) r.result c.requires.reading
     (subst (λ (n : ℕ). IfSome (g.S.Source.left c.args.source.now) (λ l. n < length l)) c.limit_of.ensures (c.in-Err-TooLong.ensures.too_long (ap Err c.in-Err-TooLong.field-0-is))) r.ensures.exit r.ensures.text
 
 pub returns-in-Err-NoMemory-clause-reply : goal.returns-in-Err-NoMemory-clause-reply

@@ -1,4 +1,4 @@
-use Rattle.std.proofs.Common.{refl, ap, ◌∙◌}
+use Rattle.std.proofs.Common.{refl, ap, subst, ◌∙◌}
 use Rattle.std.specs.FinMap as map
 use Rattle.fm_base.specs.Channels.{Pop, changed}
 use Rattle.fm_finmap.specs.Changes.{adjust}
@@ -6,7 +6,7 @@ use Rattle.fm_chan.specs.Bodies.{chans_of}
 use Rattle.fm_chan.specs.Kept.{chans_in}
 use Rattle.fm_chan.specs.Readers.{IsReadyAt}
 use Rattle.fm_chan.specs.Received.{got_at}
-use Rattle.fm_chan.specs.Rooms.{HasRoom}
+use Rattle.fm_chan.specs.Rooms.{HasRoom, HasRoomIn}
 use Rattle.fm_chan.proofs.Waking.{none_woken}
 use Rattle.fm_chan.proofs.channels.Channels.receive.Goals as goal
 
@@ -28,3 +28,7 @@ returns-clause-room c = c.receive.ensures.room
 
 pub returns-clause-waking : goal.returns-clause-waking
 returns-clause-waking c = none_woken IsReadyAt _ _ c.receive.ensures.readers refl
+
+pub returns-clause-taken : goal.returns-clause-taken
+unfolding HasRoom
+returns-clause-taken c = λ came. subst (HasRoomIn c.receive.new.bodies) c.channel.ensures (c.receive.ensures.taken came)

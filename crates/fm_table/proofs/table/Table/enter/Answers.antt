@@ -1,11 +1,13 @@
-use Rattle.std.proofs.Common.{◌≡◌, ◌≤◌, ap, sym, subst, ◌∙◌, arith}
+use Rattle.std.proofs.Common.{◌≡◌, ◌≤◌, ◌-◌, ℕ, List, length, ap, refl, sym, subst, ◌∙◌, arith}
 use Rattle.std.specs.Prelude.{Ok, false}
 use Rattle.fm_rules.specs.declared.program.Program.{Program}
 use Rattle.fm_run.specs.Entries.{turn_of}
 use Rattle.fm_run.specs.Orders.{can_at}
-use Rattle.fm_table.specs.Inside.{EntersTo, HasEntered, IsStanding, IsTable, MakesSo, outs_of, stand_kept, told_in}
-use Rattle.fm_table.specs.Told.{Told, cost_of, stand_of}
+use Rattle.fm_run.specs.Runs.{Stand}
+use Rattle.fm_table.specs.Inside.{AreBehind, EntersTo, HasEntered, HasShares, IsStanding, IsTable, MakesSo, outs_of, stand_kept, told_in}
+use Rattle.fm_table.specs.Told.{Out, Told, cost_of, stand_of}
 use Rattle.fm_table.proofs.Others.{table_entered}
+use Rattle.fm_table.proofs.Sharing.{entry_behind, none_known}
 use Rattle.fm_table.proofs.Tables.{table_same, told_same}
 use Rattle.fm_table.proofs.Turns.{enters, some_ne}
 use Rattle.fm_table.proofs.table.Table.enter.Goals as goal
@@ -16,13 +18,32 @@ make-requires-clause-standing c = subst (λ (p : Program). IsStanding p c.self.i
 pub invariant_of-self : goal.invariant_of-self
 invariant_of-self c =
     let t = c.self.inside in
-    table_same t.program.value t.setup t.standing c.make.new.self (outs_of t.out.items) c.in_err-steps.ensures.stays (subst (λ (p : Program). IsStanding p c.make.new.self) c.deref.ensures c.in_err-steps.ensures.standing) c.self.invariant
+    let k = c.self.invariant in
+    let shares = none_known t.program.value t.setup (stand_kept t.program.value t.standing) c.leave-left.new.self (c.leave-left.ensures.nodes ∙ k.shared.nodes_are) c.leave-left.ensures.none in
+    table_same t.program.value t.setup t.standing c.make.new.self (outs_of t.out.items) t.shares c.leave-left.new.self c.in_err-steps.ensures.stays (subst (λ (p : Program). IsStanding p c.make.new.self) c.deref.ensures c.in_err-steps.ensures.standing) shares k
 
 pub invariant_of-self-then-steps-eq0 : goal.invariant_of-self-then-steps-eq0
 invariant_of-self-then-steps-eq0 c =
     let t = c.self.inside in
     let same = (c.in_ok-steps.ensures.none (ap Ok c.if-steps-eq0.true)).0 in
-    table_same t.program.value t.setup t.standing c.make.new.self (outs_of t.out.items) same (subst (λ (p : Program). IsStanding p c.make.new.self) c.deref.ensures c.in_ok-steps.ensures.standing) c.self.invariant
+    let k = c.self.invariant in
+    let shares = none_known t.program.value t.setup (stand_kept t.program.value t.standing) c.leave-left.new.self (c.leave-left.ensures.nodes ∙ k.shared.nodes_are) c.leave-left.ensures.none in
+    table_same t.program.value t.setup t.standing c.make.new.self (outs_of t.out.items) t.shares c.leave-left.new.self same (subst (λ (p : Program). IsStanding p c.make.new.self) c.deref.ensures c.in_ok-steps.ensures.standing) shares k
+
+pub leave-left-requires : goal.leave-left-requires
+leave-left-requires c = let k = c.self.invariant in record { kept = (c.self.inside.program.value, k.standing, k.shared) }
+
+pub settle-requires-clause-live : goal.settle-requires-clause-live
+settle-requires-clause-live c =
+    let P = c.self.inside.program.value in
+    let later = subst (λ (p : Program). IsStanding p c.make.new.self) c.deref.ensures c.in_ok-steps.ensures.standing in
+    (P, later.live c.in_ok-steps.ensures.live, c.leave-left.ensures.nodes ∙ c.self.invariant.shared.nodes_are)
+
+pub settle-requires-clause-many : goal.settle-requires-clause-many
+settle-requires-clause-many c = c.leave-left.ensures.many
+
+pub settle-requires-clause-none : goal.settle-requires-clause-none
+settle-requires-clause-none c = c.leave-left.ensures.none
 
 pub forget-requires : goal.forget-requires
 forget-requires c = c.self.invariant.out_once
@@ -37,8 +58,19 @@ invariant_of-self-2 c =
     let h = subst (λ (p : Program). HasEntered p (turn_of c.args.number c.in_ok-steps.steps) old new) c.deref.ensures (c.in_ok-steps.ensures.made (some_ne c.in_ok-steps.steps c.if-steps-eq0.false)) in
     let going = subst (λ (a : Told). cost_of a ≤ a.setup.turns) (sym c.self.view_is) c.requires.going in
     let paid = c.self.invariant.standing.paid_is in
-    subst (IsTable P t.setup new) (sym c.forget.ensures)
-    (table_entered P old new c.self.invariant.standing (turn_of c.args.number c.in_ok-steps.steps) h t.setup (outs_of t.out.items) c.self.invariant (omega (arith, going, paid)) later)
+    let live = later.live c.in_ok-steps.ensures.live in
+    let k = c.self.invariant in
+    let entry = turn_of c.args.number c.in_ok-steps.steps in
+    let from = c.saturating_sub.result in
+    let whole : c.len-queued.result ≡ length old.player.able.numbers.items = omega (arith, c.len-queued.ensures, old.player.able.numbers.ok.0) in
+    let count : from ≡ length old.player.able.numbers.items - 1 = c.saturating_sub.ensures ∙ ap (λ (m : ℕ). m - 1) whole in
+    let behind : AreBehind P t.setup (stand_kept P old) (stand_kept P new) c.args.number from =
+    subst (AreBehind P t.setup (stand_kept P old) (stand_kept P new) c.args.number) (sym count) (entry_behind P old new k.standing entry h t.setup (length old.player.able.numbers.items) refl) in
+    let settled = c.settle.ensures.settled P (stand_kept P old) c.args.number live (c.leave-left.ensures.nodes ∙ k.shared.nodes_are) (c.leave-left.ensures.left P k.standing k.shared)
+    (subst (λ (b : Stand). AreBehind P t.setup (stand_kept P old) b c.args.number from) (sym live.stand_is) behind) in
+    let shares = subst (λ (b : Stand). HasShares P t.setup b c.settle.new.self) live.stand_is settled in
+    subst (λ (os : List Out). IsTable P t.setup new os c.settle.new.self) (sym c.forget.ensures)
+    (table_entered P old new k.standing entry h t.setup (outs_of t.out.items) t.shares c.settle.new.self k (omega (arith, going, paid)) later shares)
 
 pub returns-then-steps-eq0-clause-none : goal.returns-then-steps-eq0-clause-none
 returns-then-steps-eq0-clause-none c = λ e.

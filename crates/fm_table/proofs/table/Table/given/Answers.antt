@@ -14,7 +14,7 @@ invariant_of-self c =
     let t = c.self.inside in
     let outs = outs_of t.out.items in
     let e = c.put_back.ensures in
-    table_back t.program.value t.setup t.standing _ outs (outs_of c.put_back.new.out.items) c.process-number.result c.self.invariant refl refl refl refl refl refl refl (is_out outs c.process-number.result) refl e.queue e.out e.marks
+    table_back t.program.value t.setup t.standing _ outs (outs_of c.put_back.new.out.items) t.shares c.forget.new.self c.process-number.result c.forget.ensures.nodes c.forget.ensures.none c.self.invariant refl refl refl refl refl refl refl (is_out outs c.process-number.result) refl e.queue e.out e.marks
 
 pub enter-requires-clause-going : goal.enter-requires-clause-going
 enter-requires-clause-going c =

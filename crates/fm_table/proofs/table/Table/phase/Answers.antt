@@ -15,4 +15,4 @@ returns-clause-phase c =
 pub returns-clause-ended : goal.returns-clause-ended
 returns-clause-ended c = λ e.
     let t = c.self.inside in
-    phase_final c.args.self.now (subst IsKept c.self.view_is (table_kept t.program.value t.setup t.standing (outs_of t.out.items) c.self.invariant)) (sym (returns-clause-phase c) ∙ e)
+    phase_final c.args.self.now (subst IsKept c.self.view_is (table_kept t.program.value t.setup t.standing (outs_of t.out.items) t.shares c.self.invariant)) (sym (returns-clause-phase c) ∙ e)

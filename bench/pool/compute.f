@@ -1,0 +1,86 @@
+      PROGRAM COMPUTE
+C     Eight processes that compute by themselves, each about as long as
+C     any other: loops, sieves and products of matrices. One has a frame
+C     of 60,000 words.
+      INTEGER R(8)
+      PROCESSES
+        PROCESSCALL LOOPS(1, R(1))
+        PROCESSCALL LOOPS(2, R(2))
+        PROCESSCALL SIEVES(3, R(3))
+        PROCESSCALL SIEVES(4, R(4))
+        PROCESSCALL PRODUCTS(5, R(5))
+        PROCESSCALL PRODUCTS(6, R(6))
+        PROCESSCALL LOOPS(7, R(7))
+        PROCESSCALL WIDE(8, R(8))
+      ENDPROCESSES
+      PRINT *, R
+      END
+
+      PROCESS LOOPS(N, S)
+      INTENT(IN) N
+      S = 0
+      DO I = 1, 3000000
+        S = MOD(S + I*N, 1000003)
+      ENDDO
+      END
+
+      PROCESS SIEVES(N, S)
+      INTENT(IN) N
+      LOGICAL OUT(3000)
+      DO K = 1, 400
+        DO I = 2, 3000
+          OUT(I) = .FALSE.
+        ENDDO
+        S = N
+        DO I = 2, 3000
+          IF (.NOT. OUT(I)) THEN
+            S = S + 1
+            DO J = I + I, 3000, I
+              OUT(J) = .TRUE.
+            ENDDO
+          ENDIF
+        ENDDO
+      ENDDO
+      END
+
+      PROCESS PRODUCTS(N, S)
+      INTENT(IN) N
+      INTEGER A(50,50), B(50,50)
+      DO J = 1, 50
+        DO I = 1, 50
+          A(I,J) = MOD(I*J, 17)
+          B(I,J) = MOD(I + J*N, 13)
+        ENDDO
+      ENDDO
+      S = 0
+      DO L = 1, 14
+        DO J = 1, 50
+          DO I = 1, 50
+            M = 0
+            DO K = 1, 50
+              M = M + A(I,K)*B(K,J)
+            ENDDO
+            S = MOD(S + M, 1000003)
+          ENDDO
+        ENDDO
+      ENDDO
+      END
+
+      PROCESS WIDE(N, S)
+      INTENT(IN) N
+      LOGICAL OUT(60000)
+      DO K = 1, 18
+        DO I = 2, 60000
+          OUT(I) = .FALSE.
+        ENDDO
+        S = N
+        DO I = 2, 60000
+          IF (.NOT. OUT(I)) THEN
+            S = S + 1
+            DO J = I + I, 60000, I
+              OUT(J) = .TRUE.
+            ENDDO
+          ENDIF
+        ENDDO
+      ENDDO
+      END

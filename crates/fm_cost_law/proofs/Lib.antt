@@ -1,0 +1,11 @@
+mod Lists
+mod Kept
+mod Spelled
+mod Values
+mod Variables
+mod Printed
+mod Outports
+mod Walk
+mod Texts
+mod Entries
+mod Along

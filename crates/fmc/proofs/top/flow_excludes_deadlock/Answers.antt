@@ -1,0 +1,5 @@
+use Rattle.fmc.proofs.AnswerLaws.{excludes_deadlock}
+use Rattle.fmc.proofs.top.flow_excludes_deadlock.Goals as goal
+
+pub returns : goal.returns
+returns c = λ source before starts says asked history places text run. excludes_deadlock source before starts (c.one_program.ensures.program source) says asked history places text run
