@@ -18,6 +18,7 @@ C     of 60,000 words.
 
       PROCESS LOOPS(N, S)
       INTENT(IN) N
+      INTEGER S
       S = 0
       DO I = 1, 3000000
         S = MOD(S + I*N, 1000003)
@@ -26,6 +27,7 @@ C     of 60,000 words.
 
       PROCESS SIEVES(N, S)
       INTENT(IN) N
+      INTEGER S
       LOGICAL OUT(3000)
       DO K = 1, 400
         DO I = 2, 3000
@@ -45,6 +47,7 @@ C     of 60,000 words.
 
       PROCESS PRODUCTS(N, S)
       INTENT(IN) N
+      INTEGER S
       INTEGER A(50,50), B(50,50)
       DO J = 1, 50
         DO I = 1, 50
@@ -68,6 +71,7 @@ C     of 60,000 words.
 
       PROCESS WIDE(N, S)
       INTENT(IN) N
+      INTEGER S
       LOGICAL OUT(60000)
       DO K = 1, 18
         DO I = 2, 60000

@@ -260,8 +260,9 @@ impl Table {
         })
     }
 
-    /// Makes a piece in place of the process that would be taken for a worker, where it is light: its last piece didn't use up its
-    /// slice, or it hasn't made one. False where it isn't, or where no piece can be made; then nothing changes.
+    /// Makes a piece in place of the process that would be taken for a worker, where nothing is gained outside: it is light (its last
+    /// piece didn't use up its slice, or it hasn't made one), or no other worker could play another process meanwhile. False where it
+    /// goes out, or where no piece can be made; then nothing changes.
     ///
     /// # Errors
     /// `NoMemory` is want of memory, and changes nothing.
@@ -276,7 +277,7 @@ impl Table {
         match self.choose_for(alloc, worker)? {
             None => Ok(false),
             Some(number) => {
-                if is_heavy(self.heavy.as_slice(), number) {
+                if self.goes_out(number) {
                     return Ok(false);
                 }
                 let slice = Way::Slice(self.setup.slice);
@@ -284,6 +285,13 @@ impl Table {
                 Ok(steps != 0)
             }
         }
+    }
+
+    // Whether the piece of a process is worth being made outside: its last one used up its slice, and another worker could play another
+    // process meanwhile.
+    fn goes_out(&self, number: u32) -> bool {
+        let others = 1 < self.setup.workers && 1 < self.standing.player.able.numbers.len();
+        others && is_heavy(self.heavy.as_slice(), number)
     }
 
     /// Plays what came of a piece that was made outside, as one entry: its statements, and one step more where that concerns others and

@@ -22,6 +22,8 @@ mod made;
 #[cfg(test)]
 mod placement;
 #[cfg(test)]
+mod pools;
+#[cfg(test)]
 mod programs;
 #[cfg(test)]
 mod rules;
