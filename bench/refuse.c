@@ -4,6 +4,7 @@
 #include <stddef.h>
 #include <stdio.h>
 #include <stdlib.h>
+#include <sys/syscall.h>
 #include <unistd.h>
 
 void *__libc_malloc(size_t);
@@ -12,7 +13,8 @@ void *__libc_realloc(void *, size_t);
 void *__libc_memalign(size_t, size_t);
 
 // FIRST is the first one that is refused, from 1; LAST the last one. TO is where their count goes, if anywhere.
-static unsigned long count, first, last;
+static _Atomic unsigned long count;
+static unsigned long first, last;
 static int to, begun;
 
 static unsigned long number(const char *name) {
@@ -30,14 +32,21 @@ __attribute__((constructor)) static void begin(void) {
 __attribute__((destructor)) static void end(void) {
     char text[24];
     int size = snprintf(text, sizeof text, "%lu", count);
+    if (!begun) return;
     begun = 0;
-    if (to && write(to, text, (size_t)size) != size) _exit(99);
+    if (to && write(to, text, (size_t)size) != size) syscall(SYS_exit_group, 99);
+}
+
+// A program with threads ends by this, and no destructor is called.
+__attribute__((noreturn)) void _exit(int status) {
+    end();
+    for (;;) syscall(SYS_exit_group, status);
 }
 
 static int refused(void) {
     if (!begun) return 0;
-    count++;
-    if (count < first || last < count) return 0;
+    unsigned long here = ++count;
+    if (here < first || last < here) return 0;
     errno = ENOMEM;
     return 1;
 }
