@@ -27,6 +27,7 @@ CALLS = [
     ("run", "arithmetic"),
     ("run --vars --slice 1", "producer"),
     ("run", "merger"),
+    ("run", "slices"),
     ("run", "deadlock"),
     ("run", "overflow"),
     ("run", b"      PROGRAM P\n      X = 1\n      END\n"),

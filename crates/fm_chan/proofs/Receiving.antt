@@ -1,9 +1,10 @@
 -- What a receive gets of a channel, from what is at its queue and its writers.
-use Rattle.std.proofs.Common.{◌≡◌, ℕ, Bool, true, false, cond, not, List, [], ◌∷◌, Option, Some, None, refl, sym, ap, ◌∙◌}
+use Rattle.std.proofs.Common.{◌≡◌, ℕ, Bool, true, false, cond, not, List, [], ◌∷◌, Option, Some, None, Bor, IfSome, refl, sym, ap, ◌∙◌}
+use Rattle.std.specs.Option.{option_copied}
 use Rattle.fm_base.specs.Channels.{Message, Chan, Limits, Pop, can_pop, is_ready, changed, gives, exceeds, fits_limits, first_exceeds, first_message, behind_first}
 use Rattle.fm_chan.specs.declared.message.Got.{Got}
 use Rattle.fm_chan.specs.declared.message.Got.TheVariants as got
-use Rattle.fm_chan.specs.Received.{got_of, got_from, got_at, message_in, brings}
+use Rattle.fm_chan.specs.Received.{got_of, got_from, got_at, oldest, first_at, got_first, message_in, brings}
 
 not_false : (b : Bool) → not b ≡ false → b ≡ true
 not_false true e = refl
@@ -27,7 +28,7 @@ module _ (limits : Limits) where
   waits_rest ch none = sym (ap (λ q. record { queue = q; writers = ch.writers; lives = ch.lives }) (waits_queue ch.queue ch.writers none))
 
   -- more elements than the limits allow
-  exceeding_queue : (q : List Message) → first_exceeds limits q ≡ true → behind_first limits q ≡ q
+  pub exceeding_queue : (q : List Message) → first_exceeds limits q ≡ true → behind_first limits q ≡ q
   exceeding_queue [] over = refl
   exceeding_queue (m ∷ ms) over = go (fits_limits limits m) over
     where
@@ -44,11 +45,11 @@ module _ (limits : Limits) where
   exceeds_rest ch over = sym (ap (λ q. record { queue = q; writers = ch.writers; lives = ch.lives }) (exceeding_queue ch.queue over))
 
   -- no more than they allow: as without limits
-  within_first : (q : List Message) → first_exceeds limits q ≡ false → first_message [] q ≡ first_message limits q
+  pub within_first : (q : List Message) → first_exceeds limits q ≡ false → first_message [] q ≡ first_message limits q
   within_first [] within = refl
   within_first (m ∷ ms) within = sym (ap (λ b. cond b (Some m) None) (not_false (fits_limits limits m) within))
 
-  within_queue : (q : List Message) → first_exceeds limits q ≡ false → behind_first [] q ≡ behind_first limits q
+  pub within_queue : (q : List Message) → first_exceeds limits q ≡ false → behind_first [] q ≡ behind_first limits q
   within_queue [] within = refl
   within_queue (m ∷ ms) within = sym (ap (λ b. cond b ms (m ∷ ms)) (not_false (fits_limits limits m) within))
 
@@ -90,3 +91,25 @@ pub message_brought : (ch : Chan) → is_ready (Pop []) ch ≡ true → message_
 message_brought ch ready =
     ap (λ b. message_in (cond b (cond (first_exceeds [] ch.queue) got.Exceeds (got_of (gives (Pop []) ch))) got.Wait)) ready
     ∙ ap (λ b. message_in (cond b got.Exceeds (got_of (gives (Pop []) ch)))) (none_exceeds ch.queue) ∙ got_message (gives (Pop []) ch)
+
+-- ---- the oldest message
+
+-- is what a receive gets, or what exceeds
+pub first_received : (o : Option Chan) (m : Message) → Some m ≡ first_at o → (limits : Limits) → got_at limits o ≡ got_first limits m
+first_received None m is limits = absurd (cc is)
+first_received (Some ch) m is limits = go ch.queue is
+  where
+    received : (f : Bool) → cond (not f) got.Exceeds (got_of (cond f (Some m) None)) ≡ cond f (got.Message m) got.Exceeds
+    received true = refl
+    received false = refl
+
+    go : (q : List Message) → Some m ≡ oldest q → got_at limits (Some (record ch { queue = q })) ≡ got_first limits m
+    go [] e = absurd (cc e)
+    go (n ∷ ns) e =
+        let same : n ≡ m = cc (sym e) in
+        ap (λ x. got_at limits (Some (record ch { queue = x ∷ ns }))) same ∙ received (fits_limits limits m)
+
+-- as it is lent
+pub first_lent : (o : Option (Bor Message)) (c : Option Chan) → option_copied o ≡ first_at c → IfSome o (λ m. (limits : Limits) → got_at limits c ≡ got_first limits m.now)
+first_lent None c is = tt
+first_lent (Some m) c is = first_received c m.now is

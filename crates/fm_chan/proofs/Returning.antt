@@ -16,7 +16,7 @@ use Rattle.fm_chan.specs.declared.channels.Channels.{Channels}
 use Rattle.fm_chan.specs.declared.message.Got.TheVariants as got
 use Rattle.fm_chan.specs.Bodies.{chans_of}
 use Rattle.fm_chan.specs.Events.{after_op, chan_at, put_first}
-use Rattle.fm_chan.specs.Kept.{Named, chan_of, chans_in, waiting}
+use Rattle.fm_chan.specs.Kept.{chan_of, waiting}
 use Rattle.fm_chan.specs.Received.{got_at, got_of, message_in}
 use Rattle.fm_chan.proofs.Maps.{by_name, get-chans_in}
 

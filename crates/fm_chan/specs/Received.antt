@@ -1,7 +1,7 @@
 -- What a receive gets.
 -- Source: the Fortran M report (RECEIVE, PROBE), with this profile's limits.
-use Rattle.std.specs.Prelude.{Bool, true, false, cond, Option, Some, None}
-use Rattle.fm_base.specs.Channels.{Message, Chan, Limits, Pop, Look, can_pop, is_ready, gives, exceeds, tells}
+use Rattle.std.specs.Prelude.{Bool, true, false, cond, Option, Some, None, List, [], ◌∷◌}
+use Rattle.fm_base.specs.Channels.{Message, Chan, Limits, Pop, Look, can_pop, is_ready, gives, exceeds, fits_limits, tells}
 use Rattle.fm_chan.specs.declared.message.Got.{Got}
 use Rattle.fm_chan.specs.declared.message.Got.TheVariants as got
 
@@ -32,6 +32,20 @@ brings (got.Message m) = true
 brings got.Exceeds = false
 brings got.Wait = false
 brings got.End = false
+
+-- the first of the messages, oldest first
+abbrev pub oldest : List Message → Option Message
+oldest [] = None
+oldest (m ∷ ms) = Some m
+
+-- the oldest message at a port's channel, if that is there and has one
+abbrev pub first_at : Option Chan → Option Message
+first_at None = None
+first_at (Some ch) = oldest ch.queue
+
+-- what a receive gets where this message is the oldest: the message where it fits the limits, else that it exceeds them
+abbrev pub got_first : Limits → Message → Got
+got_first limits m = cond (fits_limits limits m) (got.Message m) got.Exceeds
 
 -- whether a receive has its step at a port's channel, if that is there
 abbrev pub pops_at : Option Chan → Bool

@@ -1,12 +1,13 @@
 //! What stands behind a channel's name.
 
 ghost use Rattle.std.specs.Prelude.{◌≡◌, ◌+◌, [], ◌++◌, Some, None, true, false, IfOk, IfSome, OnOk, OnErr, IfErr, IsOk};
+ghost use Rattle.std.specs.Option.{option_copied};
 ghost use Rattle.fm_base.specs.Channels.{numbers_from, fresh, Push, Pop, changed, gives, exceeds, spills, can_pop, without, discarded, freed, queue_ports};
 ghost use Rattle.fm_chan.specs.Kept.{chan_of};
 ghost use Rattle.fm_chan.specs.Readers.{IsReadyAt, IsClosedAt, WakesHere, count_of, woken_by};
 ghost use Rattle.fm_chan.specs.Rooms.{IsRoomy};
 ghost use Rattle.fm_chan.specs.Events.{ports_back, put_first};
-ghost use Rattle.fm_chan.specs.Received.{brings, got_from};
+ghost use Rattle.fm_chan.specs.Received.{brings, got_from, oldest};
 ghost use Rattle.fm_chan.specs.Rest.{left_ports};
 
 use crate::discarding::{Chain, Discarding};
@@ -147,15 +148,22 @@ impl Body {
         waits || self.writers.len() == 0
     }
 
+    /// The oldest message, which stays.
+    pub fn first(&self) -> Option<&Message>
+        ensures { option_copied result ≡ oldest (chan_of self.now).queue }
+    {
+        match &self.inport {
+            None => None,
+            Some(inport) => inport.queue.front(),
+        }
+    }
+
     fn exceeds(&self, limits: &[Option<u32>]) -> bool
         ensures { result ≡ exceeds (Pop limits.now) (chan_of self.now) }
     {
-        match &self.inport {
+        match self.first() {
             None => false,
-            Some(inport) => match inport.queue.front() {
-                None => false,
-                Some(message) => !fits_limits(limits, message),
-            },
+            Some(message) => !fits_limits(limits, message),
         }
     }
 

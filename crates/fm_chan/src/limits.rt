@@ -15,7 +15,8 @@ fn item_length(item: &Item) -> usize
     }
 }
 
-fn is_within(limit: Option<u32>, item: &Item) -> bool
+/// Whether an item has no more elements than its limit.
+pub fn is_within(limit: Option<u32>, item: &Item) -> bool
     ensures { result ≡ is_within limit (plain_item item.now) }
 {
     match limit {
@@ -24,7 +25,8 @@ fn is_within(limit: Option<u32>, item: &Item) -> bool
     }
 }
 
-fn word_is_within(limit: Option<u32>) -> bool
+/// Whether an item of one word has no more elements than its limit.
+pub fn word_is_within(limit: Option<u32>) -> bool
     ensures { (word : ℤ) → result ≡ is_within limit (Words (word ∷ [])) }
 {
     match limit {

@@ -73,6 +73,9 @@ pub enum Build {
     Location(u32),
     /// Two words are the SUBMACHINE of the process.
     Submachine,
+    /// The operand at the first place is cut to the number that the earlier one at the second place is; NullPort where the port is
+    /// NULL whose word's number is on top, and stays there.
+    Cut(u32, u32),
 }
 
 /// Ends a statement that concerns the process alone. Unless it says otherwise, the last operand is the

@@ -20,7 +20,7 @@ use Rattle.fm_net.proofs.Typed.{types_throughout}
 use Rattle.fm_rules.specs.declared.program.Program.{Program}
 use Rattle.fm_mean.specs.Names.{ProgramUnit, main_number, unit_at}
 use Rattle.fm_mean.specs.Actions.{Fail, Make, Send, Receive, Probe, Begin, Join, End, Action, Rest, Own, Meets, action_of}
-use Rattle.fm_mean.specs.Owed.{HaveShortMessages, IsQuiet, owed}
+use Rattle.fm_mean.specs.Owed.{HaveShortMessages, IsQuiet, SizesAtMost, owed}
 use Rattle.fm_mean.specs.Process.{Proc, emptied}
 use Rattle.fm_mean.specs.Steps.{ask, first, first_proc, language, main_by, main_in, proc_of, step}
 use Rattle.fm_mean.proofs.Lawful.{lawful}
@@ -28,6 +28,7 @@ use Rattle.fm_mean.proofs.Laws.{first_owned}
 use Rattle.fm_mean.proofs.StepCosts.{paid_along, quiet_costs, short_along}
 use Rattle.fm_cost_law.specs.Steps.{IsOutsideBlocks}
 use Rattle.fm_cost_law.specs.Words.{HaveWords, ProcessHasWords, StateHasWords}
+use Rattle.fm_cost_law.proofs.Cuts.{few_sizes}
 use Rattle.fm_cost_law.proofs.Kept.{all_unset_words}
 use Rattle.fm_cost_law.proofs.Walk.{CameWords, CostsFew, IsLoud, IsSmallStep, ProgramIsSmall, SendsWords, SmallAsk, step_small}
 
@@ -140,19 +141,26 @@ module _ (p : Program) (small : ProgramIsSmall p) where
   quiet_or_loud (Meets (Join block kids next)) = inl tt
   quiet_or_loud (Meets End) = inl tt
 
+  -- each SEND has few sized fields
+  abbrev sizes : ℕ
+  sizes = 1322
+
+  few_fields : SizesAtMost sizes p
+  few_fields = few_sizes p small.entries
+
   -- a step with what its process owes then
-  step_paid : (s : State Proc) (q : Place) (t : State Proc × ℕ) (x y : Proc) → StateHasWords s → HaveShortMessages s → step p s q ≡ Some t → get s.procs q ≡ Some x → get t.0.procs q ≡ Some y → t.1 + owed y ≤ 2147483647 + owed x
+  step_paid : (s : State Proc) (q : Place) (t : State Proc × ℕ) (x y : Proc) → StateHasWords s → HaveShortMessages sizes s → step p s q ≡ Some t → get s.procs q ≡ Some x → get t.0.procs q ≡ Some y → t.1 + owed y ≤ 2147483647 + owed x
   step_paid s q t x y words short is there after = go (quiet_or_loud (action_of p x))
     where
       go : IsQuiet (action_of p x) ⊎ IsLoud (action_of p x) → t.1 + owed y ≤ 2147483647 + owed x
-      go (inl quiet) = let few = quiet_costs p s q t x y short is there after quiet in omega (arith, few)
+      go (inl quiet) = let few = quiet_costs p sizes few_fields s q t x y short is there after quiet in omega (arith, few)
       go (inr loud) =
           let k = stepped s q t x words is there in
           let h = k.owes loud in
           let left : k.after.self ≡ y = the_proc k.after.self y (sym k.there ∙ after) in
           omega (arith, h.0, h.1, k.price, ap owed left)
 
-  step_few : (s : State Proc) (q : Place) (t : State Proc × ℕ) (x : Proc) → StateHasWords s → HaveShortMessages s → step p s q ≡ Some t → get s.procs q ≡ Some x → IsOutsideBlocks (action_of p x) → t.1 ≤ 2147483647
+  step_few : (s : State Proc) (q : Place) (t : State Proc × ℕ) (x : Proc) → StateHasWords s → HaveShortMessages sizes s → step p s q ≡ Some t → get s.procs q ≡ Some x → IsOutsideBlocks (action_of p x) → t.1 ≤ 2147483647
   step_few s q t x words short is there outside = go k (k.costs outside)
     where
       k : Steps s q t x
@@ -160,19 +168,19 @@ module _ (p : Program) (small : ProgramIsSmall p) where
 
       go : (k : Steps s q t x) → CostsFew x (IsQuiet (action_of p x)) k.after → t.1 ≤ 2147483647
       go k (inl few) = omega (arith, few, k.price)
-      go k (inr h) = let few = quiet_costs p s q t x k.after.self short is there k.there h.0 in omega (arith, few, h.1)
+      go k (inr h) = let few = quiet_costs p sizes few_fields s q t x k.after.self short is there k.there h.0 in omega (arith, few, h.1)
 
   -- ---- along a schedule
 
   pub outside_costs : (cs : List Place) → IsLegal (step p) (first p) cs → (q : Place) (t : State Proc × ℕ) (x : Proc) → step p (play (step p) (first p) cs) q ≡ Some t → get (play (step p) (first p) cs).procs q ≡ Some x
       → IsOutsideBlocks (action_of p x) → t.1 < 2147483648
-  outside_costs cs legal q t x is there outside = let few = step_few (play (step p) (first p) cs) q t x (words_along cs legal) (short_along p cs legal) is there outside in omega (arith, few)
+  outside_costs cs legal q t x is there outside = let few = step_few (play (step p) (first p) cs) q t x (words_along cs legal) (short_along sizes p few_fields cs legal) is there outside in omega (arith, few)
 
   pub any_costs : (cs : List Place) → IsLegal (step p) (first p) cs → (q : Place) (t : State Proc × ℕ) (x y : Proc) → step p (play (step p) (first p) cs) q ≡ Some t → get (play (step p) (first p) cs).procs q ≡ Some x → get t.0.procs q ≡ Some y
       → t.1 + owed y < 2147483648 + owed x
-  any_costs cs legal q t x y is there after = let few = step_paid (play (step p) (first p) cs) q t x y (words_along cs legal) (short_along p cs legal) is there after in omega (arith, few)
+  any_costs cs legal q t x y is there after = let few = step_paid (play (step p) (first p) cs) q t x y (words_along cs legal) (short_along sizes p few_fields cs legal) is there after in omega (arith, few)
 
-  paid_steps : (q : Place) (n : ℕ) (s : State Proc) (x : Proc) → Throughout (step p) StateHasWords s → Throughout (step p) HaveShortMessages s → get s.procs q ≡ Some x → IsLegal (step p) s (replicate n q)
+  paid_steps : (q : Place) (n : ℕ) (s : State Proc) (x : Proc) → Throughout (step p) StateHasWords s → Throughout (step p) (HaveShortMessages sizes) s → get s.procs q ≡ Some x → IsLegal (step p) s (replicate n q)
       → used (step p) s (replicate n q) ≤ 2147483647 * n + owed x
   paid_steps q zero s x words short there legal = omega arith
   paid_steps q (suc n) s x words short there legal =
@@ -198,7 +206,7 @@ module _ (p : Program) (small : ProgramIsSmall p) where
       let s = play (step p) (first p) cs in
       let t = more.0.0 in
       let k = taken (language p) s q t more.0.1 in
-      let all = paid_steps q (suc n) s k.start.self (later StateHasWords cs (first p) words_along legal) (later HaveShortMessages cs (first p) (short_along p) legal) k.start.is more in
+      let all = paid_steps q (suc n) s k.start.self (later StateHasWords cs (first p) words_along legal) (later (HaveShortMessages sizes) cs (first p) (short_along sizes p few_fields) legal) k.start.is more in
       let owes = paid_along p cs legal q k.start.self k.start.is in
       omega (arith, all, owes)
 

@@ -5,6 +5,7 @@ mod Values
 mod Variables
 mod Printed
 mod Outports
+mod Cuts
 mod Walk
 mod Texts
 mod Entries

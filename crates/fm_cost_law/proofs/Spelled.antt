@@ -214,7 +214,13 @@ sent_parts named q es h =
       some_small expr es (right_small port (list_spelled expr es) all),
     )
 
--- the items of a SEND
+-- the items of a SEND, as the statement spells them
+pub sent_listed : (named : Bool) (q : Var) (es : List Tree) → IsSmall (simple_spelling (simple.Send named q es)) → IsSmall (list_spelled expr es)
+sent_listed named q es h =
+    let port = token.Open ∷ (optional_keyword_spelled (codes "PORT") var_form named q ++ token.Close ∷ []) in
+    right_small port (list_spelled expr es) (behind_small _ (port ++ list_spelled expr es) h)
+
+-- and each of them
 pub send_small : (named : Bool) (q : Var) (es : List Tree) → IsSmall (simple_spelling (simple.Send named q es)) → TreesAreSmall (trees_from es)
 send_small named q es h = trees_small es (sent_parts named q es h).1
 

@@ -15,6 +15,7 @@ use Rattle.fm_base.specs.declared.port.PortValue.TheVariants.{Writer, Reader}
 use Rattle.fm_map.specs.Placement.{Seat, fitted}
 use Rattle.fm_values.specs.Values.{sum, truth_word, word_of}
 use Rattle.fm_values.specs.declared.value.Value.{Value}
+use Rattle.fm_tree.specs.PortFields.{PortFields}
 use Rattle.fm_tree.specs.Tree.{Tree, Number, Truth, Named, Ref, Paren, Signed, Not, Binary, trees_from}
 use Rattle.fm_tree.specs.References.{reference_at}
 use Rattle.fm_tree.specs.declared.form.UnitKind.{UnitKind}
@@ -45,6 +46,7 @@ use Rattle.fm_mean.specs.Calls.{back_words, backs_of, child_of, entered, new_fra
 use Rattle.fm_mean.specs.Actions as action
 use Rattle.fm_mean.specs.Actions.{Event, Fail, Make, Send, Receive, Probe, Begin, Join, End, Action, Rest, Own, Meets, at_entry, Receiving, Loop, Counted, While, NoLoop, scalar_place, action_in, action_of, arguments_in, elements_of, next_reference, trees_in}
 use Rattle.fm_mean.specs.Owed.{frames_owe, phase_owes, owed, IsQuiet}
+use Rattle.fm_mean.specs.Steps as steps
 use Rattle.fm_mean.specs.Steps.{received, ask_at, ask_event, ask_for, with_status}
 use Rattle.fm_mean.specs.TypedTrees.{StatementHasTypes}
 use Rattle.fm_mean.proofs.BackWords.{backs_small, unit_small}
@@ -55,6 +57,7 @@ use Rattle.fm_mean.proofs.Sorts.{parts}
 use Rattle.fm_mean.specs.TypedTrees.{IsIn}
 use Rattle.fm_cost_law.specs.Words.{IsWord, HaveWords, StartHasWords, FrameHasWords, ProcessHasWords}
 use Rattle.fm_cost_law.specs.Steps.{IsOutsideBlocks}
+use Rattle.fm_cost_law.proofs.Cuts.{cut_words}
 use Rattle.fm_cost_law.proofs.Lists.{all_joined, in_all}
 use Rattle.fm_cost_law.proofs.Kept.{ActualHasWords, BothHaveWords, ended_words, entered_words, exchange_words, kids_words, message_has_words, placed_words, returned_words, status_words, stored_all_words, word_here, written_words}
 use Rattle.fm_cost_law.proofs.Values.{ConstantsHaveWords, Fine, Any, ScopeHasWords, ValueHasWord, actuals_small, any_fine, in_range_word, number_small, then_fine, truth_is_word, value_small, value_word}
@@ -232,10 +235,9 @@ module _ (p : Program) (x : Proc) (fine : ProcessHasWords x) where
         let small = h u args refl refl in
         opens (at_entry f e.entry.after) (moved_on e.entry.after) u.0 u.1 (entered u.1 f.values args) (backs_of u.1 args) (entered_words u.1 f.values args top.values g) small.0 small.1
 
-    sent : (e : Point) (items : List Actual) (o : Option PortValue) → AllIn ActualHasWords items → SmallOf p x (action.sent e o items)
-    sent e items None h = fails (line_of e) NullPort
-    sent e items (Some (Reader c)) h = fails (line_of e) NullPort
-    sent e items (Some (Writer c w)) h =
+    sent_items : (e : Point) (c : ChanName) (w : ℕ) (items : Result (List Actual) Fault) → Fine (AllIn ActualHasWords) items → SmallOf p x (action.sent_items e c w items)
+    sent_items e c w (Err fault) h = fails (line_of e) fault
+    sent_items e c w (Ok items) h =
         let m = message_has_words f.values items top.values h in
         meets (Send c w items e.entry.after) (record {
           sends = m.1;
@@ -244,10 +246,15 @@ module _ (p : Program) (x : Proc) (fine : ProcessHasWords x) where
           owes = λ q d r. absurd q;
         })
 
-    sends : (e : Point) (q : Result Span Fault) (items : Result (List Actual) Fault) → Fine (AllIn ActualHasWords) items → SmallOf p x (action.sends e f q items)
-    sends e (Err fault) items h = fails (line_of e) fault
-    sends e (Ok q) (Err fault) h = fails (line_of e) fault
-    sends e (Ok q) (Ok items) h = sent e items (port_at f.values q) h
+    sent : (e : Point) (t : PortFields) (items : List Actual) (o : Option PortValue) → AllIn ActualHasWords items → SmallOf p x (action.sent e t o items)
+    sent e t items None h = fails (line_of e) NullPort
+    sent e t items (Some (Reader c)) h = fails (line_of e) NullPort
+    sent e t items (Some (Writer c w)) h = sent_items e c w (action.cut_items [] t items) (cut_words [] t items h)
+
+    sends : (e : Point) (t : PortFields) (q : Result Span Fault) (items : Result (List Actual) Fault) → Fine (AllIn ActualHasWords) items → SmallOf p x (action.sends e t f q items)
+    sends e t (Err fault) items h = fails (line_of e) fault
+    sends e t (Ok q) (Err fault) h = fails (line_of e) fault
+    sends e t (Ok q) (Ok items) h = sent e t items (port_at f.values q) h
 
     closed : (e : Point) (vs : List Item) (o : Option PortValue) → HaveWords vs → SmallOf p x (action.closed x.execution e f below vs o)
     closed e vs None h = fails (line_of e) NullPort
@@ -308,13 +315,24 @@ module _ (p : Program) (x : Proc) (fine : ProcessHasWords x) where
     came_for line next items None (Some n) None = inl (omega arith)
     came_for line next items (Some s) to None = inl (omega arith)
 
+    met_on : (line next : ℕ) (items : List Span) (iostat : Option Span) (to : Option ℕ) (exceeds : Bool) (m : Option Message) → ((k : Message) → m ≡ Some k → HaveWords k)
+        → ProcessHasWords (steps.met x line below f next items iostat to exceeds m).self × AllIn ProcessHasWords (steps.met x line below f next items iostat to exceeds m).starts
+    met_on line next items iostat to true None h = (fine, tt)
+    met_on line next items iostat to true (Some m) h = came_on line next items iostat to (Some m) h
+    met_on line next items iostat to false m h = came_on line next items iostat to m h
+
+    met_for : (line next : ℕ) (items : List Span) (iostat : Option Span) (to : Option ℕ) (exceeds : Bool) (m : Option Message) → CostsFew x (Unit {0}) (steps.met x line below f next items iostat to exceeds m)
+    met_for line next items iostat to true None = inl (omega arith)
+    met_for line next items iostat to true (Some m) = came_for line next items iostat to (Some m)
+    met_for line next items iostat to false m = came_for line next items iostat to m
+
     receives_at : (e : Point) (r : Receiving) (o : Option PortValue) → SmallOf p x (action.receives_at e r o)
     receives_at e r None = fails (line_of e) NullPort
     receives_at e r (Some (Writer c w)) = fails (line_of e) NullPort
     receives_at e r (Some (Reader c)) = meets (Receive c (line_of e) r.2 r.1 e.links.jump e.entry.after) (record {
       sends = tt;
-      goes_on = λ d y came kids. came_on (line_of e) e.entry.after r.2 r.1 e.links.jump y.message came;
-      costs = λ q d y. came_for (line_of e) e.entry.after r.2 r.1 e.links.jump y.message;
+      goes_on = λ d y came kids. met_on (line_of e) e.entry.after r.2 r.1 e.links.jump y.exceeds y.message came;
+      costs = λ q d y. met_for (line_of e) e.entry.after r.2 r.1 e.links.jump y.exceeds y.message;
       owes = λ q d y. absurd q;
     })
 
@@ -465,7 +483,7 @@ module _ (p : Program) (x : Proc) (fine : ProcessHasWords x) where
       simple_good (simple.Write unit items) here = prints f below at e _ (line_few_listed p f.unit u is_unit here_in refl in_words items 0 (write_small unit items (is_small _ here)))
       simple_good (simple.Channel in_first i o) here = makes f below at e _
       simple_good (simple.Merger i os) here = merges f below at e _ (outports_few p f.unit u is_unit here_in refl i os (merged_small i os (is_small _ here)))
-      simple_good (simple.Send named q items) here = sends f below at e _ (actuals_of here_in (trees_from items) (refs_in_var here_in q)) (actuals_small here_in in_words (trees_from items) (refs_in_var here_in q) (send_small named q items (is_small _ here)))
+      simple_good (simple.Send named q items) here = sends f below at e (action.fields_at u q) _ (actuals_of here_in (trees_from items) (refs_in_var here_in q)) (actuals_small here_in in_words (trees_from items) (refs_in_var here_in q) (send_small named q items (is_small _ here)))
       simple_good (simple.Receive named q extras items) here = receives f below at e _
       simple_good (simple.EndChannel named q) here = closes f below at e _
       simple_good (simple.MovePort from to) here = moves f below at e _

@@ -18,6 +18,7 @@ use Rattle.fm_values.specs.Values.{sum}
 use Rattle.fm_values.specs.declared.value.Value.{Value}
 use Rattle.fm_values.specs.declared.intrinsic.Intrinsic.{Intrinsic}
 use Rattle.fm_values.specs.Intrinsics.{intrinsic_named}
+use Rattle.fm_tree.specs.PortFields.{PortFields}
 use Rattle.fm_tree.specs.Tree.{Tree, Trees, Number, Truth, Named, Ref, Paren, Signed, Not, Binary}
 use Rattle.fm_tree.specs.References.{applied_in, applied_name, reference_at}
 use Rattle.fm_tree.specs.declared.form.UnitKind.{UnitKind}
@@ -59,6 +60,7 @@ use Rattle.fm_mean.specs.Calls.{child_of, ended_frames}
 use Rattle.fm_mean.specs.Steps.{kid_of, ask}
 use Rattle.fm_mean.specs.Actions as action
 use Rattle.fm_mean.specs.Actions.{Event, Fail, Make, Send, Receive, Probe, Begin, Join, End, Action, Rest, Own, Meets, at_entry, gone_on, Receiving, Loop, Counted, While, NoLoop, scalar_place, action_in, scope_of}
+use Rattle.fm_mean.specs.Steps as steps
 use Rattle.fm_mean.specs.Steps.{received, ask_at, ask_event, ask_for}
 
 -- a frame in a unit that this one reaches, with no start
@@ -308,15 +310,19 @@ module _ (p : Program) (root : ℕ) (makes_none : Makes p root → ⊥) (x : Pro
     calls e (Some u) (Err fault) h = fails (line_of e) fault
     calls e (Some u) (Ok args) h = lone _ [] _ _ ((h u refl, refl), (top, rest)) own
 
-    sent : (e : Point) (items : List Actual) (o : Option PortValue) → PlainOf p root x (action.sent e o items)
-    sent e items None = fails (line_of e) NullPort
-    sent e items (Some (Reader c)) = fails (line_of e) NullPort
-    sent e items (Some (Writer c w)) = meets (Send c w items e.entry.after) (record { lone = tt; goes_on = λ d r. (((top, rest), plain.1, own), refl) })
+    sent_items : (e : Point) (c : ChanName) (w : ℕ) (items : Result (List Actual) Fault) → PlainOf p root x (action.sent_items e c w items)
+    sent_items e c w (Err fault) = fails (line_of e) fault
+    sent_items e c w (Ok items) = meets (Send c w items e.entry.after) (record { lone = tt; goes_on = λ d r. (((top, rest), plain.1, own), refl) })
 
-    sends : (e : Point) (q : Result Span Fault) (items : Result (List Actual) Fault) → PlainOf p root x (action.sends e f q items)
-    sends e (Err fault) items = fails (line_of e) fault
-    sends e (Ok q) (Err fault) = fails (line_of e) fault
-    sends e (Ok q) (Ok items) = sent e items (port_at f.values q)
+    sent : (e : Point) (t : PortFields) (items : List Actual) (o : Option PortValue) → PlainOf p root x (action.sent e t o items)
+    sent e t items None = fails (line_of e) NullPort
+    sent e t items (Some (Reader c)) = fails (line_of e) NullPort
+    sent e t items (Some (Writer c w)) = sent_items e c w (action.cut_items [] t items)
+
+    sends : (e : Point) (t : PortFields) (q : Result Span Fault) (items : Result (List Actual) Fault) → PlainOf p root x (action.sends e t f q items)
+    sends e t (Err fault) items = fails (line_of e) fault
+    sends e t (Ok q) (Err fault) = fails (line_of e) fault
+    sends e t (Ok q) (Ok items) = sent e t items (port_at f.values q)
 
     closed : (e : Point) (vs : List Item) (o : Option PortValue) → PlainOf p root x (action.closed x.execution e f below vs o)
     closed e vs None = fails (line_of e) NullPort
@@ -337,11 +343,17 @@ module _ (p : Program) (root : ℕ) (makes_none : Makes p root → ⊥) (x : Pro
     taken line next items None (Some n) None = (((top, rest), plain.1, own), refl)
     taken line next items (Some s) to None = (((top, rest), plain.1, own), refl)
 
+    came : (line next : ℕ) (items : List Span) (iostat : Option Span) (to : Option ℕ) (exceeds : Bool) (m : Option Message)
+        → IsInside p root (steps.met x line below f next items iostat to exceeds m).self × ((steps.met x line below f next items iostat to exceeds m).starts ≡ [])
+    came line next items iostat to true None = ((plain.0, tt, plain.2), refl)
+    came line next items iostat to true (Some m) = taken line next items iostat to (Some m)
+    came line next items iostat to false m = taken line next items iostat to m
+
     receives_at : (e : Point) (r : Receiving) (o : Option PortValue) → PlainOf p root x (action.receives_at e r o)
     receives_at e r None = fails (line_of e) NullPort
     receives_at e r (Some (Writer c w)) = fails (line_of e) NullPort
     receives_at e r (Some (Reader c)) =
-        meets (Receive c (line_of e) r.2 r.1 e.links.jump e.entry.after) (record { lone = tt; goes_on = λ d y. taken (line_of e) e.entry.after r.2 r.1 e.links.jump y.message })
+        meets (Receive c (line_of e) r.2 r.1 e.links.jump e.entry.after) (record { lone = tt; goes_on = λ d y. came (line_of e) e.entry.after r.2 r.1 e.links.jump y.exceeds y.message })
 
     receives : (e : Point) (r : Result Receiving Fault) → PlainOf p root x (action.receives e f r)
     receives e (Err fault) = fails (line_of e) fault
@@ -422,7 +434,7 @@ module _ (p : Program) (root : ℕ) (makes_none : Makes p root → ⊥) (x : Pro
     simple_plain s (simple.Write unit items) is = prints f below at top rest e _
     simple_plain s (simple.Channel in_first i o) is = absurd (calm (ap is_making is))
     simple_plain s (simple.Merger i os) is = absurd (calm (ap is_making is))
-    simple_plain s (simple.Send named q items) is = sends f below at top rest e _ _
+    simple_plain s (simple.Send named q items) is = sends f below at top rest e (action.fields_at u q) _ _
     simple_plain s (simple.Receive named q extras items) is = receives f below at top rest e _
     simple_plain s (simple.EndChannel named q) is = closes f below at top rest e _
     simple_plain s (simple.MovePort from to) is = moves f below at top rest e _

@@ -17,9 +17,10 @@ use Rattle.fm_net.proofs.Counts.{count-append}
 use Rattle.fm_rules.specs.declared.program.Program.{Program}
 use Rattle.fm_mean.specs.Names.{unit_at}
 use Rattle.fm_mean.specs.Calls.{is_formal, nulls, null_item, kept, variables_in, ended_frames}
-use Rattle.fm_mean.specs.Fits.{Types, MayStand, ItemFits, ValuesFit, MessageFits, variables_of, FramesFit}
+use Rattle.fm_mean.specs.Fits.{Types, MayStand, ItemFits, ValuesFit, FieldsFit, MessageFits, variables_of, FramesFit}
 use Rattle.fm_mean.specs.Process.{Frame, Proc, is_ended, held, frames_ports}
 use Rattle.fm_mean.specs.Actions.{Event, Fail, Make, Send, Receive, Probe, Begin, Join, End, Action, Rest, Own, Meets}
+use Rattle.fm_mean.specs.Steps as steps
 use Rattle.fm_mean.specs.Steps.{ask_event, ask_for, received}
 use Rattle.fm_mean.specs.declared.place.Span.{Span}
 use Rattle.fm_tree.specs.PortReading as reading
@@ -44,14 +45,17 @@ item_bare types Logical n (Ports ps) h e = absurd h
 item_bare types (In t) n x h e = absurd (cc e)
 item_bare types (Out t) n x h e = absurd (cc e)
 
-pub message_bare : (types : Types) (t : PortFields) (m : Message) → MessageFits types t m → sends_ports t ≡ false → message_ports m ≡ []
-message_bare types NoFields [] h e = refl
-message_bare types NoFields (x ∷ m) h e = absurd h
-message_bare types (FieldThen s a n rest) [] h e = absurd h
-message_bare types (FieldThen s a n rest) (x ∷ m) h e =
+fields_bare : (types : Types) (before : Message) (t : PortFields) (m : Message) → FieldsFit types before t m → sends_ports t ≡ false → message_ports m ≡ []
+fields_bare types before NoFields [] h e = refl
+fields_bare types before NoFields (x ∷ m) h e = absurd h
+fields_bare types before (FieldThen s a n rest) [] h e = absurd h
+fields_bare types before (FieldThen s a n rest) (x ∷ m) h e =
     let first = item_bare types s _ x h.0 (or_left (is_field_port s) (sends_ports rest) e) in
-    let others = message_bare types rest m h.1 (or_right (is_field_port s) (sends_ports rest) e) in
+    let others = fields_bare types (before ++ x ∷ []) rest m h.1 (or_right (is_field_port s) (sends_ports rest) e) in
     ap (λ ps. ps ++ message_ports m) first ∙ others
+
+pub message_bare : (types : Types) (t : PortFields) (m : Message) → MessageFits types t m → sends_ports t ≡ false → message_ports m ≡ []
+message_bare types t m h e = fields_bare types [] t m h e
 
 -- ---- what an ended process keeps
 
@@ -132,12 +136,17 @@ module _ (p : Program) (x : Proc) (on : is_ended x.phase ≡ false) where
   taken line next below f items None (Some n) None e = still e
   taken line next below f items (Some s) to None e = still e
 
+  came : (line next : ℕ) (below : List Frame) (f : Frame) (items : List Span) (iostat : Option Span) (to : Option ℕ) (exceeds : Bool) (m : Option Message) → is_ended (steps.met x line below f next items iostat to exceeds m).self.phase ≡ true → ⊥
+  came line next below f items iostat to true None e = absurd (cc e)
+  came line next below f items iostat to true (Some m) e = taken line next below f items iostat to (Some m) e
+  came line next below f items iostat to false m e = taken line next below f items iostat to m e
+
   by_event : (e : Event) (fs : List Frame) → EndsByFrames p x (ask_event p x e fs)
   by_event e [] = tt
   by_event (Fail line fault) (f ∷ below) = λ c r h. absurd (cc h)
   by_event (Make places n cost next) (f ∷ below) = λ c r h. absurd (still h)
   by_event (Send d w items next) (f ∷ below) = λ c r h. absurd (still h)
-  by_event (Receive d line items iostat to next) (f ∷ below) = λ c r h. absurd (taken line next below f items iostat to r.message h)
+  by_event (Receive d line items iostat to next) (f ∷ below) = λ c r h. absurd (came line next below f items iostat to r.exceeds r.message h)
   by_event (Probe d place next) (f ∷ below) = λ c r h. absurd (still h)
   by_event Begin (f ∷ below) = λ c r h. absurd (cc h)
   by_event (Join block kids next) (f ∷ below) = λ c r h. absurd (cc h)

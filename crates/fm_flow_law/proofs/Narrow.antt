@@ -26,7 +26,8 @@ use Rattle.fm_rules.specs.Constants.{constants_of}
 use Rattle.fm_rules.specs.Declarations.{Fact, clashes, clashes_among, decl_facts, declared_twice_in, fact, facts_by, facts_in, facts_of, repeated_processors, said, same_aspect, typed_facts}
 use Rattle.fm_rules.specs.FunctionTitles.{titles_of}
 use Rattle.fm_rules.specs.Names.{unit_names}
-use Rattle.fm_rules.specs.PortTypes.{normal_kind, normal_type}
+use Rattle.fm_rules.specs.PortTypes.{normal_fields, normal_kind, normal_type}
+use Rattle.fm_rules.specs.SizedFields.{Sizes, size_given}
 use Rattle.fm_rules.specs.Sheets.{decl_shapes, kind_entries, kind_in, kinds_at, kinds_from, own_kind, shape_entries, shapes_from, sheet_of}
 use Rattle.fm_rules.specs.Variables.{bounds_by, laid_out, variable, variables_among, words_by, words_of}
 use Rattle.fm_rules.specs.declared.constants.Known.{Known}
@@ -62,10 +63,14 @@ kind_plain known at Logical = refl
 kind_plain known at (In t) = refl
 kind_plain known at (Out t) = refl
 
+fields_plain : (known : ByName Known) (at : ℕ) (earlier : Sizes) (t : PortFields) → sends_ports (normal_fields known at earlier t) ≡ sends_ports t
+fields_plain known at earlier NoFields = refl
+fields_plain known at earlier (FieldThen k name bounds rest) =
+    let sizes = size_given k name bounds ∷ earlier in
+    ap (λ (b : Bool). b || sends_ports (normal_fields known at sizes rest)) (kind_plain known at k) ∙ ap (λ (b : Bool). is_field_port k || b) (fields_plain known at sizes rest)
+
 type_plain : (known : ByName Known) (at : ℕ) (t : PortFields) → sends_ports (normal_type known at t) ≡ sends_ports t
-type_plain known at NoFields = refl
-type_plain known at (FieldThen k name bounds rest) =
-    ap (λ (b : Bool). b || sends_ports (normal_type known at rest)) (kind_plain known at k) ∙ ap (λ (b : Bool). is_field_port k || b) (type_plain known at rest)
+type_plain known at t = fields_plain known at [] t
 
 -- ---- lists
 

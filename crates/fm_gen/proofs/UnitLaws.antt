@@ -25,7 +25,7 @@ use Rattle.fm_symbols.specs.declared.names.Variable.{Variable}
 use Rattle.fm_rules.specs.declared.program.Program.{Program}
 use Rattle.fm_mean.specs.Names.{ProgramUnit, Point, point_with, point_at, kind_of, variable_of, unit_named}
 use Rattle.fm_mean.specs.Evaluate.{refs_in_all, refs_in_var}
-use Rattle.fm_mean.specs.Actions.{Loop, Counted, While, NoLoop, loop_of, arguments_in, trees_in, where_in}
+use Rattle.fm_mean.specs.Actions.{Loop, Counted, While, NoLoop, loop_of, arguments_in, trees_in, where_in, fields_at}
 use Rattle.fm_code.specs.declared.instr.Instr.{Instr}
 use Rattle.fm_code.specs.declared.instr.Instr.TheVariants as instr
 use Rattle.fm_code.specs.declared.instr.End.TheVariants as end
@@ -33,7 +33,7 @@ use Rattle.fm_code.specs.declared.instr.Meet.TheVariants as meet
 use Rattle.fm_gen_operands.specs.Code.{place_code, trees_count, expression_code, expressions_code}
 use Rattle.fm_gen_operands.specs.Places.{arguments_code, seat_code, targets_code, var_code}
 use Rattle.fm_mean.specs.Referring.{names_in}
-use Rattle.fm_gen_statements.specs.Statements.{Addresses, goto, holds_word, variable_meant, first_store, locate_code, element_store, assigned_code, items_code, bounds_code, do_code, loop_code, again_code, end_code, loop_end_code, jump_code, call_by, result_word, return_code, start_by, block_code, send_code, extras_code, refs_behind, receive_end, receive_code, channel_code, merger_code, two_code, simple_code, statement_code}
+use Rattle.fm_gen_statements.specs.Statements.{Addresses, goto, holds_word, variable_meant, first_store, locate_code, element_store, assigned_code, items_code, bounds_code, do_code, loop_code, again_code, end_code, loop_end_code, jump_code, call_by, result_word, return_code, start_by, block_code, cuts_code, send_code, extras_code, refs_behind, receive_end, receive_code, channel_code, merger_code, two_code, simple_code, statement_code}
 use Rattle.fm_gen.specs.Entries.{references_code, references_length, entry_code, entries_code, address_of, unit_code, starts_of}
 use Rattle.fm_gen_relation.specs.Frames.{loop_number}
 use Rattle.fm_gen_statements.specs.Tables.{address_in}
@@ -123,7 +123,9 @@ module _ (p : Program) (u : ProgramUnit) where
   send_ended : (q : Var) (items : Trees) (to : ℕ) → IsEnded (send_code p u q items to)
   send_ended q items to =
       let sent = arguments_code p u items (refs_in_var (names_in p u) q) in
-      behind (var_code p u q 0) (sent ++ instr.Meet (meet.Send to) ∷ []) (closing sent (instr.Meet (meet.Send to)) (Meets (meet.Send to)))
+      let cuts = cuts_code 0 (fields_at u q) in
+      behind (var_code p u q 0) (sent ++ (cuts ++ instr.Meet (meet.Send to) ∷ []))
+      (behind sent (cuts ++ instr.Meet (meet.Send to) ∷ []) (closing cuts (instr.Meet (meet.Send to)) (Meets (meet.Send to))))
 
   receive_ended : (q : Var) (extras : List Extra) (items : List Var) (at_end : Option ℕ) (to : ℕ) → IsEnded (receive_code p u q extras items at_end to)
   receive_ended q extras items at_end to =
@@ -267,6 +269,12 @@ module _ (p : Program) (u : ProgramUnit) (a b : Addresses) where
       let args = trees_from (arguments_in part) in
       same_second (arguments_code p u args 0) (seat_code p u (where_in part) (refs_in_all (names_in p u) args)) (instr.End (end.Start callee.0 n)) (instr.End (end.Start callee.0 k))
 
+  send_length : (q : Var) (items : Trees) (n k : ℕ) → length (send_code p u q items n) ≡ length (send_code p u q items k)
+  send_length q items n k =
+      let sent = arguments_code p u items (refs_in_var (names_in p u) q) in
+      let cuts = cuts_code 0 (fields_at u q) in
+      same_front (var_code p u q 0) (sent ++ (cuts ++ instr.Meet (meet.Send n) ∷ [])) (sent ++ (cuts ++ instr.Meet (meet.Send k) ∷ [])) (same_second sent cuts (instr.Meet (meet.Send n)) (instr.Meet (meet.Send k)))
+
   receive_length : (q : Var) (extras : List Extra) (items : List Var) (c d : Option ℕ) (n k : ℕ) → length (receive_code p u q extras items c n) ≡ length (receive_code p u q extras items d k)
   receive_length q extras items c d n k =
       let s = names_in p u in
@@ -290,8 +298,7 @@ module _ (p : Program) (u : ProgramUnit) (a b : Addresses) where
   simple_length e (simple.Channel in_first i o) = channel_length in_first i o (a e.entry.after) (b e.entry.after)
   simple_length e (simple.Merger i os) =
       same_second (var_code p u i 0) (targets_code p u os (refs_in_var (names_in p u) i)) (instr.Meet (meet.Merger (a e.entry.after))) (instr.Meet (meet.Merger (b e.entry.after)))
-  simple_length e (simple.Send named q items) =
-      same_second (var_code p u q 0) (arguments_code p u (trees_from items) (refs_in_var (names_in p u) q)) (instr.Meet (meet.Send (a e.entry.after))) (instr.Meet (meet.Send (b e.entry.after)))
+  simple_length e (simple.Send named q items) = send_length q (trees_from items) (a e.entry.after) (b e.entry.after)
   simple_length e (simple.Receive named q extras items) =
       receive_length q extras items (option_map a e.links.jump) (option_map b e.links.jump) (a e.entry.after) (b e.entry.after)
   simple_length e (simple.EndChannel named q) = same_last (var_code p u q 0) (instr.Meet (meet.EndChannel (a e.entry.after))) (instr.Meet (meet.EndChannel (b e.entry.after)))

@@ -36,6 +36,7 @@ use Rattle.fm_rules.specs.VariableTypes.{subscripted, variable_judged}
 use Rattle.fm_rules.specs.TypeStatements.{extra_flags, in_any, port_flags, simple_flags, target_flags}
 use Rattle.fm_rules.specs.PortFitting.{fit_fields, fits_field, lacks_port}
 use Rattle.fm_rules.specs.JudgedStatements.{variable_type}
+use Rattle.fm_rules.specs.PortTypes.{sizing_place}
 use Rattle.fm_rules.specs.PortRules.{breaks_fields, breaks_message, lacks_direction, message_at}
 use Rattle.fm_rules.specs.declared.program.Program.{Program}
 use Rattle.fm_mean.specs.Fits.{elements_in, sort_of_variable}
@@ -43,7 +44,7 @@ use Rattle.fm_mean.specs.Names.{ProgramUnit, unit_at, context, variable_of}
 use Rattle.fm_mean.specs.Typing.{sort_of}
 use Rattle.fm_mean.specs.ValueTypes.{named_arg}
 use Rattle.fm_mean.proofs.JudgedArguments.{ArgIs, HaveSizes, name_is}
-use Rattle.fm_mean.proofs.JudgedItems.{all_left, all_parts, all_right, all_unflagged, inport_is, item_fits}
+use Rattle.fm_mean.proofs.JudgedItems.{all_left, all_parts, all_right, all_unflagged, inport_is, IsPairOf, item_fits}
 use Rattle.fm_mean.proofs.JudgedPlaces.{item_has_type, port_is, variable_has_type}
 use Rattle.fm_mean.proofs.JudgedPlaces as judged
 use Rattle.fm_mean.proofs.JudgedPrograms.{arrays_in}
@@ -52,7 +53,7 @@ use Rattle.fm_mean.proofs.Sizes.{variable_sized}
 use Rattle.fm_mean.proofs.Unflagged.{IsUnflagged, left_unflagged, right_unflagged}
 use Rattle.fm_mean.specs.Referring.{names_in}
 use Rattle.fm_gen_relation.specs.Sound.{IsVariable}
-use Rattle.fm_gen_relation.specs.Targets.{TargetsFit, target_words}
+use Rattle.fm_gen_relation.specs.Targets.{HasWords, TargetsFit, target_words}
 use Rattle.fm_gen_relation.proofs.Kept.{keeps}
 use Rattle.fm_gen_relation.proofs.Meant.{meant}
 
@@ -78,6 +79,11 @@ parts_alike a b m n e = (ap first e, ap second e)
     second : Option Pair → ℕ
     second None = m
     second (Some x) = x.1
+
+-- a field's kind, and its number of elements where no field sizes it
+as_field : (words : ℕ) (a k : FieldKind) (size : Option ℕ) (bs : List Bound) → IsPairOf (Some (a, words)) k size bs → (a ≡ k) × HasWords words size bs
+as_field words a k None bs e = parts_alike a k words (elements_in bs) e
+as_field words a k (Some place) bs e = ((parts_alike a k words e.0 e.1).0, tt)
 
 the_variable : (a b : ℕ × Variable) → Some a ≡ Some b → a ≡ b
 the_variable a b e = cc
@@ -149,11 +155,11 @@ module _ (p : Program) (u : ProgramUnit) (sizes : HaveSizes u) where
       element_taken u (context p) name w (arguments_judged (context p) sc (array_or (get sc.symbols name) referent.Unknown) 0 (trees_from (t ∷ ts))) is
 
   target_fits : (v : Var) (k : FieldKind) (bs : List Bound) (x : IsVariable u v.name) → HasType v → fits_field u.names (variable_judged (context p) sc v).expr_type k bs ≡ true
-      → (w : ℕ × Variable) × (variable_of u v.name ≡ Some w) × (sort_of_variable w.1 ≡ k) × (target_words w.1 (trees_from v.subscripts) ≡ elements_in bs)
+      → (w : ℕ × Variable) × (variable_of u v.name ≡ Some w) × (sort_of_variable w.1 ≡ k) × HasWords (target_words w.1 (trees_from v.subscripts)) (sizing_place bs) bs
   target_fits v k bs x some e =
       let words = target_words x.0.1 (trees_from v.subscripts) in
       let same = item_fits u (variable_judged (context p) sc v).expr_type (taken x.0.1 words) k bs (target_taken v.name v.subscripts x.0 x.1) some e in
-      let parts = parts_alike (sort_of_variable x.0.1) k words (elements_in bs) same in
+      let parts = as_field words (sort_of_variable x.0.1) k (sizing_place bs) bs same in
       (x.0, x.1, parts.0, parts.1)
 
   all_fit : (t : PortFields) (vs : List Var) → AllIn (λ (v : Var). IsVariable u v.name) vs → AllIn HasType vs → fit_fields u.names (map (variable_type (context p) sc) vs) t ≡ true → TargetsFit u t vs

@@ -1,6 +1,6 @@
 -- Places, arguments and what goes back, by the numbers of words.
 -- Source: ANSI X3.9-1978, section 15.9 (arguments), with copying in and back by this profile; the Fortran M report for ports.
-use Rattle.std.specs.Prelude.{◌≡◌, ◌≤◌, ℕ, zero, suc, ◌+◌, Bool, true, false, not, cond, Some, None, List, [], ◌∷◌, length, map, slice_get}
+use Rattle.std.specs.Prelude.{◌≡◌, ◌≤◌, ℕ, zero, suc, ◌+◌, ℤ, Bool, true, false, not, cond, Some, None, List, [], ◌∷◌, length, map, slice_get}
 use Rattle.fm_base.specs.Channels.{Item}
 use Rattle.fm_net.specs.Typed.{AllIn}
 use Rattle.fm_symbols.specs.declared.names.Variable.{Variable}
@@ -55,7 +55,7 @@ pub record IsPlace (vs : List Variable) (word : Bool) (s : MeanSpan) : Type 0 wh
 abbrev pub target_of : List Variable → MeanSpan → Operand
 target_of vs s = cond (holds_words vs s.variable) (operand.Words (code_span vs s)) (operand.Ports (code_span vs s))
 
--- an argument, or an item of a message
+-- an argument, or an item of a message before it is cut
 abbrev pub operand_of : List Variable → Actual → Operand
 operand_of vs (Given ws None) = operand.Value (first_word ws)
 operand_of vs (Given ws (Some s)) = operand.Words (code_span vs s)
@@ -66,6 +66,27 @@ abbrev pub IsActual : List Variable → List Item → Actual → Type 0
 IsActual vs xs (Given ws None) = length ws ≡ 1
 IsActual vs xs (Given ws (Some s)) = IsPlace vs true s × (ws ≡ words_of xs s)
 IsActual vs xs (Taken s) = IsPlace vs false s
+
+-- a place with as many elements as there are words
+abbrev pub of_length : List ℤ → MeanSpan → MeanSpan
+of_length ws s = record s { count = length ws }
+
+-- one word, or none
+abbrev pub value_item : List ℤ → Operand
+value_item [] = operand.Words (record { first = 0; count = 0 })
+value_item (w ∷ ws) = operand.Value w
+
+-- an item of a message as it is sent: where it is cut it has fewer words than its place
+abbrev pub item_of : List Variable → Actual → Operand
+item_of vs (Given ws None) = value_item ws
+item_of vs (Given ws (Some s)) = operand.Words (code_span vs (of_length ws s))
+item_of vs (Taken s) = operand.Ports (code_span vs s)
+
+-- it is one word at most, or the first of what stands at a place
+abbrev pub IsItem : List Variable → List Item → Actual → Type 0
+IsItem vs xs (Given ws None) = length ws ≤ 1
+IsItem vs xs (Given ws (Some s)) = IsPlace vs true (of_length ws s) × (ws ≡ words_of xs (of_length ws s))
+IsItem vs xs (Taken s) = IsPlace vs false s
 
 abbrev pub is_given : Actual → Bool
 is_given (Given ws back) = true

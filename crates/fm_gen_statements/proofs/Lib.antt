@@ -4,6 +4,7 @@ pub mod PrintLaws
 pub mod LoopLaws
 pub mod LoopWords
 pub mod PortPlaces
+pub mod CutLaws
 pub mod PortLaws
 pub mod CallStatements
 pub mod StatementLaws

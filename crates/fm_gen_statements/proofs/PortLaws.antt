@@ -31,7 +31,7 @@ use Rattle.fm_mean.specs.Evaluate.{Scope, place_of, places_of, actuals_of, refs_
 use Rattle.fm_mean.specs.Fits.{sort_of_variable, sort_at, PortFits, MayStand}
 use Rattle.fm_mean.specs.Typing.{sort_of, ExtraFits}
 use Rattle.fm_mean.specs.TypedTrees.{SimpleHasTypes, StatementHasTypes}
-use Rattle.fm_mean.specs.Actions.{Action, fails, sent, sends, iostat_of, receives_at, receives, receive_places, closed, closes, moves, probes_at, probes, two_places, makes, merges, channel_places, merger_places, simple_action}
+use Rattle.fm_mean.specs.Actions.{Action, fails, cut_items, sent_items, sent, sends, fields_at, iostat_of, receives_at, receives, receive_places, closed, closes, moves, probes_at, probes, two_places, makes, merges, channel_places, merger_places, simple_action}
 use Rattle.fm_mean.proofs.Sorts.{parts, place_sort}
 use Rattle.fm_code.specs.declared.ask.Ask.TheVariants as ask
 use Rattle.fm_code.specs.declared.body.Frame.{Frame}
@@ -45,7 +45,7 @@ use Rattle.fm_code.specs.Acts.{StatementEnd, Act, On, Over, Fails, found, at_wor
 use Rattle.fm_mean.specs.Referring.{names_in}
 use Rattle.fm_gen_relation.specs.Sound.{is_word, IsVariable, IsWord, IsPort, IsSoundUnit, IsSoundEntry, IsSoundSimple, IsSoundStatement, count_iostat}
 use Rattle.fm_gen_relation.specs.Standing.{Slots, port_by, scope_in, IsFrame, AreAllDone}
-use Rattle.fm_gen_relation.specs.Operands.{MeanSpan, word_number, holds_words, IsPlace, IsActual, operand_of, target_of}
+use Rattle.fm_gen_relation.specs.Operands.{MeanSpan, word_number, holds_words, IsPlace, IsActual, item_of, IsItem, operand_of, target_of}
 use Rattle.fm_gen_relation.specs.Targets.{TargetsFit}
 use Rattle.fm_gen_relation.proofs.Units.{sound_unit}
 use Rattle.fm_gen_relation.proofs.Targets.{targets_fit}
@@ -57,10 +57,11 @@ use Rattle.fm_gen_operands.specs.Keeps.{then, with_operands}
 use Rattle.fm_gen_operands.proofs.Follows.{all_refs_same, then_with}
 use Rattle.fm_gen_operands.proofs.PlaceLaws.{keeps_place}
 use Rattle.fm_gen_operands.proofs.ActualLaws.{keeps_actuals, keeps_targets}
-use Rattle.fm_gen_statements.specs.Statements.{Addresses, send_code, extras_code, refs_behind, receive_end, receive_code, channel_code, merger_code, close_code, two_code, simple_code}
+use Rattle.fm_gen_statements.specs.Statements.{Addresses, cuts_code, send_code, extras_code, refs_behind, receive_end, receive_code, channel_code, merger_code, close_code, two_code, simple_code}
 use Rattle.fm_gen_statements.specs.Steps.{Site, IsStatus, Agree}
 use Rattle.fm_gen_statements.specs.Asking.{IsAsking}
 use Rattle.fm_gen_statements.proofs.StoreLaws.{agree_then}
+use Rattle.fm_gen_statements.proofs.CutLaws.{items_whole, actuals_are, null_fails, cuts_follow}
 use Rattle.fm_gen_statements.proofs.PortPlaces.{emptied_port, at_place, port_here}
 
 -- A name that has a sort is that of a variable.
@@ -186,22 +187,42 @@ module _ (p : Program) (number : ℕ) (u : ProgramUnit) (here : unit_at p number
 
   -- SEND
 
-  sent_follows : (t : PortFields) (slot : ℤ) (xs : List Actual) → AllIn (IsActual vars f.values) xs → int_eq slot (pos 0) ≡ false → (z : PortValue) → slots slot ≡ z → PortFits frame.types (Out t) z
-      → Agree site (acts.Asks (ask.Send slot (map (operand_of vars) xs) next)) (sent e (Some z) xs)
-  sent_follows t slot xs whole live (Reader c) is fits = absurd fits
-  sent_follows t slot xs whole live (Writer c k) is fits =
-      record { channel = c; writer = k; actuals = xs; live = live; port = is; same = refl; whole = whole; leads = refl; does = refl }
+  -- at a port that isn't NULL both cut the items alike, and send them
+  sent_by : (t fields : PortFields) (x slot : ℤ) (xs : List Actual) → AllIn (IsItem vars f.values) xs → int_eq slot (pos 0) ≡ false → ((g : ℤ → Act) → at_port m x g ≡ g slot)
+      → (z : PortValue) → slots slot ≡ z → PortFits frame.types (Out t) z
+      → Agree site (work (cuts_code 0 fields ++ instr.Meet (meet.Send next) ∷ []) (x ∷ []) (record nothing { operands = map (item_of vars) xs }) m) (sent e fields (Some z) xs)
+  sent_by t fields x slot xs whole live at (Reader c) is fits = absurd fits
+  sent_by t fields x slot xs whole live at (Writer c k) is fits =
+      subst (λ t. Agree site t (sent_items e c k (cut_items [] fields xs))) (sym (cuts_follow vars slots m f.values stands.values x slot next at fields [] xs tt whole))
+      (agree_then site (cut_items [] fields xs) _ (λ r. sent_items e c k r) (λ fault. refl) (λ items are.
+      record { channel = c; writer = k; actuals = items; live = live; port = is; same = refl; whole = items_whole vars f.values fields [] xs items whole are; leads = refl; does = refl }))
+
+  sent_follows : (t fields : PortFields) (x slot : ℤ) (xs : List Actual) → AllIn (IsItem vars f.values) xs
+      → (null : Bool) → int_eq slot (pos 0) ≡ null → ((g : ℤ → Act) → at_port m x g ≡ cond null (Over (Fails NullPort)) (g slot)) → MayStand frame.types (Out t) (cond null None (Some (slots slot)))
+      → Agree site (work (cuts_code 0 fields ++ instr.Meet (meet.Send next) ∷ []) (x ∷ []) (record nothing { operands = map (item_of vars) xs }) m)
+      (sent e fields (cond null None (Some (slots slot))) xs)
+  sent_follows t fields x slot xs whole true live at fits =
+      subst (λ t. Agree site t (fails (line_of e) NullPort)) (sym (null_fails m x next at fields 0 (record nothing { operands = map (item_of vars) xs }))) refl
+  sent_follows t fields x slot xs whole false live at fits = sent_by t fields x slot xs whole live at (slots slot) refl fits
 
   send_follows : (t : PortFields) (q : Var) (ts : Trees) → sort_of u q.name ≡ Some (Out t) → VarDone now q 0 → AreAllDone now ts (refs q)
-      → Agree site (work (send_code p u q ts next) [] nothing m) (sends e f (place_of now q 0) (actuals_of now ts (refs q)))
+      → Agree site (work (send_code p u q ts next) [] nothing m) (sends e (fields_at u q) f (place_of now q 0) (actuals_of now ts (refs q)))
   send_follows t q ts sort done all =
-      place_then q 0 done _ [] nothing (λ r. sends e f r (actuals_of now ts (refs q))) (λ fault. refl) (λ x is.
-      subst (λ k. Agree site (work (arguments_code p u ts k ++ instr.Meet (meet.Send next) ∷ []) (pos (word x) ∷ []) nothing m) (sends e f (Ok x) (actuals_of now ts (refs q)))) (refs_same q)
-      (actuals_then ts (refs q) all (instr.Meet (meet.Send next) ∷ []) (pos (word x) ∷ []) nothing (λ r. sends e f (Ok x) r) (λ fault. refl) (λ xs are.
+      let fields = fields_at u q in
+      let code = cuts_code 0 fields ++ instr.Meet (meet.Send next) ∷ [] in
+      place_then q 0 done _ [] nothing (λ r. sends e fields f r (actuals_of now ts (refs q))) (λ fault. refl) (λ x is.
+      let stack = pos (word x) ∷ [] in
+      subst (λ k. Agree site (work (arguments_code p u ts k ++ code) stack nothing m) (sends e fields f (Ok x) (actuals_of now ts (refs q)))) (refs_same q)
+      (actuals_then ts (refs q) all code stack nothing (λ r. sends e fields f (Ok x) r) (λ fault. refl) (λ xs are.
       let at = port_whole now sound q 0 x (outport_there u q.name t sort) is in
       let whole : AllIn (IsActual vars f.values) xs = subst (λ l. AllIn (IsActual vars l) xs) (sym stands.values) (actuals_whole now sound.sized ts (refs q) xs are).0 in
-      port_agrees x at.0 at.1 (λ slot. asks (ask.Send slot (map (operand_of vars) xs) next)) (λ s b. work [] s b m) (λ o. sent e o xs) refl (λ slot live stood fits.
-      sent_follows t slot xs whole live (slots slot) refl (fits (Out t) (place_sort now q 0 x (Out t) is sort))))))
+      let items = actuals_are u sound slots m frame.sized f.values stands.values xs whole in
+      let h = port_here u slots m frame x at.0 at.1 in
+      let there : port_at f.values x ≡ port_by slots h.slot = ap (λ xs. port_at xs x) stands.values ∙ h.port in
+      subst (λ os. Agree site (work code stack (record nothing { operands = os }) m) (sent e fields (port_at f.values x) xs)) items.1
+      (subst (λ o. Agree site (work code stack (record nothing { operands = map (item_of vars) xs }) m) (sent e fields o xs)) (sym there)
+      (sent_follows t fields (pos (word x)) h.slot xs items.0 (int_eq h.slot (pos 0)) refl (λ g. at_place u slots m frame false x at.0 at.1 (λ k. by_port m k g) ∙ ap (λ o. found o (λ v. cond (int_eq v (pos 0)) (Over (Fails NullPort)) (g v))) h.at)
+      (h.fits (Out t) (place_sort now q 0 x (Out t) is sort)))))))
 
   -- RECEIVE
 

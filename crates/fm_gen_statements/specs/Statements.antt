@@ -5,6 +5,7 @@ use Rattle.std.specs.Prelude.{ℕ, suc, pos, ◌+◌, Bool, true, false, ◌&&�
 use Rattle.fm_values.specs.Values.{word_of}
 use Rattle.fm_values.specs.Operations.{is_arithmetic}
 use Rattle.fm_tree.specs.Tree.{Tree, Trees, Number, Truth, Named, Ref, Paren, Signed, Not, Binary, NoTrees, More, trees_from}
+use Rattle.fm_tree.specs.PortFields.{PortFields, NoFields, FieldThen}
 use Rattle.fm_tree.specs.declared.port_type.Kind.{Kind}
 use Rattle.fm_tree.specs.declared.port_type.Kind.TheVariants as kind
 use Rattle.fm_tree.specs.declared.form.UnitKind.{UnitKind}
@@ -24,10 +25,11 @@ use Rattle.fm_tree.specs.declared.statement.Stmt.TheVariants as stmt
 use Rattle.fm_symbols.specs.declared.names.Constant.{Constant}
 use Rattle.fm_symbols.specs.declared.names.Constant.TheVariants as constant
 use Rattle.fm_symbols.specs.declared.names.Variable.{Variable}
+use Rattle.fm_rules.specs.PortTypes.{sizing_place}
 use Rattle.fm_rules.specs.declared.program.Program.{Program}
 use Rattle.fm_mean.specs.Names.{ProgramUnit, Point, kind_of, unit_named, variable_of, constant_of, result_variable}
 use Rattle.fm_mean.specs.Evaluate.{Scope, Reference, Element, Call, Built, Unknown, reference_of, refs_in, refs_in_all, refs_in_var, constant_by}
-use Rattle.fm_mean.specs.Actions.{Loop, Counted, While, NoLoop, loop_of, trees_in, arguments_in, where_in}
+use Rattle.fm_mean.specs.Actions.{Loop, Counted, While, NoLoop, loop_of, trees_in, arguments_in, where_in, fields_at}
 use Rattle.fm_code.specs.declared.code.Span.{Span}
 use Rattle.fm_code.specs.declared.instr.Instr.{Instr}
 use Rattle.fm_code.specs.declared.instr.Instr.TheVariants as instr
@@ -262,8 +264,18 @@ block_code here next = instr.Meet (meet.Begin (suc here)) ∷ instr.Meet (meet.J
 
 -- Ports.
 
+abbrev pub cut_one : (item : ℕ) → (size : Option ℕ) → List Instr
+cut_one item None = []
+cut_one item (Some place) = instr.Build (build.Cut item place) ∷ []
+
+-- items for fields that earlier ones size are cut, from this item on
+abbrev pub cuts_code : (item : ℕ) → PortFields → List Instr
+cuts_code item NoFields = []
+cuts_code item (FieldThen kind name bounds rest) = cut_one item (sizing_place bounds) ++ cuts_code (suc item) rest
+
 abbrev pub send_code : Program → ProgramUnit → Var → Trees → (next : ℕ) → List Instr
-send_code p u q items next = var_code p u q 0 ++ (arguments_code p u items (refs_in_var (names_in p u) q) ++ instr.Meet (meet.Send next) ∷ [])
+send_code p u q items next =
+    var_code p u q 0 ++ (arguments_code p u items (refs_in_var (names_in p u) q) ++ (cuts_code 0 (fields_at u q) ++ instr.Meet (meet.Send next) ∷ []))
 
 -- IOSTAT
 abbrev pub extras_code : Program → ProgramUnit → List Extra → (n : ℕ) → List Instr

@@ -35,7 +35,7 @@ use Rattle.fm_mean.specs.Referring.{names_in}
 use Rattle.fm_gen_relation.specs.Sound.{formals_among}
 use Rattle.fm_gen_relation.specs.Targets.{TargetsFit}
 use Rattle.fm_gen_relation.specs.Standing.{Slots, scope_in, IsResultOf}
-use Rattle.fm_gen_relation.specs.Operands.{MeanSpan, word_number, operand_of, target_of, IsPlace, IsActual, TakesFrom, holds_words}
+use Rattle.fm_gen_relation.specs.Operands.{MeanSpan, word_number, operand_of, item_of, target_of, IsPlace, IsActual, IsItem, TakesFrom, holds_words}
 use Rattle.fm_gen_relation.specs.Frames.{Stands}
 use Rattle.fm_gen_statements.specs.Statements.{Addresses}
 
@@ -203,8 +203,8 @@ pub record SendsAlike (s : Site) (slot : ℤ) (items : List Operand) (next : ℕ
   pub actuals : List Actual
   pub live : int_eq slot (pos 0) ≡ false
   pub port : s.slots slot ≡ Writer channel writer
-  pub same : items ≡ map (operand_of (variables s)) actuals
-  pub whole : AllIn (IsActual (variables s) s.frame.values) actuals
+  pub same : items ≡ map (item_of (variables s)) actuals
+  pub whole : AllIn (IsItem (variables s) s.frame.values) actuals
   pub leads : next ≡ s.address (after s)
   pub does : a ≡ Meets (Send channel writer actuals (after s))
 

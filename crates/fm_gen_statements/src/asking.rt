@@ -1,18 +1,69 @@
 //! The code of statements on ports.
 
 ghost use Rattle.std.specs.Prelude.{◌≡◌, ◌++◌, IfOk, OnOk};
+ghost use Rattle.fm_tree.specs.PortReading.{fields_of, kind_of};
 ghost use Rattle.fm_tree.specs.Tree.{trees_from};
 ghost use Rattle.fm_plain_frame.specs.Units.{unit_of};
+ghost use Rattle.fm_mean.specs.Actions.{fields_at, fields_by};
 ghost use Rattle.fm_mean.specs.Referring.{names_in};
 ghost use Rattle.fm_code.specs.declared.instr.Instr.TheVariants as instr;
 ghost use Rattle.fm_code.specs.declared.instr.Meet.TheVariants as meet;
-ghost use Rattle.fm_gen_statements.specs.Statements.{channel_code, close_code, extras_code, merger_code, receive_code, receive_end, refs_behind, send_code, two_code};
+ghost use Rattle.fm_gen_statements.specs.Statements.{channel_code, close_code, cut_one, cuts_code, extras_code, merger_code, receive_code, receive_end, refs_behind, send_code, two_code};
 
 use fm_base::{NoMemory, Seq};
 use fm_code::{Build, Instr, Meet};
 use fm_gen_operands::{arguments, place, targets};
 use fm_plain_frame::UnitView;
-use fm_tree::{Expr, Extra, Var};
+use fm_rules::sizing_place;
+use fm_tree::{Expr, Extra, Field, Kind, Var};
+
+/// Adds what cuts the item at a place to what an earlier one says, where one does.
+fn cut_one(item: usize, size: Option<usize>, out: &mut Seq<Instr>) -> Result<(), NoMemory>
+    ensures { OnOk result (out.new ≡ out.old ++ cut_one item size) }
+{
+    match size {
+        None => Ok(()),
+        Some(place) => {
+            // The fields of a type are fewer, so that these errors don't come.
+            let item = u32::try_from(item).map_err(|_| NoMemory)?;
+            let place = u32::try_from(place).map_err(|_| NoMemory)?;
+            out.push(Instr::Build(Build::Cut(item, place)))
+        }
+    }
+}
+
+/// Adds what cuts the items for fields that earlier ones size.
+fn cuts(fields: &[Field], out: &mut Seq<Instr>) -> Result<(), NoMemory>
+    ensures { OnOk result (out.new ≡ out.old ++ cuts_code 0 (fields_of fields.now)) }
+{
+    let mut item = 0;
+    'fields: for field in fields {
+        cut_one(item, sizing_place(field.bounds.as_slice()), out)?;
+        item += 1;
+    }
+    Ok(())
+}
+
+fn fields_by(kind: &Kind) -> &[Field]
+    ensures { fields_of result.now ≡ fields_by (kind_of kind.now) }
+{
+    match kind {
+        Kind::Integer => &[],
+        Kind::Logical => &[],
+        Kind::In(messages) => messages.as_slice(),
+        Kind::Out(messages) => messages.as_slice(),
+    }
+}
+
+/// The fields of the messages of a port.
+fn fields_at<'p>(unit: &UnitView<'p>, port: &Var) -> &'p [Field]
+    ensures { fields_of result.now ≡ fields_at (unit_of unit.now) port.now }
+{
+    match unit.variable(&port.name) {
+        None => &[],
+        Some((_, variable)) => fields_by(&variable.kind),
+    }
+}
 
 /// Adds the code of a SEND, behind which the statement at an address is next.
 pub(crate) fn send(
@@ -26,6 +77,7 @@ pub(crate) fn send(
 {
     let references = place(unit, port, 0, out)?;
     arguments(unit, items, references, out)?;
+    cuts(fields_at(unit, port), out)?;
     out.push(Instr::Meet(Meet::Send(next)))
 }
 

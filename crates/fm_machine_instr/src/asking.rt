@@ -15,7 +15,7 @@ use std::alloc::Global;
 
 /// What stands at a port word.
 #[derive(Clone, Copy)]
-enum Port {
+pub(crate) enum Port {
     /// A port, by its slot.
     Slot(i64),
     /// NULL.
@@ -25,7 +25,7 @@ enum Port {
 }
 
 /// What stands at the port word with this number.
-fn port_at(frame: &Frame, number: u32) -> Port
+pub(crate) fn port_at(frame: &Frame, number: u32) -> Port
     ensures { IsPort result (slice_get frame.now.words number) }
 {
     match frame.words.get(number as usize) {

@@ -8,6 +8,7 @@ ghost use Rattle.fm_code.specs.declared.scratch.Place.TheVariants as place;
 ghost use Rattle.fm_code.specs.Acts.{On, with_one, with_two, with_words, spanned, at_word, span_of, has_span, numbered, number_in, number_item, truth_item, shown, passed, single, builds};
 ghost use Rattle.fm_machine_instr.specs.Told.{progressed};
 
+use crate::cutting::cut;
 use crate::work::{Progress, Work};
 use fm_base::{NoMemory, Printed, Seq};
 use fm_code::{Build, Frame, Operand, Place, Span};
@@ -225,5 +226,6 @@ pub(crate) fn build(
         }
         Build::Location(count) => location(alloc, work, count),
         Build::Submachine => submachine(work),
+        Build::Cut(item, size) => cut(work, item, size, frame),
     }
 }

@@ -6,6 +6,7 @@
 mod asking;
 mod building;
 mod changing;
+mod cutting;
 mod deciding;
 mod evaluating;
 mod looping;

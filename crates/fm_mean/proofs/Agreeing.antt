@@ -1,5 +1,5 @@
 -- What a process or a message may hold depends on the types of its own ports alone.
-use Rattle.std.proofs.Common.{◌≡◌, ℕ, ◌≤◌, Option, Some, None, List, [], ◌∷◌, sym, ◌∙◌, arith}
+use Rattle.std.proofs.Common.{◌≡◌, ℕ, ◌≤◌, Option, Some, None, List, [], ◌∷◌, ◌++◌, sym, ◌∙◌, arith}
 use Rattle.fm_base.specs.declared.port.PortValue.{PortValue}
 use Rattle.fm_base.specs.declared.port.PortValue.TheVariants.{Writer, Reader}
 use Rattle.fm_base.specs.Channels.{Item, Words, Ports, Message, message_ports, item_ports, channel_of}
@@ -8,9 +8,10 @@ use Rattle.fm_net.specs.Typed.{AllIn}
 use Rattle.fm_net.proofs.Counts.{count-cons, count-append, one_self}
 use Rattle.fm_tree.specs.PortFields.{PortFields, FieldKind, NoFields, FieldThen, Integer, Logical, In, Out}
 use Rattle.fm_symbols.specs.declared.names.Variable.{Variable}
+use Rattle.fm_rules.specs.PortTypes.{sizing_place}
 use Rattle.fm_rules.specs.declared.program.Program.{Program}
 use Rattle.fm_mean.specs.Process.{Start, Frame, started_ports, frame_ports, frames_ports}
-use Rattle.fm_mean.specs.Fits.{sort_of_variable, elements_in, Types, PortFits, MayStand, ItemFits, ValuesFit, MessageFits, variables_of, StartFits, FrameFits, FramesFit}
+use Rattle.fm_mean.specs.Fits.{sort_of_variable, elements_behind, Types, PortFits, MayStand, ItemFits, ValuesFit, FieldsFit, MessageFits, variables_of, StartFits, FrameFits, FramesFit}
 use Rattle.fm_mean.proofs.Exchanges.{living, found, within, living-cons, within-cons}
 use Rattle.fm_mean.proofs.Calling.{frame-parts, frames-cons}
 
@@ -51,11 +52,17 @@ module _ (types others : Types) where
   values_agree (v ∷ vars) [] e h = h
   values_agree (v ∷ vars) (x ∷ xs) e h = (item_agrees (sort_of_variable v) v.words x (λ z l. e z (omega (arith, within-cons z x xs))) h.0, values_agree vars xs (λ z l. e z (omega (arith, within-cons z x xs))) h.1)
 
+  fields_agree : (told : Message) (t : PortFields) (m : Message) → Agree (λ z. within z m) → FieldsFit types told t m → FieldsFit others told t m
+  fields_agree told NoFields [] e h = tt
+  fields_agree told NoFields (x ∷ xs) e h = h
+  fields_agree told (FieldThen s a n rest) [] e h = h
+  fields_agree told (FieldThen s a n rest) (x ∷ xs) e h = (
+    item_agrees s (elements_behind told (sizing_place n) n) x (λ z l. e z (omega (arith, within-cons z x xs))) h.0,
+    fields_agree (told ++ x ∷ []) rest xs (λ z l. e z (omega (arith, within-cons z x xs))) h.1,
+  )
+
   pub message_agrees : (t : PortFields) (m : Message) → Agree (λ z. within z m) → MessageFits types t m → MessageFits others t m
-  message_agrees NoFields [] e h = tt
-  message_agrees NoFields (x ∷ xs) e h = h
-  message_agrees (FieldThen s a n rest) [] e h = h
-  message_agrees (FieldThen s a n rest) (x ∷ xs) e h = (item_agrees s (elements_in n) x (λ z l. e z (omega (arith, within-cons z x xs))) h.0, message_agrees rest xs (λ z l. e z (omega (arith, within-cons z x xs))) h.1)
+  message_agrees t m e h = fields_agree [] t m e h
 
   module _ (p : Program) where
     starts_agree : (mine : List Variable) (ss : List Start) → Agree (λ z. count z (started_ports ss)) → AllIn (StartFits p types mine) ss → AllIn (StartFits p others mine) ss

@@ -8,6 +8,7 @@ use Rattle.fm_base.specs.Channels.{Item, Words, Ports}
 use Rattle.fm_tree.specs.Tree.{Tree, Trees, NoTrees, More, Number, Truth, Named, Ref, Paren, Signed, Not, Binary}
 use Rattle.fm_tree.specs.PortFields.{PortFields, FieldKind, NoFields, FieldThen, Integer, Logical, In, Out}
 use Rattle.fm_tree.specs.PortReading as reading
+use Rattle.fm_tree.specs.declared.port_type.Bound.{Bound}
 use Rattle.fm_tree.specs.declared.port_type.Kind.{Kind}
 use Rattle.fm_tree.specs.declared.port_type.Kind.TheVariants as kind
 use Rattle.fm_values.specs.declared.value.Value.{Value}
@@ -20,15 +21,16 @@ use Rattle.fm_values.proofs.PlaceLaws.{place_below}
 use Rattle.fm_symbols.specs.Headings.{is_function}
 use Rattle.fm_symbols.specs.Context.{symbols_of, symbol_place}
 use Rattle.fm_symbols.specs.declared.names.Variable.{Variable}
+use Rattle.fm_rules.specs.PortTypes.{sizing_place}
 use Rattle.fm_net.specs.Typed.{AllIn}
 use Rattle.fm_mean.specs.Names.{ProgramUnit, unit_named, kind_of, variable_at, variable_of}
 use Rattle.fm_mean.specs.declared.place.Actual.{Actual}
 use Rattle.fm_mean.specs.declared.place.Span.{Span}
-use Rattle.fm_mean.specs.declared.place.Actual.TheVariants.{Given}
+use Rattle.fm_mean.specs.declared.place.Actual.TheVariants.{Given, Taken}
 use Rattle.fm_mean.specs.Places.{items_at, words_in}
 use Rattle.fm_mean.specs.Evaluate.{Scope, Reference, Element, Call, Built, Unknown, is_array, function_by, intrinsic_or, array_or, reference_of, refs_in, value_of, numbers_of, named_by, value_alone, named_actual, ref_actual, actual_at, actual_of, actuals_of, whole, single}
-use Rattle.fm_mean.specs.Fits.{sort_of_variable, elements_in, Types, IsBit, ItemFits, ValuesFit, sort_at, ArgFits, ItemsFit}
-use Rattle.fm_mean.specs.ValueTypes.{IsOf, named_type, ref_type, type_of, alone, named_arg, ref_arg, arg_type, ItemsAreOf, AreSized}
+use Rattle.fm_mean.specs.Fits.{sort_of_variable, elements_in, elements_given, actual_length, Types, IsBit, ItemFits, ValuesFit, sort_at, ArgFits, ItemsFit}
+use Rattle.fm_mean.specs.ValueTypes.{IsOf, named_type, ref_type, type_of, alone, named_arg, ref_arg, arg_type, ItemIsOf, ItemsAreOf, AreSized}
 use Rattle.fm_mean.proofs.Sorts.{parts}
 use Rattle.fm_mean.proofs.Sound.{sound, logical_bit, by_name}
 
@@ -190,6 +192,24 @@ arg_fits types s (Ref name args) n a r m sized fits e is = go (reference_of s na
     go (Built f) at same e' is' = alone_fits s.unit.names.variables (ref_type (Built f)) (value_of s (Ref name args) n) r m a (λ x o v. sound s (Ref name args) n x r (ap ref_type same ∙ o) v) e' is'
     go Unknown at same e' is' = absurd (cc e')
 
+-- how many elements an argument of a type has
+as_many : (vars : List Variable) (r : FieldKind) (m : ℕ) (a : Actual) → ArgFits vars r m a → m ≡ actual_length a
+as_many vars Integer m (Given ws back) h = sym h
+as_many vars Logical m (Given ws back) h = sym h.0
+as_many vars (In t) m (Taken x) h = sym h.1
+as_many vars (Out t) m (Taken x) h = sym h.1
+as_many vars Integer m (Taken x) h = absurd h
+as_many vars Logical m (Taken x) h = absurd h
+as_many vars (In t) m (Given ws back) h = absurd h
+as_many vars (Out t) m (Given ws back) h = absurd h
+
+one_fits : (types : Types) (s : Scope) (t : Tree) (n : ℕ) (a : Actual) (r : FieldKind) (size : Option ℕ) (bs : List Bound) → AreSized s.unit.names.variables → ValuesFit types s.unit.names.variables s.values → ItemIsOf s r size bs t
+    → actual_of s t n ≡ Ok a → ArgFits s.unit.names.variables r (elements_given size bs a) a
+one_fits types s t n a r None bs sized fits e is = arg_fits types s t n a r (elements_in bs) sized fits e is
+one_fits types s t n a r (Some place) bs sized fits e is =
+    let h = arg_fits types s t n a r e.0 sized fits e.1 is in
+    subst (λ m. ArgFits s.unit.names.variables r m a) (as_many s.unit.names.variables r e.0 a h) h
+
 -- so the items of a SEND fit the fields
 pub items_fit : (types : Types) (s : Scope) (t : PortFields) (ts : Trees) (n : ℕ) (args : List Actual) → AreSized s.unit.names.variables → ValuesFit types s.unit.names.variables s.values → ItemsAreOf s t ts → actuals_of s ts n ≡ Ok args → ItemsFit s.unit.names.variables t args
 items_fit types s NoFields NoTrees n args sized fits e is = subst (ItemsFit s.unit.names.variables NoFields) (the_list [] args is) tt
@@ -202,7 +222,7 @@ items_fit types s (FieldThen r b m rest) (More t ts) n args sized fits e is =
     let a = parts (actual_of s t n) _ args is in
     let more = parts (actuals_of s ts (n + refs_in s t)) _ args a.2 in
     subst (ItemsFit s.unit.names.variables (FieldThen r b m rest)) (the_list (a.0 ∷ more.0) args more.2)
-    (arg_fits types s t n a.0 r (elements_in m) sized fits e.0 a.1, items_fit types s rest ts (n + refs_in s t) more.0 sized fits e.1 more.1)
+    (one_fits types s t n a.0 r (sizing_place m) m sized fits e.0 a.1, items_fit types s rest ts (n + refs_in s t) more.0 sized fits e.1 more.1)
   where
     the_list : (a b : List Actual) → ◌≡◌ {A = Result (List Actual) Fault} (Ok a) (Ok b) → a ≡ b
     the_list a b e = cc

@@ -12,6 +12,7 @@ use Rattle.fm_base.specs.declared.name.Line.{Line}
 use Rattle.fm_base.specs.declared.fault.Fault.{Fault}
 use Rattle.fm_base.specs.declared.fault.Fault.TheVariants.{NullPort, ZeroDivide}
 use Rattle.fm_base.specs.declared.output.Printed.{Printed}
+use Rattle.fm_base.specs.declared.path.ChanName.{ChanName}
 use Rattle.fm_base.specs.declared.port.PortValue.{PortValue}
 use Rattle.fm_base.specs.declared.port.PortValue.TheVariants.{Writer, Reader}
 use Rattle.fm_base.specs.Channels.{Item, Message}
@@ -19,6 +20,7 @@ use Rattle.fm_values.specs.Values.{sum}
 use Rattle.fm_values.specs.declared.value.Value.{Value}
 use Rattle.fm_values.specs.declared.intrinsic.Intrinsic.{Intrinsic}
 use Rattle.fm_values.specs.Intrinsics.{intrinsic_named}
+use Rattle.fm_tree.specs.PortFields.{PortFields}
 use Rattle.fm_tree.specs.Tree.{Tree, Trees, Number, Truth, Named, Ref, Paren, Signed, Not, Binary}
 use Rattle.fm_tree.specs.References.{applied_in, applied_name, reference_at}
 use Rattle.fm_tree.specs.declared.form.UnitKind.{UnitKind}
@@ -59,6 +61,7 @@ use Rattle.fm_map.specs.Placement.{Seat}
 use Rattle.fm_mean.specs.Calls.{child_of, ended_frames}
 use Rattle.fm_mean.specs.Actions as action
 use Rattle.fm_mean.specs.Actions.{Event, Fail, Make, Send, Receive, Probe, Begin, Join, End, Action, Rest, Own, Meets, at_entry, gone_on, Receiving, Loop, Counted, While, NoLoop, scalar_place, action_in, scope_of, elements_of, merger_places}
+use Rattle.fm_mean.specs.Steps as steps
 use Rattle.fm_mean.specs.Steps.{received, ask_at, ask_event, ask_for, language}
 use Rattle.fm_mean.specs.Determinism.{IsDeterministic, calls_among, IsReached}
 use Rattle.fm_mean.proofs.Writers.{one_writer}
@@ -288,15 +291,19 @@ module _ (p : Program) (det : IsDeterministic p) (x : Proc) (plain : IsWithin p 
     calls e (Some u) (Err fault) h = fails (line_of e) fault
     calls e (Some u) (Ok args) h = lone _ [] _ _ ((h u refl, tt), (top, rest))
 
-    sent : (e : Point) (items : List Actual) (o : Option PortValue) → PlainOf p x (action.sent e o items)
-    sent e items None = fails (line_of e) NullPort
-    sent e items (Some (Reader c)) = fails (line_of e) NullPort
-    sent e items (Some (Writer c w)) = meets (Send c w items e.entry.after) (record { single = tt; goes_on = λ d r all. ((top, rest), tt) })
+    sent_items : (e : Point) (c : ChanName) (w : ℕ) (items : Result (List Actual) Fault) → PlainOf p x (action.sent_items e c w items)
+    sent_items e c w (Err fault) = fails (line_of e) fault
+    sent_items e c w (Ok items) = meets (Send c w items e.entry.after) (record { single = tt; goes_on = λ d r all. ((top, rest), tt) })
 
-    sends : (e : Point) (q : Result Span Fault) (items : Result (List Actual) Fault) → PlainOf p x (action.sends e f q items)
-    sends e (Err fault) items = fails (line_of e) fault
-    sends e (Ok q) (Err fault) = fails (line_of e) fault
-    sends e (Ok q) (Ok items) = sent e items (port_at f.values q)
+    sent : (e : Point) (fields : PortFields) (items : List Actual) (o : Option PortValue) → PlainOf p x (action.sent e fields o items)
+    sent e t items None = fails (line_of e) NullPort
+    sent e t items (Some (Reader c)) = fails (line_of e) NullPort
+    sent e t items (Some (Writer c w)) = sent_items e c w (action.cut_items [] t items)
+
+    sends : (e : Point) (fields : PortFields) (q : Result Span Fault) (items : Result (List Actual) Fault) → PlainOf p x (action.sends e fields f q items)
+    sends e t (Err fault) items = fails (line_of e) fault
+    sends e t (Ok q) (Err fault) = fails (line_of e) fault
+    sends e t (Ok q) (Ok items) = sent e t items (port_at f.values q)
 
     closed : (e : Point) (vs : List Item) (o : Option PortValue) → PlainOf p x (action.closed x.execution e f below vs o)
     closed e vs None = fails (line_of e) NullPort
@@ -326,11 +333,17 @@ module _ (p : Program) (det : IsDeterministic p) (x : Proc) (plain : IsWithin p 
     taken line next items None (Some n) None = ((top, rest), tt)
     taken line next items (Some s) to None = ((top, rest), tt)
 
+    came : (line next : ℕ) (items : List Span) (iostat : Option Span) (to : Option ℕ) (exceeds : Bool) (m : Option Message)
+        → IsWithin p (steps.met x line below f next items iostat to exceeds m).self × AllIn (IsWithin p) (steps.met x line below f next items iostat to exceeds m).starts
+    came line next items iostat to true None = (plain, tt)
+    came line next items iostat to true (Some m) = taken line next items iostat to (Some m)
+    came line next items iostat to false m = taken line next items iostat to m
+
     receives_at : (e : Point) (r : Receiving) (o : Option PortValue) → PlainOf p x (action.receives_at e r o)
     receives_at e r None = fails (line_of e) NullPort
     receives_at e r (Some (Writer c w)) = fails (line_of e) NullPort
     receives_at e r (Some (Reader c)) =
-        meets (Receive c (line_of e) r.2 r.1 e.links.jump e.entry.after) (record { single = tt; goes_on = λ d y all. taken (line_of e) e.entry.after r.2 r.1 e.links.jump y.message })
+        meets (Receive c (line_of e) r.2 r.1 e.links.jump e.entry.after) (record { single = tt; goes_on = λ d y all. came (line_of e) e.entry.after r.2 r.1 e.links.jump y.exceeds y.message })
 
     receives : (e : Point) (r : Result Receiving Fault) → PlainOf p x (action.receives e f r)
     receives e (Err fault) = fails (line_of e) fault
@@ -417,7 +430,7 @@ module _ (p : Program) (det : IsDeterministic p) (x : Proc) (plain : IsWithin p 
     simple_plain s here (simple.Channel in_first i o) is = makes f below at top rest e _
     simple_plain s here (simple.Merger i os) is =
         merges f below at top rest e (merger_places s i os) (λ v made. one_writer p f.unit s here i os v (alone os (λ several. calm (ap (is_racy (slice_get (context p).scopes f.unit)) is ∙ several))) made)
-    simple_plain s here (simple.Send named q items) is = sends f below at top rest e _ _
+    simple_plain s here (simple.Send named q items) is = sends f below at top rest e (action.fields_at u q) _ _
     simple_plain s here (simple.Receive named q extras items) is = receives f below at top rest e _
     simple_plain s here (simple.EndChannel named q) is = closes f below at top rest e _
     simple_plain s here (simple.MovePort from to) is = moves f below at top rest e _

@@ -1,5 +1,10 @@
 -- Exchanges, messages, calls and returns keep ports at places of their type.
-use Rattle.std.proofs.Common.{◌≡◌, ℕ, zero, suc, ℤ, pos, length, Bool, true, false, cond, Option, Some, None, List, [], ◌∷◌, ◌++◌, replicate, take, refl, sym, ap, ◌∙◌, subst}
+use Rattle.std.proofs.Common.{◌≡◌, ℕ, zero, suc, ℤ, pos, negsuc, ◌≤◌, length, Bool, true, false, cond, Option, Some, None, List, [], ◌∷◌, ◌++◌, replicate, take, slice_get, Result, Ok, Err, refl, sym, ap, ◌∙◌, subst, arith}
+use Rattle.std.specs.Prelude.{nat_le}
+use Rattle.std.proofs.lemmas.Bool.Decides.{nat_tests}
+use Rattle.std.proofs.lemmas.List.{length-take-le}
+use Rattle.fm_base.specs.declared.fault.Fault.{Fault}
+use Rattle.fm_base.specs.declared.fault.Fault.TheVariants.{Subscript}
 use Rattle.fm_base.specs.declared.port.PortValue.{PortValue}
 use Rattle.fm_base.specs.Channels.{Item, Words, Ports, Message, item_ports}
 use Rattle.fm_net.specs.Typed.{AllIn}
@@ -7,7 +12,11 @@ use Rattle.fm_tree.specs.PortFields.{PortFields, FieldKind, NoFields, FieldThen,
 use Rattle.fm_tree.specs.PortReading as reading
 use Rattle.fm_tree.specs.declared.port_type.Kind.{Kind}
 use Rattle.fm_tree.specs.declared.port_type.Kind.TheVariants as kind
+use Rattle.fm_tree.specs.declared.port_type.Bound.{Bound}
+use Rattle.fm_values.specs.Trips.{natural}
 use Rattle.fm_symbols.specs.declared.names.Variable.{Variable}
+use Rattle.fm_rules.specs.PortTypes.{sizing_place}
+use Rattle.fm_mean.specs.Actions.{size_in, cut_to, cut_item, cut_items}
 use Rattle.fm_mean.specs.Names.{ProgramUnit, unset, all_unset, formal_place}
 use Rattle.fm_mean.specs.declared.place.Actual.{Actual}
 use Rattle.fm_mean.specs.declared.place.Back.{Back}
@@ -15,7 +24,8 @@ use Rattle.fm_mean.specs.declared.place.Span.{Span}
 use Rattle.fm_mean.specs.declared.place.Actual.TheVariants.{Given, Taken}
 use Rattle.fm_mean.specs.Places.{items_at, overwritten, item_written, written_from, exchanged, item_exchanged, exchange, exchange_all, taken_ports, put_port, stored, stored_all, placed_all, item_from, message_from, Returned, settled, port_back, ports_back, one_back, all_back}
 use Rattle.fm_mean.specs.Calls.{entered_one, entered_all, entered, is_input, back_place, back_for, backs_from, backs_of, nulls, null_item, is_kept, kept}
-use Rattle.fm_mean.specs.Fits.{sort_of_variable, elements_in, Types, IsBit, BitsAt, MayStand, ItemFits, ValuesFit, MessageFits, sort_at, BackFits, ArgFits, ItemsFit, PlacesFit, EntersAs, EnterFrom}
+use Rattle.fm_mean.specs.Fits.{sort_of_variable, elements_given, elements_behind, actual_length, size_told, Types, IsBit, BitsAt, MayStand, ItemFits, ValuesFit, FieldsFit, MessageFits, sort_at, BackFits, ArgFits, ItemsFit, PlacesFit, EntersAs, EnterFrom}
+use Rattle.fm_mean.proofs.Sorts.{parts}
 
 -- whatever sort the place has, the port may stand there
 abbrev pub MayStandAt : Types → List Variable → ℕ → Option PortValue → Type 0
@@ -133,14 +143,94 @@ item_from_fits types vars vs Logical n (Taken x) fits h = absurd h
 item_from_fits types vars vs (In t) n (Taken x) fits h = let on = taken_fits types vars vs x fits in (on.0, (taken_length vs x ∙ h.1, all_at types vars x.variable (In t) h.0 (taken_ports vs x).1 on.1))
 item_from_fits types vars vs (Out t) n (Taken x) fits h = let on = taken_fits types vars vs x fits in (on.0, (taken_length vs x ∙ h.1, all_at types vars x.variable (Out t) h.0 (taken_ports vs x).1 on.1))
 
-pub message_fits : (types : Types) (vars : List Variable) (vs : List Item) (t : PortFields) (args : List Actual) → ValuesFit types vars vs → ItemsFit vars t args → ValuesFit types vars (message_from vs args).0 × MessageFits types t (message_from vs args).1
-message_fits types vars vs NoFields [] fits h = (fits, tt)
-message_fits types vars vs NoFields (a ∷ more) fits h = absurd h
-message_fits types vars vs (FieldThen s r n rest) [] fits h = absurd h
-message_fits types vars vs (FieldThen s r n rest) (a ∷ more) fits h =
-    let one = item_from_fits types vars vs s (elements_in n) a fits h.0 in
-    let others = message_fits types vars (item_from vs a).0 rest more one.0 h.1 in
-    (others.0, (one.1, others.1))
+-- ---- items that are cut
+
+the_actual : (a b : Actual) → ◌≡◌ {A = Result Actual Fault} (Ok a) (Ok b) → a ≡ b
+the_actual a b e = cc
+
+pub the_actuals : (a b : List Actual) → ◌≡◌ {A = Result (List Actual) Fault} (Ok a) (Ok b) → a ≡ b
+the_actuals a b e = cc
+
+-- what is as long as it has to be
+pub chosen : {A : Type 0} (b : Bool) (a i : A) → ◌≡◌ {A = Result A Fault} (cond b (Ok a) (Err Subscript)) (Ok i) → (b ≡ true) × (a ≡ i)
+chosen true a i e = (refl, cc e)
+chosen false a i e = absurd (cc e)
+
+pub enough : (n k : ℕ) → nat_le n k ≡ true → n ≤ k
+enough n k e = grind (arith, nat_tests)
+
+first_bits : (n : ℕ) (ws : List ℤ) → AllIn IsBit ws → AllIn IsBit (take n ws)
+first_bits zero ws all = tt
+first_bits (suc n) [] all = tt
+first_bits (suc n) (w ∷ ws) all = (all.0, first_bits n ws all.1)
+
+-- an item that is cut fits with as many elements
+cut_fits : (vars : List Variable) (s : FieldKind) (m : ℕ) (z : ℤ) (a i : Actual) → ArgFits vars s m a → cut_to z a ≡ Ok i → ArgFits vars s (natural z) i
+cut_fits vars Integer m (pos n) (Given ws back) i h e =
+    let c = chosen (nat_le n (length ws)) (Given (take n ws) back) i e in
+    subst (ArgFits vars Integer n) c.1 (length-take-le n ws (enough n (length ws) c.0))
+cut_fits vars Logical m (pos n) (Given ws back) i h e =
+    let c = chosen (nat_le n (length ws)) (Given (take n ws) back) i e in
+    subst (ArgFits vars Logical n) c.1 (length-take-le n ws (enough n (length ws) c.0), first_bits n ws h.1)
+cut_fits vars (In t) m (pos n) (Taken x) i h e =
+    let c = chosen (nat_le n x.count) (Taken (record x { count = n })) i e in
+    subst (ArgFits vars (In t) n) c.1 (h.0, refl)
+cut_fits vars (Out t) m (pos n) (Taken x) i h e =
+    let c = chosen (nat_le n x.count) (Taken (record x { count = n })) i e in
+    subst (ArgFits vars (Out t) n) c.1 (h.0, refl)
+cut_fits vars (In t) m (pos n) (Given ws back) i h e = absurd h
+cut_fits vars (Out t) m (pos n) (Given ws back) i h e = absurd h
+cut_fits vars Integer m (pos n) (Taken x) i h e = absurd h
+cut_fits vars Logical m (pos n) (Taken x) i h e = absurd h
+cut_fits vars s m (negsuc n) a i h e = absurd (cc e)
+
+-- earlier items as they were evaluated, and as they are in the message: each says the same size
+abbrev TellSizes : List Actual → Message → Type 0
+TellSizes [] [] = Unit {0}
+TellSizes [] (m ∷ ms) = ⊥
+TellSizes (a ∷ more) [] = ⊥
+TellSizes (a ∷ more) (m ∷ ms) = (natural (size_in (Some a)) ≡ size_told (Some m)) × TellSizes more ms
+
+size_at : (before : List Actual) (told : Message) (place : ℕ) → TellSizes before told → natural (size_in (slice_get before place)) ≡ size_told (slice_get told place)
+size_at [] [] place h = refl
+size_at [] (m ∷ ms) place h = absurd h
+size_at (a ∷ more) [] place h = absurd h
+size_at (a ∷ more) (m ∷ ms) zero h = h.0
+size_at (a ∷ more) (m ∷ ms) (suc place) h = size_at more ms place h.1
+
+one_more : (before : List Actual) (told : Message) (a : Actual) (m : Item) → TellSizes before told → natural (size_in (Some a)) ≡ size_told (Some m) → TellSizes (before ++ a ∷ []) (told ++ m ∷ [])
+one_more [] [] a m h e = (e, tt)
+one_more [] (k ∷ ks) a m h e = absurd h
+one_more (b ∷ more) [] a m h e = absurd h
+one_more (b ∷ more) (k ∷ ks) a m h e = (h.0, one_more more ks a m h.1 e)
+
+size_kept : (vs : List Item) (a : Actual) → natural (size_in (Some a)) ≡ size_told (Some (item_from vs a).1)
+size_kept vs (Given ws back) = refl
+size_kept vs (Taken x) = refl
+
+-- an item behind others fits with as many elements as its field has there
+item_cut_fits : (vars : List Variable) (s : FieldKind) (size : Option ℕ) (n : List Bound) (a i : Actual) (before : List Actual) (told : Message) → TellSizes before told
+    → ArgFits vars s (elements_given size n a) a → cut_item before size a ≡ Ok i → ArgFits vars s (elements_behind told size n) i
+item_cut_fits vars s None n a i before told sizes h e = subst (ArgFits vars s (elements_behind told None n)) (the_actual a i e) h
+item_cut_fits vars s (Some place) n a i before told sizes h e =
+    subst (λ k. ArgFits vars s k i) (size_at before told place sizes) (cut_fits vars s (actual_length a) (size_in (slice_get before place)) a i h e)
+
+message_behind : (types : Types) (vars : List Variable) (vs : List Item) (before : List Actual) (told : Message) (t : PortFields) (args cut : List Actual) → TellSizes before told → ValuesFit types vars vs → ItemsFit vars t args
+    → cut_items before t args ≡ Ok cut → ValuesFit types vars (message_from vs cut).0 × FieldsFit types told t (message_from vs cut).1
+message_behind types vars vs before told NoFields [] cut sizes fits h e = subst (λ (cut : List Actual). ValuesFit types vars (message_from vs cut).0 × FieldsFit types told NoFields (message_from vs cut).1) (the_actuals [] cut e) (fits, tt)
+message_behind types vars vs before told NoFields (a ∷ more) cut sizes fits h e = absurd h
+message_behind types vars vs before told (FieldThen s r n rest) [] cut sizes fits h e = absurd h
+message_behind types vars vs before told (FieldThen s r n rest) (a ∷ more) cut sizes fits h e =
+    let i = parts (cut_item before (sizing_place n) a) _ cut e in
+    let is = parts (cut_items (before ++ i.0 ∷ []) rest more) _ cut i.2 in
+    let one = item_from_fits types vars vs s (elements_behind told (sizing_place n) n) i.0 fits (item_cut_fits vars s (sizing_place n) n a i.0 before told sizes h.0 i.1) in
+    let next = (item_from vs i.0).1 in
+    let others = message_behind types vars (item_from vs i.0).0 (before ++ i.0 ∷ []) (told ++ next ∷ []) rest more is.0 (one_more before told i.0 next sizes (size_kept vs i.0)) one.0 h.1 is.1 in
+    subst (λ (cut : List Actual). ValuesFit types vars (message_from vs cut).0 × FieldsFit types told (FieldThen s r n rest) (message_from vs cut).1) (the_actuals (i.0 ∷ is.0) cut is.2) (others.0, (one.1, others.1))
+
+pub message_fits : (types : Types) (vars : List Variable) (vs : List Item) (t : PortFields) (args cut : List Actual) → ValuesFit types vars vs → ItemsFit vars t args → cut_items [] t args ≡ Ok cut
+    → ValuesFit types vars (message_from vs cut).0 × MessageFits types t (message_from vs cut).1
+message_fits types vars vs t args cut fits h e = message_behind types vars vs [] [] t args cut tt fits h e
 
 stored_fits : (types : Types) (vars : List Variable) (vs : List Item) (x : Span) (s : FieldKind) (n : ℕ) (m : Item) → ValuesFit types vars vs → sort_at vars x.variable ≡ Some s → ItemFits types s n m → ValuesFit types vars (stored vs x m).0
 stored_fits types vars vs x Integer n (Words ns) fits is h = written_fits types vars vs x.variable x.first ns (λ e. absurd (cc (the_sort Integer Logical (sym is ∙ e)))) fits
@@ -152,12 +242,16 @@ stored_fits types vars vs x Logical n (Ports ps) fits is h = absurd h
 stored_fits types vars vs x (In t) n (Ports ps) fits is h = (exchange_all_fits types vars vs x.variable x.first ps fits (at_all types vars x.variable (In t) is ps h.1)).0
 stored_fits types vars vs x (Out t) n (Ports ps) fits is h = (exchange_all_fits types vars vs x.variable x.first ps fits (at_all types vars x.variable (Out t) is ps h.1)).0
 
+stored_behind : (types : Types) (vars : List Variable) (vs : List Item) (told : Message) (t : PortFields) (xs : List Span) (m : Message) → ValuesFit types vars vs → PlacesFit vars t xs → FieldsFit types told t m → ValuesFit types vars (stored_all vs xs m).0
+stored_behind types vars vs told t [] [] fits h g = fits
+stored_behind types vars vs told t (x ∷ xs) [] fits h g = fits
+stored_behind types vars vs told t [] (m ∷ ms) fits h g = fits
+stored_behind types vars vs told NoFields (x ∷ xs) (m ∷ ms) fits h g = absurd g
+stored_behind types vars vs told (FieldThen s r n rest) (x ∷ xs) (m ∷ ms) fits h g =
+    stored_behind types vars (stored vs x m).0 (told ++ m ∷ []) rest xs ms (stored_fits types vars vs x s (elements_behind told (sizing_place n) n) m fits h.0 g.0) h.1 g.1
+
 pub stored_all_fits : (types : Types) (vars : List Variable) (vs : List Item) (t : PortFields) (xs : List Span) (m : Message) → ValuesFit types vars vs → PlacesFit vars t xs → MessageFits types t m → ValuesFit types vars (stored_all vs xs m).0
-stored_all_fits types vars vs t [] [] fits h g = fits
-stored_all_fits types vars vs t (x ∷ xs) [] fits h g = fits
-stored_all_fits types vars vs t [] (m ∷ ms) fits h g = fits
-stored_all_fits types vars vs NoFields (x ∷ xs) (m ∷ ms) fits h g = absurd g
-stored_all_fits types vars vs (FieldThen s r n rest) (x ∷ xs) (m ∷ ms) fits h g = stored_all_fits types vars (stored vs x m).0 rest xs ms (stored_fits types vars vs x s (elements_in n) m fits h.0 g.0) h.1 g.1
+stored_all_fits types vars vs t xs m fits h g = stored_behind types vars vs [] t xs m fits h g
 
 -- the ports that were made may stand at their places
 abbrev pub MayBePlaced : Types → List Variable → List Span → List PortValue → Type 0

@@ -1,5 +1,5 @@
 -- The items of a message that fit its fields by the rules fit them in the meaning.
-use Rattle.std.proofs.Common.{◌≡◌, ℕ, pos, Bool, true, false, ◌||◌, not, Option, Some, None, List, [], ◌∷◌, ◌++◌, map, slice_get, refl, sym, ap, ◌∙◌}
+use Rattle.std.proofs.Common.{◌≡◌, ℕ, pos, Bool, true, false, ◌||◌, not, Option, Some, None, List, [], ◌∷◌, ◌++◌, map, slice_get, is_some, refl, sym, ap, ◌∙◌, subst}
 use Rattle.std.specs.Cmp.{first_so, second_so}
 use Rattle.std.specs.List.{flat_map, list_any}
 use Rattle.std.specs.Option.{option_eq}
@@ -27,13 +27,14 @@ use Rattle.fm_rules.specs.Expressions.{judged}
 use Rattle.fm_rules.specs.VariableTypes.{target_judged, variable_judged}
 use Rattle.fm_rules.specs.TypeStatements.{in_any}
 use Rattle.fm_rules.specs.JudgedStatements as ports
-use Rattle.fm_rules.specs.PortFitting.{goes, is_port_to, lacks_port, lacks_ports, message_in, message_of, port_variable, messages_differ, ports_differ, is_one_port, is_scalar_kind, is_scalar, number_in, has_elements, is_kind_of, is_array_in, fits_field, fit_fields}
+use Rattle.fm_rules.specs.PortFitting.{goes, is_port_to, lacks_port, lacks_ports, message_in, message_of, port_variable, messages_differ, ports_differ, is_one_port, is_scalar_kind, is_scalar, number_in, has_elements, has_room, is_kind_of, is_array_in, fits_field, fit_fields}
+use Rattle.fm_rules.specs.PortTypes.{sizing_place}
 use Rattle.fm_net.specs.Typed.{AllIn}
 use Rattle.fm_mean.specs.Names.{ProgramUnit}
 use Rattle.fm_mean.specs.Evaluate.{Scope}
 use Rattle.fm_mean.specs.Fits.{sort_of_variable, upper_in, elements_in}
 use Rattle.fm_mean.specs.Typing.{sort_of, VarsFit}
-use Rattle.fm_mean.specs.ValueTypes.{arg_type, ItemsAreOf}
+use Rattle.fm_mean.specs.ValueTypes.{arg_type, ItemIsOf, ItemsAreOf}
 use Rattle.fm_mean.proofs.NamedTypes.{field_kind}
 use Rattle.fm_mean.proofs.Unflagged.{IsUnflagged, left_unflagged, right_unflagged}
 use Rattle.fm_mean.proofs.JudgedArguments.{ArgIs}
@@ -142,24 +143,37 @@ array_there (Some w) v bs is e = so_many w.words bs e ∙ ap (λ (x : Variable).
     the_variable : (a b : Variable) → Some a ≡ Some b → a ≡ b
     the_variable a b e = cc
 
-pub item_fits : (u : ProgramUnit) (t : ExprType) (o : Option Pair) (k : FieldKind) (bs : List Bound) → ArgIs u t o → (t ≡ Nothing → ⊥) → fits_field u.names t k bs ≡ true → o ≡ Some (k, elements_in bs)
+-- of a field's type and number of elements, or of any number where the field is sized
+abbrev pub IsPairOf : Option Pair → FieldKind → (size : Option ℕ) → List Bound → Type 0
+IsPairOf o k None bs = o ≡ Some (k, elements_in bs)
+IsPairOf o k (Some place) bs = (m : ℕ) × (o ≡ Some (k, m))
+
+is_of : (o : Option Pair) (a k : FieldKind) (m : ℕ) (size : Option ℕ) (bs : List Bound) → o ≡ Some (a, m) → a ≡ k → (size ≡ None → elements_in bs ≡ m) → IsPairOf o k size bs
+is_of o a k m None bs is same many = alike a k m (elements_in bs) o is same (sym (many refl))
+is_of o a k m (Some place) bs is same many = (m, alike a k m m o is same refl)
+
+array_room : (m : ℕ) (bs : List Bound) (size : Option ℕ) → sizing_place bs ≡ size → has_room m bs ≡ true → sizing_place bs ≡ None → elements_in bs ≡ m
+array_room m bs None is e none = so_many m bs (subst (λ (o : Option ℕ). (is_some o || has_elements m bs) ≡ true) is e)
+array_room m bs (Some place) is e none = absurd (cc (sym is ∙ none))
+
+pub item_fits : (u : ProgramUnit) (t : ExprType) (o : Option Pair) (k : FieldKind) (bs : List Bound) → ArgIs u t o → (t ≡ Nothing → ⊥) → fits_field u.names t k bs ≡ true → IsPairOf o k (sizing_place bs) bs
 item_fits u (Value q) o k bs h some e =
-    alike (field_kind q) k 1 (elements_in bs) o h (scalar_kind q k (first_so (is_scalar_kind q k) (is_scalar bs) e)) (sym (one_element bs (second_so (is_scalar_kind q k) (is_scalar bs) e)))
+    is_of o (field_kind q) k 1 (sizing_place bs) bs h (scalar_kind q k (first_so (is_scalar_kind q k) (is_scalar bs) e)) (λ none. one_element bs (second_so (is_scalar_kind q k) (is_scalar bs) e))
 item_fits u (Array q m) o k bs h some e =
-    alike (field_kind q) k m (elements_in bs) o h (scalar_kind q k (first_so (is_scalar_kind q k) (has_elements m bs) e)) (sym (so_many m bs (second_so (is_scalar_kind q k) (has_elements m bs) e)))
+    is_of o (field_kind q) k m (sizing_place bs) bs h (scalar_kind q k (first_so (is_scalar_kind q k) (has_room m bs) e)) (array_room m bs (sizing_place bs) refl (second_so (is_scalar_kind q k) (has_room m bs) e))
 item_fits u (Port j) o k bs h some e =
     let w = slice_get u.names.variables j in
-    alike (sort_of_variable h.0) k 1 (elements_in bs) o h.2 (kind_there w h.0 k h.1 (first_so (is_kind_of w k) (is_scalar bs) e)) (sym (one_element bs (second_so (is_kind_of w k) (is_scalar bs) e)))
+    is_of o (sort_of_variable h.0) k 1 (sizing_place bs) bs h.2 (kind_there w h.0 k h.1 (first_so (is_kind_of w k) (is_scalar bs) e)) (λ none. one_element bs (second_so (is_kind_of w k) (is_scalar bs) e))
 item_fits u (Ports j) o k bs h some e =
     let w = slice_get u.names.variables j in
-    alike (sort_of_variable h.0) k h.0.words (elements_in bs) o h.2 (kind_there w h.0 k h.1 (first_so (is_kind_of w k) (is_array_in w bs) e))
-    (sym (array_there w h.0 bs h.1 (second_so (is_kind_of w k) (is_array_in w bs) e)))
+    is_of o (sort_of_variable h.0) k h.0.words (sizing_place bs) bs h.2 (kind_there w h.0 k h.1 (first_so (is_kind_of w k) (is_array_in w bs) e))
+    (λ none. array_there w h.0 bs h.1 (second_so (is_kind_of w k) (is_array_in w bs) e))
 item_fits u Function o k bs h some e = absurd (cc e)
 item_fits u Nothing o k bs h some e = absurd (some refl)
 
 pub place_fits : (u : ProgramUnit) (name : List ℕ) (t : ExprType) (k : FieldKind) (bs : List Bound) → PlaceIs u name t → (t ≡ Nothing → ⊥) → fits_field u.names t k bs ≡ true → sort_of u name ≡ Some k
 place_fits u name (Value q) k bs h some e = h ∙ ap Some (scalar_kind q k (first_so (is_scalar_kind q k) (is_scalar bs) e))
-place_fits u name (Array q m) k bs h some e = h ∙ ap Some (scalar_kind q k (first_so (is_scalar_kind q k) (has_elements m bs) e))
+place_fits u name (Array q m) k bs h some e = h ∙ ap Some (scalar_kind q k (first_so (is_scalar_kind q k) (has_room m bs) e))
 place_fits u name (Port j) k bs h some e =
     let w = slice_get u.names.variables j in
     h.2 ∙ ap Some (kind_there w h.0 k h.1 (first_so (is_kind_of w k) (is_scalar bs) e))
@@ -273,6 +287,10 @@ a_port u name Function h some e = absurd (cc e)
 
 -- ---- all items
 
+item_is : (s : Scope) (k : FieldKind) (size : Option ℕ) (bs : List Bound) (t : Tree) → IsPairOf (arg_type s t) k size bs → ItemIsOf s k size bs t
+item_is s k None bs t h = h
+item_is s k (Some place) bs t h = h
+
 pub items_are : (s : Scope) (c : Context) (fields : PortFields) (ts : List Tree)
     → ((t : Tree) → IsUnflagged (judged c (scope_of s.unit.tree s.unit.names) t).flags → ArgIs s.unit (judged c (scope_of s.unit.tree s.unit.names) t).expr_type (arg_type s t))
     → AllIn (λ t. IsUnflagged (judged c (scope_of s.unit.tree s.unit.names) t).flags) ts → AllIn (λ t. (judged c (scope_of s.unit.tree s.unit.names) t).expr_type ≡ Nothing → ⊥) ts
@@ -285,7 +303,7 @@ items_are s c (FieldThen k name bs rest) (t ∷ ts) typed h some e =
     let j = (judged c (scope_of s.unit.tree s.unit.names) t).expr_type in
     let one = fits_field s.unit.names j k bs in
     let more = fit_fields s.unit.names (map (ports.type_of c (scope_of s.unit.tree s.unit.names)) ts) rest in
-    (item_fits s.unit j (arg_type s t) k bs (typed t h.0) some.0 (first_so one more e), items_are s c rest ts typed h.1 some.1 (second_so one more e))
+    (item_is s k (sizing_place bs) bs t (item_fits s.unit j (arg_type s t) k bs (typed t h.0) some.0 (first_so one more e)), items_are s c rest ts typed h.1 some.1 (second_so one more e))
 
 pub places_are : (u : ProgramUnit) (c : Context) (fields : PortFields) (vs : List Var)
     → ((v : Var) → IsUnflagged (target_judged c (scope_of u.tree u.names) v).flags → PlaceIs u v.name (variable_judged c (scope_of u.tree u.names) v).expr_type)

@@ -1,5 +1,5 @@
 -- Who joins a block finds its children there.
-use Rattle.std.proofs.Common.{◌≡◌, ℕ, suc, ◌<◌, true, Option, Some, None, List, [], ◌∷◌, map, length, refl, sym, ap, ◌∙◌, subst, arith}
+use Rattle.std.proofs.Common.{◌≡◌, ℕ, suc, ◌<◌, Bool, true, false, Option, Some, None, List, [], ◌∷◌, map, length, refl, sym, ap, ◌∙◌, subst, arith}
 use Rattle.std.proofs.lemmas.List.{length-map}
 use Rattle.std.specs.FinMap.{get}
 use Rattle.fm_base.specs.declared.path.ChanName.{ChanName}
@@ -13,6 +13,7 @@ use Rattle.fm_mean.specs.Names.{unit_at}
 use Rattle.fm_mean.specs.Process.{Start, Frame, Kid, Phase, Running, Joining, Ended, Faulted, Proc, emptied, has_ended}
 use Rattle.fm_mean.specs.Calls.{child_of}
 use Rattle.fm_mean.specs.Actions.{Event, Fail, Make, Send, Receive, Probe, Begin, Join, End, Action, Rest, Own, Meets, action_in, after_at, joining}
+use Rattle.fm_mean.specs.Steps as steps
 use Rattle.fm_mean.specs.Steps.{ask, ask_at, ask_event, ask_for, kid_of, received}
 use Rattle.fm_mean.proofs.EachStep.{EachAt, starts_there, still_there}
 
@@ -71,11 +72,16 @@ module _ (p : Program) (x : Proc) where
     came line below f next items None (Some n) None = elsewhere _ is_elsewhere tt
     came line below f next items (Some s) to None = elsewhere _ is_elsewhere tt
 
+    came_with : (line : ℕ) (below : List Frame) (f : Frame) (next : ℕ) (items : List Span) (iostat : Option Span) (to : Option ℕ) (exceeds : Bool) (m : Option Message) → BeginsSo (steps.met x line below f next items iostat to exceeds m)
+    came_with line below f next items iostat to true None = elsewhere _ tt tt
+    came_with line below f next items iostat to true (Some m) = came line below f next items iostat to (Some m)
+    came_with line below f next items iostat to false m = came line below f next items iostat to m
+
     event_begins : (below : List Frame) (f : Frame) (e : Event) → BeginsAsk (ask_at p x below f e)
     event_begins below f (Fail line fault) = λ c r. elsewhere _ tt tt
     event_begins below f (Make places n cost next) = λ c r. elsewhere _ is_elsewhere tt
     event_begins below f (Send d w items next) = λ c r. elsewhere _ is_elsewhere tt
-    event_begins below f (Receive d line items iostat to next) = λ c r. came line below f next items iostat to r.message
+    event_begins below f (Receive d line items iostat to next) = λ c r. came_with line below f next items iostat to r.exceeds r.message
     event_begins below f (Probe d place next) = λ c r. elsewhere _ is_elsewhere tt
     event_begins below f Begin = λ c r. record {
       joins = λ b kids e.

@@ -12,6 +12,7 @@ use Rattle.fm_base.specs.Channels.{Item, Message, message_ports}
 use Rattle.fm_values.specs.Values.{sum, word_of, is_true, truth_word}
 use Rattle.fm_values.specs.declared.value.Value.{Value}
 use Rattle.std.specs.Ordering.{int_eq}
+use Rattle.fm_tree.specs.PortFields.{PortFields}
 use Rattle.fm_tree.specs.Tree.{Tree, Number, Truth, Named, Ref, Paren, Signed, Not, Binary}
 use Rattle.fm_tree.specs.declared.statement.Where.{Where}
 use Rattle.fm_tree.specs.declared.statement.Simple.{Simple}
@@ -37,6 +38,7 @@ use Rattle.fm_map.specs.Placement.{Seat}
 use Rattle.fm_mean.specs.Calls.{entered, backs_of, new_frame, child_of}
 use Rattle.fm_mean.specs.Actions as action
 use Rattle.fm_mean.specs.Actions.{Event, Fail, Make, Send, Receive, Probe, Begin, Join, End, Action, Rest, Own, Meets, at_entry, behind, goes_to, gone_on, Receiving, Loop, Counted, While, NoLoop, scalar_place, action_in}
+use Rattle.fm_mean.specs.Steps as steps
 use Rattle.fm_mean.specs.Steps.{onward, with_status, jump_to, received, given_back, kid_back, kids_back, ended, ask_at, ask_event, ask_for, language}
 use Rattle.fm_mean.proofs.Exchanges.{found, within, found-none, exchange_law, written_law, stored_all_law, placed_law, message_law, port_found}
 use Rattle.fm_mean.proofs.Calling.{accounted, own, all_back_law, without_law, returned_law, entered_law, frames-cons, frame-parts, ended_law}
@@ -209,15 +211,19 @@ module _ (p : Program) (x : Proc) where
           );
     }
 
-    sent : (e : Point) (q : Span) (items : List Actual) (o : Option PortValue) → port_at f.values q ≡ o → LawOf p x (action.sent e o items)
-    sent e q items None is = fails (line_of e) NullPort
-    sent e q items (Some (Reader c)) is = fails (line_of e) NullPort
-    sent e q items (Some (Writer c w)) is = meets (Send c w items e.entry.after) (send c w q items e.entry.after is)
+    sent_items : (e : Point) (c : ChanName) (w : ℕ) (q : Span) (items : Result (List Actual) Fault) → port_at f.values q ≡ Some (Writer c w) → LawOf p x (action.sent_items e c w items)
+    sent_items e c w q (Err fault) is = fails (line_of e) fault
+    sent_items e c w q (Ok items) is = meets (Send c w items e.entry.after) (send c w q items e.entry.after is)
 
-    sends : (e : Point) (q : Result Span Fault) (items : Result (List Actual) Fault) → LawOf p x (action.sends e f q items)
-    sends e (Err fault) items = fails (line_of e) fault
-    sends e (Ok q) (Err fault) = fails (line_of e) fault
-    sends e (Ok q) (Ok items) = sent e q items (port_at f.values q) refl
+    sent : (e : Point) (fields : PortFields) (q : Span) (items : List Actual) (o : Option PortValue) → port_at f.values q ≡ o → LawOf p x (action.sent e fields o items)
+    sent e t q items None is = fails (line_of e) NullPort
+    sent e t q items (Some (Reader c)) is = fails (line_of e) NullPort
+    sent e t q items (Some (Writer c w)) is = sent_items e c w q (action.cut_items [] t items) is
+
+    sends : (e : Point) (fields : PortFields) (q : Result Span Fault) (items : Result (List Actual) Fault) → LawOf p x (action.sends e fields f q items)
+    sends e t (Err fault) items = fails (line_of e) fault
+    sends e t (Ok q) (Err fault) = fails (line_of e) fault
+    sends e t (Ok q) (Ok items) = sent e t q items (port_at f.values q) refl
 
     closed : (e : Point) (vs : List Item) (o : Option PortValue) → ((z : PortValue) → within z vs + found z o ≡ within z f.values) → LawOf p x (action.closed x.execution e f below vs o)
     closed e vs None same = fails (line_of e) NullPort
@@ -301,18 +307,23 @@ module _ (p : Program) (x : Proc) where
       account = λ z. omega (arith, top z x f below at, frames-cons z (at_entry (record f { values = with_status f.values (Some s) (negsuc 0) }) (jump_to next to)) below, status_law z f.values (Some s) (negsuc 0), count-nil z);
     }
 
+    takes_met : (line next : ℕ) (items : List Span) (iostat : Option Span) (to : Option ℕ) (exceeds : Bool) (m : Option Message) → Takes m (steps.met x line below f next items iostat to exceeds m)
+    takes_met line next items iostat to true None = record { block_is = refl; next_block = refl; next_channel = refl; starts = refl; costs = omega arith; account = λ z. omega (arith, count-nil z) }
+    takes_met line next items iostat to true (Some m) = takes line next items iostat to (Some m)
+    takes_met line next items iostat to false m = takes line next items iostat to m
+
     receive : (c : ChanName) (q : Span) → port_at f.values q ≡ Some (Reader c) → (line next : ℕ) (items : List Span) (iostat : Option Span) (to : Option ℕ) → LawAt p x below f (Receive c line items iostat to next)
     receive c q is line next items iostat to = record {
-      costs = λ d r. (takes line next items iostat to r.message).costs;
+      costs = λ d r. (takes_met line next items iostat to r.exceeds r.message).costs;
       uses = omega (arith, port_found (Reader c) f.values q is, top (Reader c) x f below at);
       numbered = tt;
-      block_is = λ d r. (takes line next items iostat to r.message).block_is;
-      later_block = λ d r. omega (arith, (takes line next items iostat to r.message).next_block);
-      passed_block = λ d r h. absurd (omega (arith, h, ap length (takes line next items iostat to r.message).starts));
-      later_channel = λ d r. omega (arith, (takes line next items iostat to r.message).next_channel);
+      block_is = λ d r. (takes_met line next items iostat to r.exceeds r.message).block_is;
+      later_block = λ d r. omega (arith, (takes_met line next items iostat to r.exceeds r.message).next_block);
+      passed_block = λ d r h. absurd (omega (arith, h, ap length (takes_met line next items iostat to r.exceeds r.message).starts));
+      later_channel = λ d r. omega (arith, (takes_met line next items iostat to r.exceeds r.message).next_channel);
       passed_channel = λ d r n k e. absurd (cc);
       account = λ d r may z.
-          omega (arith, (takes line next items iostat to r.message).account z, ap (sum_of (holding z)) (takes line next items iostat to r.message).starts, none_kept z r.children, ap (sum_of (holding z)) may.1, count-nil z);
+          omega (arith, (takes_met line next items iostat to r.exceeds r.message).account z, ap (sum_of (holding z)) (takes_met line next items iostat to r.exceeds r.message).starts, none_kept z r.children, ap (sum_of (holding z)) may.1, count-nil z);
     }
 
     receives_at : (e : Point) (r : Receiving) (o : Option PortValue) → port_at f.values r.0 ≡ o → LawOf p x (action.receives_at e r o)
@@ -493,7 +504,7 @@ module _ (p : Program) (x : Proc) where
     simple_law (simple.Write unit items) = prints f below at e _
     simple_law (simple.Channel in_first i o) = make f below at e _
     simple_law (simple.Merger i os) = merges f below at e _
-    simple_law (simple.Send named q items) = sends f below at e _ _
+    simple_law (simple.Send named q items) = sends f below at e (action.fields_at u q) _ _
     simple_law (simple.Receive named q extras items) = receives f below at e _
     simple_law (simple.EndChannel named q) = closes f below at e _
     simple_law (simple.MovePort from to) = moves f below at e _

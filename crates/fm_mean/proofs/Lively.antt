@@ -10,6 +10,7 @@ use Rattle.fm_base.specs.declared.port.PortValue.TheVariants.{Writer, Reader}
 use Rattle.fm_base.specs.Channels.{Item, Message}
 use Rattle.fm_values.specs.Values.{sum}
 use Rattle.fm_values.specs.declared.value.Value.{Value}
+use Rattle.fm_tree.specs.PortFields.{PortFields}
 use Rattle.fm_tree.specs.Tree.{Tree, Number, Truth, Named, Ref, Paren, Signed, Not, Binary}
 use Rattle.fm_tree.specs.declared.form.UnitKind.{UnitKind}
 use Rattle.fm_tree.specs.declared.form.UnitKind.TheVariants as unit_kind
@@ -44,6 +45,7 @@ use Rattle.fm_mean.specs.Evaluate.{actuals_of, refs_in_all}
 use Rattle.fm_mean.specs.Places.{message_from}
 use Rattle.fm_mean.specs.Actions.{after_at, after_in}
 use Rattle.fm_mean.specs.Steps.{jump_to, left_with, made, probed}
+use Rattle.fm_mean.specs.Steps as steps
 use Rattle.fm_mean.specs.Steps.{received, ask_at, ask_event, ask_for}
 
 abbrev pub MayGo : Phase → Type 0
@@ -163,15 +165,19 @@ module _ (p : Program) (x : Proc) (runs : x.phase ≡ Running) (all_live : AllIn
     calls e (Some v) (Err fault) h pt = fails (line_of e) fault
     calls e (Some v) (Ok args) h pt = lone _ [] _ _ ((subst (Begins p) (ap (λ (v : ℕ × ProgramUnit). v.0) (some_same h.0 v (sym h.1))) h.2, tt), (((u, is_unit, pt), top.1), rest)) tt
 
-    sent : (e : Point) (items : List Actual) (o : Option PortValue) → IsPoint u e.entry.after → PlainOf p x (action.sent e o items)
-    sent e items None pt = fails (line_of e) NullPort
-    sent e items (Some (Reader c)) pt = fails (line_of e) NullPort
-    sent e items (Some (Writer c w)) pt = meets (Send c w items e.entry.after) (record { waits = tt; goes_on = λ d r. (((((u, is_unit, pt), top.1), rest), on (left_with x below f e.entry.after (message_from f.values items)).self.execution.frames tt), tt) })
+    sent_items : (e : Point) (c : ChanName) (w : ℕ) (items : Result (List Actual) Fault) → IsPoint u e.entry.after → PlainOf p x (action.sent_items e c w items)
+    sent_items e c w (Err fault) pt = fails (line_of e) fault
+    sent_items e c w (Ok items) pt = meets (Send c w items e.entry.after) (record { waits = tt; goes_on = λ d r. (((((u, is_unit, pt), top.1), rest), on (left_with x below f e.entry.after (message_from f.values items)).self.execution.frames tt), tt) })
 
-    sends : (e : Point) (q : Result Span Fault) (items : Result (List Actual) Fault) → IsPoint u e.entry.after → PlainOf p x (action.sends e f q items)
-    sends e (Err fault) items pt = fails (line_of e) fault
-    sends e (Ok q) (Err fault) pt = fails (line_of e) fault
-    sends e (Ok q) (Ok items) pt = sent e items (port_at f.values q) pt
+    sent : (e : Point) (fields : PortFields) (items : List Actual) (o : Option PortValue) → IsPoint u e.entry.after → PlainOf p x (action.sent e fields o items)
+    sent e t items None pt = fails (line_of e) NullPort
+    sent e t items (Some (Reader c)) pt = fails (line_of e) NullPort
+    sent e t items (Some (Writer c w)) pt = sent_items e c w (action.cut_items [] t items) pt
+
+    sends : (e : Point) (fields : PortFields) (q : Result Span Fault) (items : Result (List Actual) Fault) → IsPoint u e.entry.after → PlainOf p x (action.sends e fields f q items)
+    sends e t (Err fault) items pt = fails (line_of e) fault
+    sends e t (Ok q) (Err fault) pt = fails (line_of e) fault
+    sends e t (Ok q) (Ok items) pt = sent e t items (port_at f.values q) pt
 
     closed : (e : Point) (vs : List Item) (o : Option PortValue) → IsPoint u e.entry.after → PlainOf p x (action.closed x.execution e f below vs o)
     closed e vs None pt = fails (line_of e) NullPort
@@ -204,10 +210,16 @@ module _ (p : Program) (x : Proc) (runs : x.phase ≡ Running) (all_live : AllIn
     taken line next items None (Some n) None h pt = (((((u, is_unit, h n refl), top.1), rest), on (received x line below f next items None (Some n) None).self.execution.frames tt), tt)
     taken line next items (Some s) to None h pt = (((((u, is_unit, unwrapped to next h pt), top.1), rest), on (received x line below f next items (Some s) to None).self.execution.frames tt), tt)
 
+    came : (line next : ℕ) (items : List Span) (iostat : Option Span) (to : Option ℕ) (exceeds : Bool) (m : Option Message) → JumpsTo u to → IsPoint u next
+        → IsLive p (steps.met x line below f next items iostat to exceeds m).self × AllIn (IsLive p) (steps.met x line below f next items iostat to exceeds m).starts
+    came line next items iostat to true None h pt = ((all_live, tt), tt)
+    came line next items iostat to true (Some m) h pt = taken line next items iostat to (Some m) h pt
+    came line next items iostat to false m h pt = taken line next items iostat to m h pt
+
     receives_at : (e : Point) (r : Receiving) (o : Option PortValue) → JumpsTo u e.links.jump → IsPoint u e.entry.after → PlainOf p x (action.receives_at e r o)
     receives_at e r None h pt = fails (line_of e) NullPort
     receives_at e r (Some (Writer c w)) h pt = fails (line_of e) NullPort
-    receives_at e r (Some (Reader c)) h pt = meets (Receive c (line_of e) r.2 r.1 e.links.jump e.entry.after) (record { waits = tt; goes_on = λ d y. taken (line_of e) e.entry.after r.2 r.1 e.links.jump y.message h pt })
+    receives_at e r (Some (Reader c)) h pt = meets (Receive c (line_of e) r.2 r.1 e.links.jump e.entry.after) (record { waits = tt; goes_on = λ d y. came (line_of e) e.entry.after r.2 r.1 e.links.jump y.exceeds y.message h pt })
 
     receives : (e : Point) (r : Result Receiving Fault) → JumpsTo u e.links.jump → IsPoint u e.entry.after → PlainOf p x (action.receives e f r)
     receives e (Err fault) h pt = fails (line_of e) fault
@@ -279,7 +291,7 @@ module _ (p : Program) (x : Proc) (runs : x.phase ≡ Running) (all_live : AllIn
     simple_live s (simple.Write unit items) h = prints f below at top rest u is_unit e _ h
     simple_live s (simple.Channel in_first i o) h = makes f below at top rest u is_unit e _ h
     simple_live s (simple.Merger i os) h = merges f below at top rest u is_unit e _ h
-    simple_live s (simple.Send named q items) h = sends f below at top rest u is_unit e _ _ h
+    simple_live s (simple.Send named q items) h = sends f below at top rest u is_unit e (action.fields_at u q) _ _ h
     simple_live s (simple.Receive named q extras items) h = receives f below at top rest u is_unit e _ h.0 h.1
     simple_live s (simple.EndChannel named q) h = closes f below at top rest u is_unit e _ h
     simple_live s (simple.MovePort from to) h = moves f below at top rest u is_unit e _ h

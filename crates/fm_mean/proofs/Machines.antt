@@ -21,6 +21,7 @@ use Rattle.fm_finmap.proofs.Inserts.{insert_here, insert_there}
 use Rattle.fm_values.specs.Trips.{natural}
 use Rattle.fm_values.specs.Values.{sum}
 use Rattle.fm_values.specs.declared.value.Value.{Value}
+use Rattle.fm_tree.specs.PortFields.{PortFields}
 use Rattle.fm_tree.specs.Tree.{Tree, Trees, Number, Truth, Named, Ref, Paren, Signed, Not, Binary, trees_from}
 use Rattle.fm_tree.specs.declared.form.UnitKind.{UnitKind}
 use Rattle.fm_tree.specs.declared.form.UnitKind.TheVariants as unit_kind
@@ -60,6 +61,7 @@ use Rattle.fm_mean.specs.Calls.{child_of, ended_frames}
 use Rattle.fm_mean.specs.Actions as action
 use Rattle.fm_mean.specs.Actions.{Event, Fail, Make, Send, Receive, Probe, Begin, Join, End, Action, Rest, Own, Meets, at_entry, gone_on, Receiving, Loop, Counted, While, NoLoop, scalar_place, action_in, elements_of}
 use Rattle.fm_mean.specs.Machines.{HasNodes, HasNodesOf, HasMachine, HaveMachines, main_nodes}
+use Rattle.fm_mean.specs.Steps as steps
 use Rattle.fm_mean.specs.Steps.{received, ask_at, ask_event, ask_for, main_in, main_by, nodes_of, proc_of, first_proc, first, language, step}
 use Rattle.fm_mean.proofs.JudgedPrograms.{flags_here}
 use Rattle.fm_mean.proofs.JudgedReferences.{reference_calls}
@@ -391,15 +393,19 @@ module _ (p : Program) (x : Proc) where
     calls e (Some u) (Err fault) h = fails (line_of e) fault
     calls e (Some u) (Ok args) h = lone _ [] _ _ (λ fine. ((h u refl x.execution.machine, tt), seated fine))
 
-    sent : (e : Point) (items : List Actual) (o : Option PortValue) → PutOf p x (action.sent e o items)
-    sent e items None = fails (line_of e) NullPort
-    sent e items (Some (Reader c)) = fails (line_of e) NullPort
-    sent e items (Some (Writer c w)) = meets (Send c w items e.entry.after) (record { type_made = tt; sends = λ types fine. tt; goes_on = λ types fine d r made came all. ((fine.0, seated fine), tt) })
+    sent_items : (e : Point) (c : ChanName) (w : ℕ) (items : Result (List Actual) Fault) → PutOf p x (action.sent_items e c w items)
+    sent_items e c w (Err fault) = fails (line_of e) fault
+    sent_items e c w (Ok items) = meets (Send c w items e.entry.after) (record { type_made = tt; sends = λ types fine. tt; goes_on = λ types fine d r made came all. ((fine.0, seated fine), tt) })
 
-    sends : (e : Point) (q : Result Span Fault) (items : Result (List Actual) Fault) → PutOf p x (action.sends e f q items)
-    sends e (Err fault) items = fails (line_of e) fault
-    sends e (Ok q) (Err fault) = fails (line_of e) fault
-    sends e (Ok q) (Ok items) = sent e items (port_at f.values q)
+    sent : (e : Point) (fields : PortFields) (items : List Actual) (o : Option PortValue) → PutOf p x (action.sent e fields o items)
+    sent e t items None = fails (line_of e) NullPort
+    sent e t items (Some (Reader c)) = fails (line_of e) NullPort
+    sent e t items (Some (Writer c w)) = sent_items e c w (action.cut_items [] t items)
+
+    sends : (e : Point) (fields : PortFields) (q : Result Span Fault) (items : Result (List Actual) Fault) → PutOf p x (action.sends e fields f q items)
+    sends e t (Err fault) items = fails (line_of e) fault
+    sends e t (Ok q) (Err fault) = fails (line_of e) fault
+    sends e t (Ok q) (Ok items) = sent e t items (port_at f.values q)
 
     closed : (e : Point) (vs : List Item) (o : Option PortValue) → PutOf p x (action.closed x.execution e f below vs o)
     closed e vs None = fails (line_of e) NullPort
@@ -443,11 +449,17 @@ module _ (p : Program) (x : Proc) where
     taken line next items None (Some n) None fine = ((fine.0, seated fine), tt)
     taken line next items (Some s) to None fine = ((fine.0, seated fine), tt)
 
+    came_with : (line next : ℕ) (items : List Span) (iostat : Option Span) (to : Option ℕ) (exceeds : Bool) (m : Option Message) → IsPut p x
+        → IsPut p (steps.met x line below f next items iostat to exceeds m).self × AllIn (IsPut p) (steps.met x line below f next items iostat to exceeds m).starts
+    came_with line next items iostat to true None fine = (fine, tt)
+    came_with line next items iostat to true (Some m) fine = taken line next items iostat to (Some m) fine
+    came_with line next items iostat to false m fine = taken line next items iostat to m fine
+
     receives_at : (e : Point) (r : Receiving) (o : Option PortValue) → PutOf p x (action.receives_at e r o)
     receives_at e r None = fails (line_of e) NullPort
     receives_at e r (Some (Writer c w)) = fails (line_of e) NullPort
     receives_at e r (Some (Reader c)) =
-        meets (Receive c (line_of e) r.2 r.1 e.links.jump e.entry.after) (record { type_made = tt; sends = λ types fine. tt; goes_on = λ types fine d y made came all. taken (line_of e) e.entry.after r.2 r.1 e.links.jump y.message fine })
+        meets (Receive c (line_of e) r.2 r.1 e.links.jump e.entry.after) (record { type_made = tt; sends = λ types fine. tt; goes_on = λ types fine d y made came all. came_with (line_of e) e.entry.after r.2 r.1 e.links.jump y.exceeds y.message fine })
 
     receives : (e : Point) (r : Result Receiving Fault) → PutOf p x (action.receives e f r)
     receives e (Err fault) = fails (line_of e) fault
@@ -516,7 +528,7 @@ module _ (p : Program) (x : Proc) where
     simple_put (simple.Write unit items) here = prints f below at e _
     simple_put (simple.Channel in_first i o) here = makes f below at e _
     simple_put (simple.Merger i os) here = merges f below at e _
-    simple_put (simple.Send named q items) here = sends f below at e _ _
+    simple_put (simple.Send named q items) here = sends f below at e (action.fields_at u q) _ _
     simple_put (simple.Receive named q extras items) here = receives f below at e _
     simple_put (simple.EndChannel named q) here = closes f below at e _
     simple_put (simple.MovePort from to) here = moves f below at e _

@@ -1,6 +1,6 @@
--- A message has 65,536 words at most, as its type has.
-use Rattle.std.proofs.Common.{◌≡◌, ℕ, suc, ◌+◌, ◌≤◌, Bool, true, false, cond, Option, Some, None, option_map, unwrap_or, List, [], ◌∷◌, ◌++◌, map, drop, length, replicate, slice_get, Result, Ok, refl, sym, ap, ◌∙◌, subst, arith}
-use Rattle.std.specs.Prelude.{nat_lt}
+-- A message has 65,536 words at most, as its type has, and 65,536 for each field that an earlier one sizes.
+use Rattle.std.proofs.Common.{◌≡◌, ℕ, suc, ℤ, pos, negsuc, ◌+◌, ◌*◌, ◌≤◌, Bool, true, false, cond, Option, Some, None, option_map, unwrap_or, List, [], ◌∷◌, ◌++◌, map, drop, take, length, replicate, slice_get, Result, Ok, refl, sym, ap, ◌∙◌, subst, arith}
+use Rattle.std.specs.Prelude.{nat_le, nat_lt}
 use Rattle.std.specs.FinMap.{get}
 use Rattle.std.specs.Coded.{Unit-prop, le_prop}
 use Rattle.std.proofs.lemmas.Bool.Decides.{nat_tests}
@@ -28,7 +28,6 @@ use Rattle.fm_tree.specs.declared.statement.Stmt.TheVariants as stmt
 use Rattle.fm_symbols.specs.ByName.{ByName}
 use Rattle.fm_symbols.specs.declared.names.UnitNames.{UnitNames}
 use Rattle.fm_symbols.specs.declared.names.Variable.{Variable}
-use Rattle.fm_rules.specs.Bounds.{elements}
 use Rattle.fm_rules.specs.BrokenConstants as constants
 use Rattle.fm_rules.specs.BrokenConstants.{broken_decls, broken_fields, broken_message, broken_definitions, broken_machine, broken_statement, is_long, long_message}
 use Rattle.fm_rules.specs.BrokenNames as names
@@ -38,8 +37,8 @@ use Rattle.fm_rules.specs.Declarations.{declared_twice_in}
 use Rattle.fm_rules.specs.FunctionTitles.{titles_of}
 use Rattle.fm_rules.specs.NameTypes.{types_of}
 use Rattle.fm_rules.specs.Names.{unit_names}
-use Rattle.fm_rules.specs.PortTypes as ports
-use Rattle.fm_rules.specs.PortTypes.{normal_bounds, normal_type}
+use Rattle.fm_rules.specs.PortTypes.{message_words as type_message_words, field_words, normal_bounds, normal_fields, normal_type, sizing_place, words_behind}
+use Rattle.fm_rules.specs.SizedFields.{Sizes, size_given, sized_by}
 use Rattle.fm_rules.specs.Sheets.{kind_in, kind_entries, kinds_at, kinds_from, own_kind, sheet_of}
 use Rattle.fm_rules.specs.Variables.{laid_out, variables_among, words_of}
 use Rattle.fm_rules.specs.declared.constants.Known.{Known}
@@ -54,30 +53,40 @@ use Rattle.fm_mean.specs.declared.place.Actual.TheVariants.{Given, Taken}
 use Rattle.fm_mean.specs.declared.place.Span.{Span}
 use Rattle.fm_mean.specs.Places.{exchange, exchange_all, item_from, items_at, message_from, taken_ports, words_in}
 use Rattle.fm_mean.specs.Evaluate.{Scope, Reference, Element, Call, Built, Unknown, reference_of, refs_in, value_of, numbers_of, value_alone, named_actual, ref_actual, actual_at, actual_of, actuals_of, whole, single}
-use Rattle.fm_mean.specs.Actions.{message_words}
+use Rattle.fm_mean.specs.Actions.{message_words, cut_item, cut_items, cut_to, size_in}
 use Rattle.fm_mean.specs.Fits.{sort_of_variable, elements_in}
+use Rattle.fm_mean.specs.Owed.{one_sized, sized_fields}
 use Rattle.fm_mean.specs.Typing.{sort_of}
-use Rattle.fm_mean.specs.ValueTypes.{alone, named_arg, named_type, ref_arg, ref_type, type_of, arg_type, ItemsAreOf}
+use Rattle.fm_mean.specs.ValueTypes.{alone, named_arg, named_type, ref_arg, ref_type, type_of, arg_type, ItemIsOf, ItemsAreOf}
 use Rattle.fm_mean.proofs.Arguments.{same_pair, the_actual, the_type, variable_there}
 use Rattle.fm_mean.proofs.FirstEntries.{first_entry, first_there}
+use Rattle.fm_mean.proofs.Fitting.{chosen, enough}
+use Rattle.fm_mean.proofs.Sizes as sizes
 use Rattle.fm_mean.proofs.Sizes.{all_append, in_all, parts_of, the_names}
 use Rattle.fm_mean.proofs.Sorts.{parts}
 use Rattle.fm_mean.proofs.Unbroken.{Unbroken, from_rules, left_empty, right_empty, each_empty, not_when}
 
 -- ---- the words of a type
 
+-- a field that an earlier one sizes counts none
+own_words : (size : Option ℕ) → List Bound → ℕ
+own_words None bounds = elements_in bounds
+own_words (Some place) bounds = 0
+
 type_words : PortFields → ℕ
 type_words NoFields = 0
-type_words (FieldThen k name bounds rest) = elements_in bounds + type_words rest
+type_words (FieldThen k name bounds rest) = own_words (sizing_place bounds) bounds + type_words rest
 
-bounds_words : (known : ByName Known) (at : ℕ) (bs : List Bound) → elements_in (normal_bounds known at bs) ≡ elements known at bs
-bounds_words known at [] = refl
-bounds_words known at (b ∷ bs) = refl
+bounds_words : (known : ByName Known) (at : ℕ) (size : Option ℕ) (bs : List Bound) → own_words (sizing_place (normal_bounds known at size bs)) (normal_bounds known at size bs) ≡ field_words known at size bs
+unfolding own_words
+bounds_words known at None [] = refl
+bounds_words known at None (b ∷ bs) = refl
+bounds_words known at (Some place) bs = refl
 
-normal_words : (known : ByName Known) (at : ℕ) (t : PortFields) → type_words (normal_type known at t) ≡ ports.message_words known at t
+normal_words : (known : ByName Known) (at : ℕ) (earlier : Sizes) (t : PortFields) → type_words (normal_fields known at earlier t) ≡ words_behind known at earlier t
 unfolding type_words
-normal_words known at NoFields = refl
-normal_words known at (FieldThen k name bounds rest) = omega (arith, bounds_words known at bounds, normal_words known at rest)
+normal_words known at earlier NoFields = refl
+normal_words known at earlier (FieldThen k name bounds rest) = omega (arith, bounds_words known at (sized_by earlier k bounds) bounds, normal_words known at (size_given k name bounds ∷ earlier) rest)
 
 -- a port's messages have few words
 IsSmallSort : FieldKind → Type 0
@@ -102,8 +111,8 @@ not_more n e = grind (arith, nat_tests)
 
 declared_small : (known : ByName Known) (at line : ℕ) (t : PortFields) → broken_message known at line (Some t) ≡ [] → type_words (normal_type known at t) ≤ 65536
 declared_small known at line t e =
-    let short = not_when (is_long known at t) (verdict.place line E34) (left_empty (long_message known at line t) (broken_fields known at line t) e) in
-    omega (arith, normal_words known at t, not_more (ports.message_words known at t) short)
+    let short = not_when (is_long known at t) (verdict.place line E34) (left_empty (long_message known at line t) (broken_fields known at line [] t) e) in
+    omega (arith, normal_words known at [] t, not_more (type_message_words known at t) short)
 
 kind_small : (known : ByName Known) (at line : ℕ) (s : Stmt) → broken_message known at line (port_type_in s) ≡ [] → IsSmallOf (kind_in known at s)
 unfolding kind_in port_type_in IsSmallSort
@@ -240,6 +249,61 @@ arg_size s (Ref name args) n a r m e is = go (reference_of s name) e is
     go (Built f) e' is' = one_size (ref_type (Built f)) (value_of s (Ref name args) n) r m a e' is'
     go Unknown e' is' = absurd (cc e')
 
+-- a variable has few words, and so has what has a type
+one_few : (o : Option FieldKind) (r : FieldKind) (m : ℕ) → alone o ≡ Some (r, m) → m ≤ 65536
+one_few o r m e = let t = the_type o r m e in omega (arith, t.1)
+
+VariablesAreFew : Scope → Type 0
+VariablesAreFew s = (name : List ℕ) (j : ℕ) (v : Variable) → variable_of s.unit name ≡ Some (j, v) → v.words ≤ 65536
+
+arg_few : (s : Scope) (t : Tree) (r : FieldKind) (m : ℕ) → VariablesAreFew s → arg_type s t ≡ Some (r, m) → m ≤ 65536
+unfolding VariablesAreFew
+arg_few s (Number k) r m few e = one_few (Some Integer) r m e
+arg_few s (Truth b) r m few e = one_few (Some Logical) r m e
+arg_few s (Paren t) r m few e = one_few (type_of s t) r m e
+arg_few s (Signed o t) r m few e = one_few (Some Integer) r m e
+arg_few s (Not t) r m few e = one_few (Some Logical) r m e
+arg_few s (Binary o b c) r m few e = one_few (type_of s (Binary o b c)) r m e
+arg_few s (Named name) r m few e = go (variable_of s.unit name) (few name) e
+  where
+    go : (o : Option (ℕ × Variable)) → ((j : ℕ) (v : Variable) → o ≡ Some (j, v) → v.words ≤ 65536) → named_arg s name o ≡ Some (r, m) → m ≤ 65536
+    go None small e' = one_few (named_type s name None) r m e'
+    go (Some v) small e' = let both : (sort_of_variable v.1, v.1.words) ≡ (r, m) = same_pair (sort_of_variable v.1, v.1.words) (r, m) e' in omega (arith, ap (λ (q : FieldKind × ℕ). q.1) both, small v.0 v.1 refl)
+arg_few s (Ref name args) r m few e = go (reference_of s name) e
+  where
+    go : (g : Reference) → ref_arg g ≡ Some (r, m) → m ≤ 65536
+    go (Element i v) e' = let both : (sort_of_variable v, 1) ≡ (r, m) = same_pair (sort_of_variable v, 1) (r, m) e' in omega (arith, ap (λ (q : FieldKind × ℕ). q.1) both)
+    go (Call k u) e' = one_few (ref_type (Call k u)) r m e'
+    go (Built f) e' = one_few (ref_type (Built f)) r m e'
+    go Unknown e' = absurd (cc e')
+
+larger : (m n : ℕ) (a : Actual) → m ≤ n → IsOfSize m a → IsOfSize n a
+larger m n (Given ws back) few h = omega (arith, few, h)
+larger m n (Taken x) few h = omega (arith, few, h)
+
+-- the words for a field: those of its type, or those of any item
+field_room : (size : Option ℕ) → List Bound → ℕ
+field_room size bounds = own_words size bounds + 65536 * one_sized size
+
+item_few : (s : Scope) (size : Option ℕ) (bs : List Bound) (t : Tree) (k : ℕ) (a : Actual) (r : FieldKind) → VariablesAreFew s → ItemIsOf s r size bs t → actual_of s t k ≡ Ok a → IsOfSize (field_room size bs) a
+unfolding field_room own_words
+item_few s None bs t k a r few is e = larger (elements_in bs) (elements_in bs + 65536 * 0) a (omega arith) (arg_size s t k a r (elements_in bs) is e)
+item_few s (Some place) bs t k a r few is e = larger is.0 (0 + 65536 * 1) a (omega (arith, arg_few s t r is.0 few is.1)) (arg_size s t k a r is.0 is.1 e)
+
+-- and no more when it is cut
+cut_size : (m : ℕ) (z : ℤ) (a i : Actual) → IsOfSize m a → cut_to z a ≡ Ok i → IsOfSize m i
+cut_size m (pos n) (Given ws back) i h e =
+    let c = chosen (nat_le n (length ws)) (Given (take n ws) back) i e in
+    subst (IsOfSize m) c.1 (omega (arith, length-take n ws, h))
+cut_size m (pos n) (Taken x) i h e =
+    let c = chosen (nat_le n x.count) (Taken (record x { count = n })) i e in
+    subst (IsOfSize m) c.1 (omega (arith, enough n x.count c.0, h))
+cut_size m (negsuc n) a i h e = absurd (cc e)
+
+item_cut_size : (m : ℕ) (before : List Actual) (size : Option ℕ) (a i : Actual) → IsOfSize m a → cut_item before size a ≡ Ok i → IsOfSize m i
+item_cut_size m before None a i h e = subst (IsOfSize m) (the_actual a i e) h
+item_cut_size m before (Some place) a i h e = cut_size m (size_in (slice_get before place)) a i h e
+
 -- ---- a message
 
 exchanged_all : (vs : List Item) (i k : ℕ) (ps : List (Option PortValue)) → length (exchange_all vs i k ps).1 ≡ length ps
@@ -256,19 +320,31 @@ item_size vs (Taken x) m rest h = omega (arith, h, taken_all vs x)
 the_list : (a b : List Actual) → ◌≡◌ {A = Result (List Actual) Fault} (Ok a) (Ok b) → a ≡ b
 the_list a b e = cc
 
-items_words : (s : Scope) (t : PortFields) (ts : Trees) (k : ℕ) (items : List Actual) → ItemsAreOf s t ts → actuals_of s ts k ≡ Ok items → (vs : List Item) → message_words (message_from vs items).1 ≤ type_words t
-unfolding type_words
-items_words s NoFields NoTrees k items are is vs = subst (λ (items : List Actual). message_words (message_from vs items).1 ≤ 0) (the_list [] items is) (omega arith)
-items_words s NoFields (More t ts) k items are is vs = absurd are
-items_words s (FieldThen r name bounds rest) NoTrees k items are is vs = absurd are
-items_words s (FieldThen r name bounds rest) (More t ts) k items are is vs =
+items_words : (s : Scope) (before : List Actual) (t : PortFields) (ts : Trees) (k : ℕ) (items cut : List Actual) → VariablesAreFew s → ItemsAreOf s t ts → actuals_of s ts k ≡ Ok items → cut_items before t items ≡ Ok cut
+    → (vs : List Item) → message_words (message_from vs cut).1 ≤ type_words t + 65536 * sized_fields t
+unfolding type_words field_room
+items_words s before NoFields NoTrees k items cut few are is e vs =
+    let none : items ≡ cut = the_list items cut e in
+    subst (λ (cut : List Actual). message_words (message_from vs cut).1 ≤ 0) (the_list [] items is ∙ none) (omega arith)
+items_words s before NoFields (More t ts) k items cut few are is e vs = absurd are
+items_words s before (FieldThen r name bounds rest) NoTrees k items cut few are is e vs = absurd are
+items_words s before (FieldThen r name bounds rest) (More t ts) k items cut few are is e vs =
     let a = parts (actual_of s t k) _ items is in
     let more = parts (actuals_of s ts (k + refs_in s t)) _ items a.2 in
-    let one = item_size vs a.0 (elements_in bounds) (message_from (item_from vs a.0).0 more.0).1 (arg_size s t k a.0 r (elements_in bounds) are.0 a.1) in
-    let others = items_words s rest ts (k + refs_in s t) more.0 are.1 more.1 (item_from vs a.0).0 in
-    subst (λ (items : List Actual). message_words (message_from vs items).1 ≤ elements_in bounds + type_words rest) (the_list (a.0 ∷ more.0) items more.2) (omega (arith, one, others))
+    let e' = subst (λ (items : List Actual). cut_items before (FieldThen r name bounds rest) items ≡ Ok cut) (sym (the_list (a.0 ∷ more.0) items more.2)) e in
+    let i = parts (cut_item before (sizing_place bounds) a.0) _ cut e' in
+    let js = parts (cut_items (before ++ i.0 ∷ []) rest more.0) _ cut i.2 in
+    let size = item_cut_size (field_room (sizing_place bounds) bounds) before (sizing_place bounds) a.0 i.0 (item_few s (sizing_place bounds) bounds t k a.0 r few are.0 a.1) i.1 in
+    let one = item_size vs i.0 (field_room (sizing_place bounds) bounds) (message_from (item_from vs i.0).0 js.0).1 size in
+    let others = items_words s (before ++ i.0 ∷ []) rest ts (k + refs_in s t) more.0 js.0 few are.1 more.1 js.1 (item_from vs i.0).0 in
+    subst (λ (cut : List Actual). message_words (message_from vs cut).1 ≤ (own_words (sizing_place bounds) bounds + type_words rest) + 65536 * (one_sized (sizing_place bounds) + sized_fields rest))
+    (the_list (i.0 ∷ js.0) cut js.2) (omega (arith, one, others))
+
+few_there : (p : Program) (n : ℕ) (u : ProgramUnit) (s : Scope) → unit_at p n ≡ Some u → s.unit ≡ u → VariablesAreFew s
+unfolding VariablesAreFew
+few_there p n u s is same name j v e = sizes.variable_small p n s.unit j v (is ∙ ap Some (sym same)) (variable_there s.unit name j v e)
 
 -- what is sent through an outport of a unit
-pub sent_small : (p : Program) (n : ℕ) (u : ProgramUnit) (name : List ℕ) (t : PortFields) → unit_at p n ≡ Some u → sort_of u name ≡ Some (Out t) → (s : Scope) (ts : Trees) (k : ℕ) (items : List Actual) → ItemsAreOf s t ts → actuals_of s ts k ≡ Ok items
-    → (vs : List Item) → message_words (message_from vs items).1 ≤ 65536
-sent_small p n u name t is e s ts k items are evaluated vs = omega (arith, items_words s t ts k items are evaluated vs, port_small p n u name t is e)
+pub sent_small : (p : Program) (n : ℕ) (u : ProgramUnit) (name : List ℕ) (t : PortFields) → unit_at p n ≡ Some u → sort_of u name ≡ Some (Out t) → (s : Scope) → s.unit ≡ u → (ts : Trees) (k : ℕ) (items cut : List Actual) → ItemsAreOf s t ts
+    → actuals_of s ts k ≡ Ok items → cut_items [] t items ≡ Ok cut → (vs : List Item) → message_words (message_from vs cut).1 ≤ 65536 + 65536 * sized_fields t
+sent_small p n u name t is e s same ts k items cut are evaluated cuts vs = omega (arith, items_words s [] t ts k items cut (few_there p n u s is same) are evaluated cuts vs, port_small p n u name t is e)

@@ -25,7 +25,8 @@ use Rattle.fm_mean.specs.declared.place.Span.{Span}
 use Rattle.fm_mean.specs.Names.{ProgramUnit, unit_at}
 use Rattle.fm_mean.specs.Process.{Frame, Kid, Phase, Running, Joining, Ended, Faulted, Proc, emptied, has_ended, is_ended}
 use Rattle.fm_mean.specs.Actions.{Event, Fail, Make, Send, Receive, Probe, Begin, Join, End, Action, Rest, Own, Meets, action_in, action_of, after_at, joining}
-use Rattle.fm_mean.specs.Steps.{ask, ask_at, ask_event, ask_for, first, first_proc, joined, language, main_by, main_in, proc_of, received, step}
+use Rattle.fm_mean.specs.Steps as steps
+use Rattle.fm_mean.specs.Steps.{ask, ask_at, ask_event, ask_for, first, first_proc, joined, language, limits_of, main_by, main_in, proc_of, step}
 use Rattle.fm_mean.specs.Live.{GoesOn, IsLive}
 use native.Mathlib.Decide.{ℕ_discrete}
 use Rattle.fm_mean.specs.NoStep.{AwaitsMessage, HasFaulted, HasNoStep, JoinsUnended, OthersAct, ReasonsHold, RestingHaveReasons}
@@ -374,14 +375,14 @@ module _ (p : Program) where
         event : Event
         event = Receive w.channel w.line w.items w.iostat w.at_end w.next
 
-        message : served has_ended s.procs s.chans q (net.Event w.channel (Pop [])) ≡ None
+        message : served has_ended s.procs s.chans q (net.Event w.channel (Pop (limits_of w.items))) ≡ None
         message =
-            ap (served_at {Proc = Proc} (Pop [])) w.there
-            ∙ ap (λ (b : Bool). cond b (Some (reply_at {Proc = Proc} (Pop []) w.chan)) None) (ap (λ (ms : List Message). can_pop ms w.chan.writers) w.empty ∙ ap (can_pop []) w.open_writers)
+            ap (served_at {Proc = Proc} (Pop (limits_of w.items))) w.there
+            ∙ ap (λ (b : Bool). cond b (Some (reply_at {Proc = Proc} (Pop (limits_of w.items)) w.chan)) None) (ap (λ (ms : List Message). can_pop ms w.chan.writers) w.empty ∙ ap (can_pop []) w.open_writers)
 
         go : (fs : List Frame) → x.execution.frames ≡ fs → doing (ask_event p x event fs) ≡ None
         go [] at = refl
-        go (f ∷ below) at = lacking (net.Event w.channel (Pop [])) (λ c r. received x w.line below f w.next w.items w.iostat w.at_end r.message) message
+        go (f ∷ below) at = lacking (net.Event w.channel (Pop (limits_of w.items))) (λ c r. steps.met x w.line below f w.next w.items w.iostat w.at_end r.exceeds r.message) message
 
     over_held : (phase : Phase) → x.phase ≡ phase → ask_for p x (action_in p x.execution phase) ≡ Stop → step p s q ≡ None
     over_held phase at stops = held_up Stop (asks_so x phase at ∙ stops) refl

@@ -6,7 +6,7 @@ use Rattle.fm_tree.specs.declared.statement.Var.{Var}
 use Rattle.fm_net.specs.Typed.{AllIn}
 use Rattle.fm_mean.specs.Operands.{◌>>=◌}
 use Rattle.fm_values.specs.Places.{element_place}
-use Rattle.fm_tree.specs.PortFields.{PortFields, FieldKind, NoFields, FieldThen}
+use Rattle.fm_tree.specs.PortFields.{PortFields, FieldKind, NoFields, FieldThen, Out}
 use Rattle.fm_symbols.specs.Context.{symbols_of, unit_numbers, symbol_place}
 use Rattle.std.specs.FinMap.{get}
 use Rattle.fm_symbols.specs.declared.names.Variable.{Variable}
@@ -14,7 +14,7 @@ use Rattle.fm_rules.specs.declared.program.Program.{Program}
 use Rattle.fm_mean.specs.Names.{ProgramUnit, unit_at, numbered, unit_named, variable_at, variable_of}
 use Rattle.fm_mean.specs.declared.place.Span.{Span}
 use Rattle.fm_mean.specs.Evaluate.{Scope, whole, single, spans_by, place_of, places_of, numbers_of, refs_in_var}
-use Rattle.fm_mean.specs.Actions.{scalar_place}
+use Rattle.fm_mean.specs.Actions.{scalar_place, fields_by, fields_in, fields_at}
 use Rattle.fm_mean.specs.Fits.{sort_of_variable, sort_at, PlacesFit}
 use Rattle.fm_mean.specs.Typing.{sort_of, VarsFit}
 
@@ -102,3 +102,17 @@ loop_sort_by u (Some v) r known is = known v.0 v.1 refl ∙ is
 -- the variable of a loop
 pub loop_sort : (u : ProgramUnit) (name : List ℕ) (r : FieldKind) → sort_of u name ≡ Some r → sort_at u.names.variables (scalar_place (variable_of u name)).variable ≡ Some r
 loop_sort u name r is = loop_sort_by u (variable_of u name) r (λ j v h. variable_sort u name j v h) is
+
+-- the fields of an outport's messages
+pub fields_of_outport : (u : ProgramUnit) (q : Var) (t : PortFields) → sort_of u q.name ≡ Some (Out t) → fields_at u q ≡ t
+fields_of_outport u q t is = by_variable (variable_of u q.name) is
+  where
+    by_sort : (k : FieldKind) → Some k ≡ Some (Out t) → fields_by k ≡ t
+    by_sort k e = ap fields_by (the_sort k (Out t) e)
+      where
+        the_sort : (a b : FieldKind) → Some a ≡ Some b → a ≡ b
+        the_sort a b e = cc
+
+    by_variable : (o : Option (ℕ × Variable)) → option_map (λ v. (sort_of_variable v.1)) o ≡ Some (Out t) → fields_in o ≡ t
+    by_variable None e = absurd (cc e)
+    by_variable (Some v) e = by_sort (sort_of_variable v.1) e

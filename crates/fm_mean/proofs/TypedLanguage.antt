@@ -41,12 +41,13 @@ use Rattle.fm_map.specs.Placement.{Seat, fitted}
 use Rattle.fm_mean.specs.Calls.{entered, backs_of, new_frame, child_of, variables_in, ended_frames}
 use Rattle.fm_mean.specs.Actions as action
 use Rattle.fm_mean.specs.Actions.{Event, Fail, Make, Send, Receive, Probe, Begin, Join, End, Action, Rest, Own, Meets, at_entry, behind, goes_to, gone_on, Receiving, Loop, Counted, While, NoLoop, scalar_place, action_in, scope_of, next_reference, elements_from, elements_of}
+use Rattle.fm_mean.specs.Steps as steps
 use Rattle.fm_mean.specs.Steps.{made, with_status, jump_to, received, kid_of, given_back, kid_back, kids_back, ask_at, ask_event, ask_for, language}
 use Rattle.fm_mean.specs.Fits.{sort_of_variable, IsBit, BitsAt, Types, PortFits, MayStand, ItemFits, ValuesFit, MessageFits, Fits, sort_at, BackFits, variables_of, StartFits, FrameFits, FramesFit, KidFits, KidsFit, PhaseFits, IsFine, ItemsFit, PlacesFit, EnterFrom}
 use Rattle.fm_tree.specs.declared.statement.Extra.TheVariants as extra
 use Rattle.fm_mean.specs.Typing.{IsScope, ValueFits, ExtraFits, LoopFits, sort_of, VarsFit, ArgumentsFit, ReferenceFits, IsTypedSimple, IsTypedStatement, IsTypedReference, IsTypedEntry, IsTypedProgram}
 use Rattle.fm_mean.proofs.Fitting.{MayStandAt, null_stands, exchange_fits, written_fits, message_fits, stored_all_fits, MayBePlaced, placed_fits, BothFit, all_back_fits, entered_fits, backs_fit, kept_fits}
-use Rattle.fm_mean.proofs.Sorts.{loop_sort, parts, place_sort, places_fit, places_sorts, named_at}
+use Rattle.fm_mean.proofs.Sorts.{fields_of_outport, loop_sort, parts, place_sort, places_fit, places_sorts, named_at}
 use Rattle.fm_mean.proofs.Agreeing.{message_agrees, frames_agree}
 use Rattle.fm_mean.proofs.Determined.{reference_is, point_entry}
 
@@ -312,28 +313,33 @@ module _ (p : Program) (x : Proc) where
 
     -- ---- ports
 
-    send : (q : Span) (t : PortFields) (items : List Actual) (c : ChanName) (w n : ℕ) → sort_at vars q.variable ≡ Some (Out t) → ((types : Types) → ValuesFit types vars f.values → ItemsFit vars t items) → port_at f.values q ≡ Some (Writer c w)
-        → IsTypedAsk (language p) (IsFine p) Fits x (ask_at p x below f (Send c w items n))
-    send q t items c w n sort fits is = record {
+    send : (q : Span) (t : PortFields) (items cut : List Actual) (c : ChanName) (w n : ℕ) → action.cut_items [] t items ≡ Ok cut → sort_at vars q.variable ≡ Some (Out t) → ((types : Types) → ValuesFit types vars f.values → ItemsFit vars t items)
+        → port_at f.values q ≡ Some (Writer c w) → IsTypedAsk (language p) (IsFine p) Fits x (ask_at p x below f (Send c w cut n))
+    send q t items cut c w n cuts sort fits is = record {
       type_made = NoFields;
       sends = λ types fine.
           let h = top types fine in
           let at_c : types c ≡ t = found_stands types vars f.values q (Some (Writer c w)) h.0 is (Out t) sort in
-          subst (λ k. MessageFits types k (message_from f.values items).1) (sym at_c) (message_fits types vars f.values t items h.0 (fits types h.0)).1;
+          subst (λ k. MessageFits types k (message_from f.values cut).1) (sym at_c) (message_fits types vars f.values t items cut h.0 (fits types h.0) cuts).1;
       goes_on = λ types fine c r made came all.
           let h = top types fine in
-          let g : Frame = at_entry (record f { values = (message_from f.values items).0 }) n in
-          ((top_is types fine g refl refl (message_fits types vars f.values t items h.0 (fits types h.0)).0 h.1, phase (g ∷ below)), tt);
+          let g : Frame = at_entry (record f { values = (message_from f.values cut).0 }) n in
+          ((top_is types fine g refl refl (message_fits types vars f.values t items cut h.0 (fits types h.0) cuts).0 h.1, phase (g ∷ below)), tt);
     }
 
+    sent_items : (e : Point) (q : Span) (t : PortFields) (items : List Actual) (c : ChanName) (w : ℕ) (cut : Result (List Actual) Fault) → action.cut_items [] t items ≡ cut → sort_at vars q.variable ≡ Some (Out t)
+        → ((types : Types) → ValuesFit types vars f.values → ItemsFit vars t items) → port_at f.values q ≡ Some (Writer c w) → TypedOf p x (action.sent_items e c w cut)
+    sent_items e q t items c w (Err fault) cuts sort fits is = fails (line_of e) fault
+    sent_items e q t items c w (Ok cut) cuts sort fits is = meets (Send c w cut e.entry.after) (send q t items cut c w e.entry.after cuts sort fits is)
+
     sent : (e : Point) (q : Span) (t : PortFields) (items : List Actual) (o : Option PortValue) → sort_at vars q.variable ≡ Some (Out t) → ((types : Types) → ValuesFit types vars f.values → ItemsFit vars t items) → port_at f.values q ≡ o
-        → TypedOf p x (action.sent e o items)
+        → TypedOf p x (action.sent e t o items)
     sent e q t items None sort fits is = fails (line_of e) NullPort
     sent e q t items (Some (Reader c)) sort fits is = fails (line_of e) NullPort
-    sent e q t items (Some (Writer c w)) sort fits is = meets (Send c w items e.entry.after) (send q t items c w e.entry.after sort fits is)
+    sent e q t items (Some (Writer c w)) sort fits is = sent_items e q t items c w (action.cut_items [] t items) refl sort fits is
 
     sends : (e : Point) (q : Result Span Fault) (items : Result (List Actual) Fault) (t : PortFields) → ((y : Span) → q ≡ Ok y → sort_at vars y.variable ≡ Some (Out t))
-        → ((as' : List Actual) → items ≡ Ok as' → (types : Types) → ValuesFit types vars f.values → ItemsFit vars t as') → TypedOf p x (action.sends e f q items)
+        → ((as' : List Actual) → items ≡ Ok as' → (types : Types) → ValuesFit types vars f.values → ItemsFit vars t as') → TypedOf p x (action.sends e t f q items)
     sends e (Err fault) items t sort fits = fails (line_of e) fault
     sends e (Ok q) (Err fault) t sort fits = fails (line_of e) fault
     sends e (Ok q) (Ok items) t sort fits = sent e q t items (port_at f.values q) (sort q refl) (fits items refl) refl
@@ -395,6 +401,13 @@ module _ (p : Program) (x : Proc) where
         let g : Frame = at_entry (record f { values = with_status f.values (Some s) (negsuc 0) }) (jump_to next to) in
         ((top_is types fine g refl refl (status_fits types f.values (Some s) (negsuc 0) int h.0) h.1, phase (g ∷ below)), tt)
 
+    then_taken : (types : Types) (t : PortFields) (line next : ℕ) (items : List Span) (iostat : Option Span) (to : Option ℕ) (exceeds : Bool) (m : Option Message) → IsFine p types x → StatusFits iostat → PlacesFit vars t items
+        → ((k : Message) → m ≡ Some k → MessageFits types t k)
+        → IsFine p types (steps.met x line below f next items iostat to exceeds m).self × AllIn (IsFine p types) (steps.met x line below f next items iostat to exceeds m).starts
+    then_taken types t line next items iostat to true None fine int fits came = ((fine.0, tt), tt)
+    then_taken types t line next items iostat to true (Some m) fine int fits came = taken types t line next items iostat to (Some m) fine int fits came
+    then_taken types t line next items iostat to false m fine int fits came = taken types t line next items iostat to m fine int fits came
+
     receive : (c : ChanName) (line : ℕ) (r : Receiving) (t : PortFields) (to : Option ℕ) (next : ℕ) → sort_at vars r.0.variable ≡ Some (In t) → PlacesFit vars t r.2 → StatusFits r.1 → port_at f.values r.0 ≡ Some (Reader c)
         → IsTypedAsk (language p) (IsFine p) Fits x (ask_at p x below f (Receive c line r.2 r.1 to next))
     receive c line r t to next sort fits int is = record {
@@ -402,7 +415,7 @@ module _ (p : Program) (x : Proc) where
       sends = λ types fine. tt;
       goes_on = λ types fine d y made came all.
           let at_c : types c ≡ t = found_stands types vars f.values r.0 (Some (Reader c)) (top types fine).0 is (In t) sort in
-          taken types t line next r.2 r.1 to y.message fine int fits (λ k same. subst (λ t. MessageFits types t k) at_c (came k same));
+          then_taken types t line next r.2 r.1 to y.exceeds y.message fine int fits (λ k same. subst (λ t. MessageFits types t k) at_c (came k same));
     }
 
     receives_at : (e : Point) (r : Receiving) (t : PortFields) (o : Option PortValue) → sort_at vars r.0.variable ≡ Some (In t) → PlacesFit vars t r.2 → StatusFits r.1 → port_at f.values r.0 ≡ o → TypedOf p x (action.receives_at e r o)
@@ -641,8 +654,9 @@ module _ (p : Program) (x : Proc) where
     simple_typed (simple.Channel in_first i o) h = makes f below at runs e _ h.0 (channel_sorts in_first i o h.0 h.1 h.2.0)
     simple_typed (simple.Merger i os) h = merges f below at runs e _ h.0 (merger_sorts i os h.0 h.1 h.2)
     simple_typed (simple.Send named q items) h =
-        sends f below at runs e _ _ h.0 (λ y is. sorted q 0 y (Out h.0) is h.1)
-        (λ as' is types k. subst (λ vs. ItemsFit vs h.0 as') (sym vars_are) (h.2 scope (refs_in_var scope q) as' (in_scope types k) is))
+        subst (λ (t : PortFields). TypedOf p x (action.sends e t f (place_of scope q 0) (actuals_of scope (trees_from items) (refs_in_var scope q)))) (sym (fields_of_outport u q h.0 h.1))
+        (sends f below at runs e _ _ h.0 (λ y is. sorted q 0 y (Out h.0) is h.1)
+        (λ as' is types k. subst (λ vs. ItemsFit vs h.0 as') (sym vars_are) (h.2 scope (refs_in_var scope q) as' (in_scope types k) is)))
     simple_typed (simple.Receive named q extras items) h = receives f below at runs e _ h.0 (receive_sorts q extras items h.0 h.1 h.2 h.3)
     simple_typed (simple.EndChannel named q) h = closes f below at runs e _
     simple_typed (simple.MovePort from to) h = moves f below at runs e _ (two_sorts from to h.0 h.1 h.2)

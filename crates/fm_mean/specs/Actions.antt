@@ -1,10 +1,10 @@
 -- What a process does next, with its operands evaluated: one entry, or one reference of it.
 -- Source: ANSI X3.9-1978, sections 10 to 12 and 15, MIL-STD-1753 for DO WHILE, and the Fortran M report for processes and channels; faults and costs by this profile.
-use Rattle.std.specs.Prelude.{ℕ, zero, suc, pred, ℤ, pos, ◌+◌, ◌-◌, nat_lt, Bool, true, false, cond, Option, Some, None, option_and_then, List, [], ◌∷◌, ◌++◌, length, option_to_list, slice_get, Result, Ok, Err}
+use Rattle.std.specs.Prelude.{ℕ, zero, suc, pred, ℤ, pos, negsuc, ◌+◌, ◌-◌, nat_lt, nat_le, Bool, true, false, cond, Option, Some, None, option_and_then, List, [], ◌∷◌, ◌++◌, length, take, option_to_list, slice_get, Result, Ok, Err}
 use Rattle.std.specs.FinMap as finite
 use Rattle.std.specs.Ordering.{int_eq}
 use Rattle.fm_base.specs.declared.fault.Fault.{Fault}
-use Rattle.fm_base.specs.declared.fault.Fault.TheVariants.{NullPort, ZeroDivide}
+use Rattle.fm_base.specs.declared.fault.Fault.TheVariants.{NullPort, Subscript, ZeroDivide}
 use Rattle.fm_base.specs.declared.output.Printed.{Printed}
 use Rattle.fm_base.specs.declared.path.ChanName.{ChanName}
 use Rattle.fm_base.specs.declared.port.PortValue.{PortValue}
@@ -17,6 +17,9 @@ use Rattle.fm_values.specs.Values.{sum, word_of, is_true}
 use Rattle.fm_values.specs.Trips.{trips}
 use Rattle.fm_tree.specs.Tree.{Tree, Trees, Number, Truth, Named, Ref, Paren, Signed, Not, Binary, NoTrees, trees_from}
 use Rattle.fm_tree.specs.References.{reference_at}
+use Rattle.fm_tree.specs.PortFields.{PortFields, FieldKind, NoFields, FieldThen}
+use Rattle.fm_tree.specs.PortFields as field_kind
+use Rattle.fm_tree.specs.PortReading as reading
 use Rattle.fm_tree.specs.declared.form.UnitKind.{UnitKind}
 use Rattle.fm_tree.specs.declared.form.UnitKind.TheVariants as unit_kind
 use Rattle.fm_tree.specs.declared.program_unit.Entry.{Entry}
@@ -32,13 +35,15 @@ use Rattle.fm_tree.specs.declared.statement.Simple.TheVariants as simple
 use Rattle.fm_tree.specs.declared.statement.Stmt.{Stmt}
 use Rattle.fm_tree.specs.declared.statement.Stmt.TheVariants as stmt
 use Rattle.fm_symbols.specs.declared.names.Variable.{Variable}
+use Rattle.fm_rules.specs.PortTypes.{sizing_place}
 use Rattle.fm_rules.specs.declared.program.Program.{Program}
 use Rattle.fm_mean.specs.Operands.{◌>>=◌}
 use Rattle.fm_mean.specs.Names.{ProgramUnit, Point, unit_at, unit_named, kind_of, variable_of, result_variable, point_at, line_of}
 use Rattle.fm_mean.specs.declared.place.Actual.{Actual}
+use Rattle.fm_mean.specs.declared.place.Actual.TheVariants.{Given, Taken}
 use Rattle.fm_mean.specs.declared.place.Back.{Back}
 use Rattle.fm_mean.specs.declared.place.Span.{Span}
-use Rattle.fm_mean.specs.Places.{word_at, port_at, written, put_port, emptied_place, Returned, returned}
+use Rattle.fm_mean.specs.Places.{first_word, word_at, port_at, written, put_port, emptied_place, Returned, returned}
 use Rattle.fm_mean.specs.Evaluate.{Scope, Reference, Element, Call, Built, Unknown, reference_of, refs_in, refs_in_all, refs_in_var, value_of, number_of, numbers_of, single, whole, place_of, places_of, actuals_of, printed_all}
 use Rattle.fm_mean.specs.Process.{Frame, Execution, Kid, Phase, Running, Joining, Ended, Faulted, Proc, framed, started_ports, frame_ports}
 use Rattle.fm_map.specs.Placement.{Seat, located, parted, fitted}
@@ -202,16 +207,57 @@ message_words [] = 0
 message_words (Words ws ∷ is) = length ws + message_words is
 message_words (Ports ps ∷ is) = length ps + message_words is
 
-abbrev pub sent : Point → Option PortValue → List Actual → Action
-sent e None items = fails (line_of e) NullPort
-sent e (Some (Reader c)) items = fails (line_of e) NullPort
-sent e (Some (Writer c w)) items = Meets (Send c w items e.entry.after)
+-- the number that a scalar item is
+abbrev pub size_in : Option Actual → ℤ
+size_in None = pos 0
+size_in (Some (Given ws back)) = first_word ws
+size_in (Some (Taken s)) = pos 0
 
--- the port is looked at when all items are evaluated
-abbrev pub sends : Point → Frame → Result Span Fault → Result (List Actual) Fault → Action
-sends e f (Err fault) items = fails (line_of e) fault
-sends e f (Ok q) (Err fault) = fails (line_of e) fault
-sends e f (Ok q) (Ok items) = sent e (port_at f.values q) items
+-- the first elements of an item, so many; Subscript where it has fewer
+abbrev pub cut_to : ℤ → Actual → Result Actual Fault
+cut_to (pos n) (Given ws back) = cond (nat_le n (length ws)) (Ok (Given (take n ws) back)) (Err Subscript)
+cut_to (pos n) (Taken s) = cond (nat_le n s.count) (Ok (Taken (record s { count = n }))) (Err Subscript)
+cut_to (negsuc n) a = Err Subscript
+
+-- an item as it is sent, behind others: one for a field that an earlier one sizes has as many elements as that one says
+abbrev pub cut_item : List Actual → (size : Option ℕ) → Actual → Result Actual Fault
+cut_item before None a = Ok a
+cut_item before (Some place) a = cut_to (size_in (slice_get before place)) a
+
+abbrev pub cut_items : List Actual → PortFields → List Actual → Result (List Actual) Fault
+cut_items before NoFields items = Ok items
+cut_items before (FieldThen kind name bounds rest) [] = Ok []
+cut_items before (FieldThen kind name bounds rest) (a ∷ more) =
+    cut_item before (sizing_place bounds) a >>= λ i. cut_items (before ++ i ∷ []) rest more >>= λ is. Ok (i ∷ is)
+
+abbrev pub sent_items : Point → ChanName → (writer : ℕ) → Result (List Actual) Fault → Action
+sent_items e c w (Err fault) = fails (line_of e) fault
+sent_items e c w (Ok items) = Meets (Send c w items e.entry.after)
+
+abbrev pub sent : Point → PortFields → Option PortValue → List Actual → Action
+sent e layout None items = fails (line_of e) NullPort
+sent e layout (Some (Reader c)) items = fails (line_of e) NullPort
+sent e layout (Some (Writer c w)) items = sent_items e c w (cut_items [] layout items)
+
+-- the port is looked at when all items are evaluated, and then the sizes
+abbrev pub sends : Point → PortFields → Frame → Result Span Fault → Result (List Actual) Fault → Action
+sends e layout f (Err fault) items = fails (line_of e) fault
+sends e layout f (Ok q) (Err fault) = fails (line_of e) fault
+sends e layout f (Ok q) (Ok items) = sent e layout (port_at f.values q) items
+
+-- the fields of the messages of a port
+abbrev pub fields_by : FieldKind → PortFields
+fields_by field_kind.Integer = NoFields
+fields_by field_kind.Logical = NoFields
+fields_by (field_kind.In fields) = fields
+fields_by (field_kind.Out fields) = fields
+
+abbrev pub fields_in : Option (ℕ × Variable) → PortFields
+fields_in None = NoFields
+fields_in (Some v) = fields_by (reading.kind_of v.1.kind)
+
+abbrev pub fields_at : ProgramUnit → Var → PortFields
+fields_at u v = fields_in (variable_of u v.name)
 
 -- the place of IOSTAT behind the port of a RECEIVE, with the number of references up to it
 abbrev pub iostat_of : Scope → List Extra → ℕ → Result (Option Span × ℕ) Fault
@@ -341,7 +387,7 @@ simple_action p w u e f below s (simple.Print items) = prints w e f below (print
 simple_action p w u e f below s (simple.Write unit items) = prints w e f below (printed_all s items 0)
 simple_action p w u e f below s (simple.Channel in_first i o) = makes e (channel_places s in_first i o)
 simple_action p w u e f below s (simple.Merger i os) = merges e (merger_places s i os)
-simple_action p w u e f below s (simple.Send named q items) = sends e f (place_of s q 0) (actuals_of s (trees_from items) (refs_in_var s q))
+simple_action p w u e f below s (simple.Send named q items) = sends e (fields_at u q) f (place_of s q 0) (actuals_of s (trees_from items) (refs_in_var s q))
 simple_action p w u e f below s (simple.Receive named q extras items) = receives e f (receive_places s q extras items)
 simple_action p w u e f below s (simple.EndChannel named q) = closes w e f below (place_of s q 0)
 simple_action p w u e f below s (simple.MovePort from to) = moves w e f below (two_places s from to)

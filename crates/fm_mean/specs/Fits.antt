@@ -1,6 +1,6 @@
 -- Types of channels: what variables, messages and places hold, relative to a type for each channel.
 -- Source: the Fortran M report (typed ports and channels).
-use Rattle.std.specs.Prelude.{ℤ, pos, negsuc, length, ◌≡◌, ℕ, zero, suc, Option, Some, None, List, [], ◌∷◌}
+use Rattle.std.specs.Prelude.{ℤ, pos, negsuc, length, ◌≡◌, ℕ, zero, suc, Option, Some, None, List, [], ◌∷◌, ◌++◌, slice_get}
 use Rattle.fm_base.specs.declared.path.ChanName.{ChanName}
 use Rattle.fm_base.specs.declared.port.PortValue.{PortValue}
 use Rattle.fm_base.specs.declared.port.PortValue.TheVariants.{Writer, Reader}
@@ -12,6 +12,7 @@ use Rattle.fm_tree.specs.PortReading as reading
 use Rattle.fm_tree.specs.declared.port_type.Bound.{Bound}
 use Rattle.fm_values.specs.Trips.{natural}
 use Rattle.fm_symbols.specs.declared.names.Variable.{Variable}
+use Rattle.fm_rules.specs.PortTypes.{sizing_place}
 use Rattle.fm_rules.specs.declared.program.Program.{Program}
 use Rattle.fm_mean.specs.Names.{ProgramUnit, unit_at, formal_place}
 use Rattle.fm_mean.specs.declared.place.Actual.{Actual}
@@ -20,6 +21,7 @@ use Rattle.fm_mean.specs.declared.place.Span.{Span}
 use Rattle.fm_mean.specs.declared.place.Actual.TheVariants.{Given, Taken}
 use Rattle.fm_mean.specs.Process.{Start, Frame, Kid, Phase, Running, Joining, Ended, Faulted, Proc}
 use Rattle.fm_mean.specs.Calls.{variables_in}
+use Rattle.fm_mean.specs.Places.{first_word}
 
 -- what an element of a variable is, in the words of the types of messages
 abbrev pub sort_of_variable : Variable → FieldKind
@@ -82,12 +84,28 @@ ValuesFit types [] (x ∷ xs) = ⊥
 ValuesFit types (v ∷ vs) [] = ⊥
 ValuesFit types (v ∷ vs) (x ∷ xs) = ItemFits types (sort_of_variable v) v.words x × ValuesFit types vs xs
 
+-- the number of elements that a scalar item says
+abbrev pub size_told : Option Item → ℕ
+size_told None = 0
+size_told (Some (Words ws)) = natural (first_word ws)
+size_told (Some (Ports ps)) = 0
+
+-- how many elements a field has behind these items: its number of elements, or as many as the item says that sizes it
+abbrev pub elements_behind : Message → (size : Option ℕ) → List Bound → ℕ
+elements_behind before None bounds = elements_in bounds
+elements_behind before (Some place) bounds = size_told (slice_get before place)
+
+-- one item for each field, behind these items
+abbrev pub FieldsFit : Types → Message → PortFields → Message → Type 0
+FieldsFit types before NoFields [] = Unit {0}
+FieldsFit types before NoFields (m ∷ ms) = ⊥
+FieldsFit types before (FieldThen s a n rest) [] = ⊥
+FieldsFit types before (FieldThen s a n rest) (m ∷ ms) =
+    ItemFits types s (elements_behind before (sizing_place n) n) m × FieldsFit types (before ++ m ∷ []) rest ms
+
 -- one item for each field
 abbrev pub MessageFits : Types → PortFields → Message → Type 0
-MessageFits types NoFields [] = Unit {0}
-MessageFits types NoFields (m ∷ ms) = ⊥
-MessageFits types (FieldThen s a n rest) [] = ⊥
-MessageFits types (FieldThen s a n rest) (m ∷ ms) = ItemFits types s (elements_in n) m × MessageFits types rest ms
+MessageFits types fields m = FieldsFit types [] fields m
 
 abbrev pub Fits : Types → ChanName → Message → Type 0
 Fits types c m = MessageFits types (types c) m
@@ -151,12 +169,22 @@ ArgFits vars (In t) n (Taken s) = (sort_at vars s.variable ≡ Some (In t)) × (
 ArgFits vars (Out t) n (Given ws back) = ⊥
 ArgFits vars (Out t) n (Taken s) = (sort_at vars s.variable ≡ Some (Out t)) × (s.count ≡ n)
 
+-- how many elements an item has
+abbrev pub actual_length : Actual → ℕ
+actual_length (Given ws back) = length ws
+actual_length (Taken s) = s.count
+
+-- how many elements an item has as it is evaluated: its field's number; any number where an earlier field sizes it
+abbrev pub elements_given : (size : Option ℕ) → List Bound → Actual → ℕ
+elements_given None bounds a = elements_in bounds
+elements_given (Some place) bounds a = actual_length a
+
 -- the items of a SEND fit the fields
 abbrev pub ItemsFit : List Variable → PortFields → List Actual → Type 0
 ItemsFit vars NoFields [] = Unit {0}
 ItemsFit vars NoFields (a ∷ more) = ⊥
 ItemsFit vars (FieldThen s r n rest) [] = ⊥
-ItemsFit vars (FieldThen s r n rest) (a ∷ more) = ArgFits vars s (elements_in n) a × ItemsFit vars rest more
+ItemsFit vars (FieldThen s r n rest) (a ∷ more) = ArgFits vars s (elements_given (sizing_place n) n a) a × ItemsFit vars rest more
 
 -- the places of a RECEIVE fit the fields
 abbrev pub PlacesFit : List Variable → PortFields → List Span → Type 0

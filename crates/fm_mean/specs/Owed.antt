@@ -1,13 +1,22 @@
 -- What is still to be paid for calls and process calls that were made: a turn for each child that is to start, and a turn for each
 -- word that may be copied back.
 -- Source: this profile (costs of statements).
-use Rattle.std.specs.Prelude.{◌≡◌, ◌≤◌, ◌+◌, ℕ, Some, List, [], ◌∷◌}
+use Rattle.std.specs.Prelude.{◌≡◌, ◌≤◌, ◌+◌, ◌*◌, ℕ, Bool, Option, Some, None, List, [], ◌∷◌, slice_get}
 use Rattle.std.specs.FinMap.{get}
 use Rattle.fm_base.specs.declared.path.ChanName.{ChanName}
 use Rattle.fm_base.specs.Channels.{Chan, Message}
 use Rattle.fm_net.specs.Machine.{Place, State}
 use Rattle.fm_net.specs.Typed.{AllIn}
-use Rattle.fm_mean.specs.Actions.{Fail, Make, Send, Receive, Probe, Begin, Join, End, Action, Rest, Own, Meets, message_words}
+use Rattle.fm_tree.specs.PortFields.{PortFields, NoFields, FieldThen}
+use Rattle.fm_tree.specs.Tree.{Tree}
+use Rattle.fm_tree.specs.declared.program_unit.Entry.{Entry}
+use Rattle.fm_tree.specs.declared.statement.Simple.TheVariants as simple
+use Rattle.fm_tree.specs.declared.statement.Stmt.TheVariants as stmt
+use Rattle.fm_tree.specs.declared.statement.Var.{Var}
+use Rattle.fm_rules.specs.PortTypes.{sizing_place}
+use Rattle.fm_rules.specs.declared.program.Program.{Program}
+use Rattle.fm_mean.specs.Names.{ProgramUnit, unit_at}
+use Rattle.fm_mean.specs.Actions.{Fail, Make, Send, Receive, Probe, Begin, Join, End, Action, Rest, Own, Meets, message_words, fields_at}
 use Rattle.fm_mean.specs.Calls.{back_words}
 use Rattle.fm_mean.specs.Process.{Start, Frame, Kid, Phase, Running, Joining, Ended, Faulted, Proc}
 
@@ -36,13 +45,27 @@ owed x = phase_owes x.phase + frames_owe x.execution.frames
 abbrev pub OweAtMost : ℕ → State Proc → Type 0
 OweAtMost n s = (q : Place) (x : Proc) → get s.procs q ≡ Some x → owed x ≤ n
 
--- a message that is no longer than a type may be
-abbrev pub IsShort : Message → Type 0
-IsShort m = message_words m ≤ 65536
+-- how many fields of a message an earlier one sizes
+abbrev pub one_sized : (size : Option ℕ) → ℕ
+one_sized None = 0
+one_sized (Some place) = 1
+
+abbrev pub sized_fields : PortFields → ℕ
+sized_fields NoFields = 0
+sized_fields (FieldThen kind name bounds rest) = one_sized (sizing_place bounds) + sized_fields rest
+
+-- no message that a program sends has more such fields
+abbrev pub SizesAtMost : ℕ → Program → Type 0
+SizesAtMost n p = (k : ℕ) (u : ProgramUnit) (i : ℕ) (e : Entry) (named : Bool) (q : Var) (items : List Tree) → unit_at p k ≡ Some u → slice_get u.tree.body i ≡ Some e
+    → e.stmt ≡ stmt.Simple (simple.Send named q items) → sized_fields (fields_at u q) ≤ n
+
+-- a message that is no longer than one with so many such fields may be
+abbrev pub IsShort : ℕ → Message → Type 0
+IsShort n m = message_words m ≤ 65536 + 65536 * n
 
 -- each message that waits is
-abbrev pub HaveShortMessages : State Proc → Type 0
-HaveShortMessages s = (c : ChanName) (ch : Chan) → get s.chans c ≡ Some ch → AllIn IsShort ch.queue
+abbrev pub HaveShortMessages : ℕ → State Proc → Type 0
+HaveShortMessages n s = (c : ChanName) (ch : Chan) → get s.chans c ≡ Some ch → AllIn (IsShort n) ch.queue
 
 -- a step that prints no line, and makes no merger of more than 65,536 writers
 abbrev pub IsQuiet : Action → Type 0

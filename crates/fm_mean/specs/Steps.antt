@@ -2,10 +2,10 @@
 -- Source: the Fortran M report (processes, channels, process blocks), with this profile's copying back, discarding and costs.
 use Rattle.std.specs.Prelude.{ℕ, suc, ℤ, pos, negsuc, ◌+◌, ◌==◌, Bool, true, false, Option, Some, None, List, [], ◌∷◌, ◌++◌, length, map, unwrap_or}
 use Rattle.fm_base.specs.declared.fault.Fault.{Fault}
-use Rattle.fm_base.specs.declared.fault.Fault.TheVariants.{EndOfChannel}
+use Rattle.fm_base.specs.declared.fault.Fault.TheVariants.{EndOfChannel, Subscript}
 use Rattle.fm_base.specs.declared.path.ChanName.{ChanName}
 use Rattle.fm_base.specs.declared.port.PortValue.{PortValue}
-use Rattle.fm_base.specs.Channels.{Item, Message, Push, Pop, Look}
+use Rattle.fm_base.specs.Channels.{Item, Message, Limits, Push, Pop, Look}
 use Rattle.fm_values.specs.Values.{truth_word}
 use Rattle.fm_net.specs.Lawful.{ports_from}
 use Rattle.fm_net.specs.Machine.{Place, Nothing, New, Children, Onward, Ask, Stop, Go, State, machine_step}
@@ -68,6 +68,16 @@ abbrev pub received : Proc → (line : ℕ) → List Frame → Frame → (next :
 received x line below f next items iostat to None = at_the_end x line below f next iostat to
 received x line below f next items iostat to (Some m) = came x below f next items iostat m
 
+-- a receive takes as many elements for each item as its place has
+abbrev pub limits_of : List Span → Limits
+limits_of items = map (λ s. Some s.count) items
+
+-- where none came since the first one has more, it stays, and that is a fault
+abbrev pub met : Proc → (line : ℕ) → List Frame → Frame → (next : ℕ) → List Span → Option Span → Option ℕ → (exceeds : Bool) → Option Message → Onward Proc
+met x line below f next items iostat to true None = faulted x line Subscript
+met x line below f next items iostat to true (Some m) = received x line below f next items iostat to (Some m)
+met x line below f next items iostat to false m = received x line below f next items iostat to m
+
 abbrev pub probed : Proc → List Frame → Frame → (next : ℕ) → Span → Bool → Onward Proc
 probed x below f next place waits = onward x (going_on x below f next (written f.values place (truth_word waits ∷ []))) [] [] 1
 
@@ -117,7 +127,7 @@ abbrev pub ask_at : Program → Proc → List Frame → Frame → Event → Ask 
 ask_at p x below f (Fail line fault) = Go Nothing (λ c r. faulted x line fault)
 ask_at p x below f (Make places n cost next) = Go (New x.next_channel n) (λ c r. made x below f next places n cost c)
 ask_at p x below f (Send d w items next) = Go (net.Event d (Push w (message_from f.values items).1)) (λ c r. left_with x below f next (message_from f.values items))
-ask_at p x below f (Receive d line items iostat to next) = Go (net.Event d (Pop [])) (λ c r. received x line below f next items iostat to r.message)
+ask_at p x below f (Receive d line items iostat to next) = Go (net.Event d (Pop (limits_of items))) (λ c r. met x line below f next items iostat to r.exceeds r.message)
 ask_at p x below f (Probe d place next) = Go (net.Event d Look) (λ c r. probed x below f next place r.waits)
 ask_at p x below f Begin = Go Nothing (λ c r. began x below f)
 ask_at p x below f (Join block kids next) = Go (Children block (length kids)) (λ c r. joined x below f next kids r.children)

@@ -8,9 +8,11 @@ use Rattle.fm_values.specs.declared.value.Value.{Value}
 use Rattle.fm_values.specs.declared.value.Value.TheVariants as value
 use Rattle.fm_values.specs.Operations.{is_arithmetic}
 use Rattle.fm_values.specs.Places.{size}
+use Rattle.fm_tree.specs.declared.port_type.Bound.{Bound}
 use Rattle.fm_symbols.specs.declared.names.Constant.{Constant}
 use Rattle.fm_symbols.specs.declared.names.Constant.TheVariants as constant
 use Rattle.fm_symbols.specs.declared.names.Variable.{Variable}
+use Rattle.fm_rules.specs.PortTypes.{sizing_place}
 use Rattle.fm_net.specs.Typed.{AllIn}
 use Rattle.fm_mean.specs.Names.{ProgramUnit, formal_place, variable_of, constant_of, result_variable}
 use Rattle.fm_mean.specs.Evaluate.{Scope, Reference, Element, Call, Built, Unknown, reference_of}
@@ -92,12 +94,17 @@ arg_type s (Signed o e) = Some (Integer, 1)
 arg_type s (Not e) = Some (Logical, 1)
 arg_type s (Binary o a b) = alone (type_of s (Binary o a b))
 
+-- an item is of a field's type and number of elements; any number where an earlier field sizes it
+abbrev pub ItemIsOf : Scope → FieldKind → (size : Option ℕ) → List Bound → Tree → Type 0
+ItemIsOf s r None bounds t = arg_type s t ≡ Some (r, elements_in bounds)
+ItemIsOf s r (Some place) bounds t = (m : ℕ) × (arg_type s t ≡ Some (r, m))
+
 -- items are of the types and sizes of the fields
 abbrev pub ItemsAreOf : Scope → PortFields → Trees → Type 0
 ItemsAreOf s NoFields NoTrees = Unit {0}
 ItemsAreOf s NoFields (More t ts) = ⊥
 ItemsAreOf s (FieldThen r a n rest) NoTrees = ⊥
-ItemsAreOf s (FieldThen r a n rest) (More t ts) = (arg_type s t ≡ Some (r, elements_in n)) × ItemsAreOf s rest ts
+ItemsAreOf s (FieldThen r a n rest) (More t ts) = ItemIsOf s r (sizing_place n) n t × ItemsAreOf s rest ts
 
 -- each variable has as many elements as its bounds say
 abbrev pub AreSized : List Variable → Type 0

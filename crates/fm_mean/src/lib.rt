@@ -7,7 +7,7 @@ mod outport;
 mod place;
 
 ghost use Rattle.std.specs.FinMap.{get};
-ghost use Rattle.std.specs.Prelude.{◌+◌, ◌≡◌, ◌≤◌, ℕ, Option, Some, unwrap_or, List, [], Ok, slice_get};
+ghost use Rattle.std.specs.Prelude.{◌*◌, ◌+◌, ◌≡◌, ◌≤◌, ℕ, Option, Some, unwrap_or, List, [], Ok, slice_get};
 ghost use Rattle.fm_sched.specs.Schedule.{Can, Diamond, IsEnding, IsLegal, Settles, Stays, Throughout, next, play, used};
 ghost use Rattle.fm_net.specs.Lawful.{IsLawfulLanguage};
 ghost use Rattle.fm_net.specs.Machine.{Place, State};
@@ -31,7 +31,7 @@ ghost use Rattle.fm_mean.specs.Calls.{entered};
 ghost use Rattle.fm_mean.specs.ValueTypes.{AreSized, ArgumentsAreOf};
 ghost use Rattle.fm_mean.specs.Determinism.{IsDeterministic};
 ghost use Rattle.fm_mean.specs.Fits.{Fits, IsFine, Types, ValuesFit};
-ghost use Rattle.fm_mean.specs.Owed.{HaveShortMessages, IsQuiet, OweAtMost, owed};
+ghost use Rattle.fm_mean.specs.Owed.{HaveShortMessages, IsQuiet, OweAtMost, SizesAtMost, owed};
 ghost use Rattle.fm_mean.specs.Process.{Proc};
 ghost use Rattle.fm_mean.specs.Machines.{HaveMachines};
 ghost use Rattle.fm_mean.specs.Seats.{AreOnFirstNodes};
@@ -134,17 +134,19 @@ pub fn machines_have_nodes()
     ensures { (p : Program) → Throughout (step p) (HaveMachines p) (first p) }
 {}
 
-/// Along every schedule a step that prints no line and makes no merger of more than 65,536 writers costs at most 131,074 turns
+/// Where each message that a program sends has at most so many fields that earlier ones size, along every schedule a step that
+/// prints no line and makes no merger of more than 65,536 writers costs at most 131,074 turns, and 65,536 for each such field,
 /// more than all steps before it. For what its process owes for calls and process calls, a turn for each child that is to start
-/// and for each word that may be copied back, was paid before; no message that waits has more than 65,536 words; and the cost
-/// of such a step, with what its process owes after it, is at most 131,074 turns more than what it owed. A unit has at most
-/// 65,536 words.
+/// and for each word that may be copied back, was paid before; no message that waits has more than 65,536 words, and 65,536 for
+/// each such field; and the cost of such a step, with what its process owes after it, is at most so many turns more than what it
+/// owed. A unit has at most 65,536 words.
 pub fn calls_are_paid()
-    ensures along { (p : Program) (cs : List Place) → IsLegal (step p) (first p) cs → (q : Place) (t : State Proc × ℕ) (x : Proc) → step p (play (step p) (first p) cs) q ≡ Some t
-        → get (play (step p) (first p) cs).procs q ≡ Some x → IsQuiet (action_of p x) → t.1 ≤ 131074 + used (step p) (first p) cs }
+    ensures along { (p : Program) (n : ℕ) → SizesAtMost n p → (cs : List Place) → IsLegal (step p) (first p) cs → (q : Place) (t : State Proc × ℕ) (x : Proc)
+        → step p (play (step p) (first p) cs) q ≡ Some t → get (play (step p) (first p) cs).procs q ≡ Some x → IsQuiet (action_of p x)
+        → t.1 ≤ 131074 + 65536 * n + used (step p) (first p) cs }
     ensures owed { (p : Program) (cs : List Place) → IsLegal (step p) (first p) cs → OweAtMost (used (step p) (first p) cs) (play (step p) (first p) cs) }
-    ensures short { (p : Program) → Throughout (step p) HaveShortMessages (first p) }
-    ensures quiet { (p : Program) (s : State Proc) (q : Place) (t : State Proc × ℕ) (x y : Proc) → HaveShortMessages s → step p s q ≡ Some t
-        → get s.procs q ≡ Some x → get t.0.procs q ≡ Some y → IsQuiet (action_of p x) → t.1 + owed y ≤ 131074 + owed x }
+    ensures short { (p : Program) (n : ℕ) → SizesAtMost n p → Throughout (step p) (HaveShortMessages n) (first p) }
+    ensures quiet { (p : Program) (n : ℕ) → SizesAtMost n p → (s : State Proc) (q : Place) (t : State Proc × ℕ) (x y : Proc) → HaveShortMessages n s → step p s q ≡ Some t
+        → get s.procs q ≡ Some x → get t.0.procs q ≡ Some y → IsQuiet (action_of p x) → t.1 + owed y ≤ 131074 + 65536 * n + owed x }
     ensures small { (p : Program) (n : ℕ) (u : ProgramUnit) → unit_at p n ≡ Some u → u.names.words ≤ 65536 }
 {}

@@ -1,5 +1,6 @@
 -- Fields of messages with their bounds worked out.
-use Rattle.std.proofs.Common.{◌≡◌, ℕ, ◌∷◌, [], List, ◌≤◌, length, map, take, take_all, refl, ap, ◌∙◌, None}
+use Rattle.std.proofs.Common.{◌≡◌, ℕ, ◌+◌, ◌<◌, ◌≤◌, List, [], ◌∷◌, ◌++◌, length, take, drop, get_or, append_assoc, append-nil, refl, sym, ap, ◌∙◌, None}
+use Rattle.std.proofs.lemmas.List.{drop_all}
 use Rattle.fm_tree.specs.PortFields.{PortFields, FieldKind, FieldThen}
 use Rattle.fm_tree.specs.PortReading.{kind_of, fields_of}
 use Rattle.fm_tree.specs.declared.port_type.Field.{Field}
@@ -7,7 +8,9 @@ use Rattle.fm_tree.specs.declared.port_type.Kind.{Kind}
 use Rattle.fm_tree.specs.declared.port_type.Kind.TheVariants as kind
 use Rattle.fm_symbols.specs.ByName.{ByName}
 use Rattle.fm_rules.specs.declared.constants.Known.{Known}
-use Rattle.fm_rules.specs.PortTypes.{normal_type, normal_kind, normal_field, normal_field_kind, normal_bounds}
+use Rattle.fm_rules.specs.PortTypes.{normal_type, normal_fields, normal_kind, normal_field, normal_field_kind, normal_bounds}
+use Rattle.fm_rules.specs.SizedFields.{Sizes, field_size, sized_by, sizes_of}
+use Rattle.fm_names_constants.proofs.Shapes.{front, sizes_more}
 
 normal_kinds : (known : ByName Known) (place : ℕ) (k : Kind) → kind_of (normal_field_kind known place k) ≡ normal_kind known place (kind_of k)
 normal_kinds known place kind.Integer = refl
@@ -15,16 +18,31 @@ normal_kinds known place kind.Logical = refl
 normal_kinds known place (kind.In p) = refl
 normal_kinds known place (kind.Out p) = refl
 
-pub normal_fields : (known : ByName Known) (place : ℕ) (fs : List Field) → fields_of (map (normal_field known place) fs) ≡ normal_type known place (fields_of fs)
-normal_fields known place [] = refl
-normal_fields known place (f ∷ fs) =
-    ap (λ (k : FieldKind). FieldThen k None (normal_bounds known place f.bounds) (fields_of (map (normal_field known place) fs))) (normal_kinds known place f.kind)
-    ∙ ap (FieldThen (normal_kind known place (kind_of f.kind)) None (normal_bounds known place f.bounds)) (normal_fields known place fs)
+-- the fields of a normal type, behind these
+abbrev pub normals : ByName Known → (place : ℕ) → Sizes → List Field → List Field
+normals known place earlier [] = []
+normals known place earlier (f ∷ fs) = normal_field known place earlier f ∷ normals known place (field_size f ∷ earlier) fs
 
-pub normal_whole : (known : ByName Known) (place : ℕ) (fs made : List Field) (i : ℕ) (p : PortFields) → length fs ≤ i → made ≡ map (normal_field known place) (take i fs)
-    → fields_of fs ≡ p → fields_of made ≡ normal_type known place p
+normals_type : (known : ByName Known) (place : ℕ) (earlier : Sizes) (fs : List Field) → fields_of (normals known place earlier fs) ≡ normal_fields known place earlier (fields_of fs)
+normals_type known place earlier [] = refl
+normals_type known place earlier (f ∷ fs) =
+    let bounds = normal_bounds known place (sized_by earlier (kind_of f.kind) f.bounds) f.bounds in
+    ap (λ (k : FieldKind). FieldThen k None bounds (fields_of (normals known place (field_size f ∷ earlier) fs))) (normal_kinds known place f.kind)
+    ∙ ap (FieldThen (normal_kind known place (kind_of f.kind)) None bounds) (normals_type known place (field_size f ∷ earlier) fs)
+
+-- one field more is made
+pub normals_next : (known : ByName Known) (place : ℕ) (fs made : List Field) (i : ℕ) (f : Field) → i < length fs → f ≡ get_or fs i f
+    → (made ++ normal_field known place (sizes_of (take i fs)) f ∷ []) ++ normals known place (sizes_of (take (i + 1) fs)) (drop (i + 1) fs)
+    ≡ made ++ normals known place (sizes_of (take i fs)) (drop i fs)
+normals_next known place fs made i f h e =
+    let one = normal_field known place (sizes_of (take i fs)) f in
+    append_assoc made (one ∷ []) (normals known place (sizes_of (take (i + 1) fs)) (drop (i + 1) fs))
+    ∙ ap (λ s. made ++ one ∷ normals known place s (drop (i + 1) fs)) (sizes_more fs i f h e)
+    ∙ sym (ap (λ l. made ++ normals known place (sizes_of (take i fs)) l) (front fs i f h e))
+
+pub normal_whole : (known : ByName Known) (place : ℕ) (fs made : List Field) (i : ℕ) (p : PortFields) → length fs ≤ i
+    → made ++ normals known place (sizes_of (take i fs)) (drop i fs) ≡ normals known place [] fs → fields_of fs ≡ p → fields_of made ≡ normal_type known place p
 normal_whole known place fs made i p h e q =
-    ap fields_of e
-    ∙ ap (λ l. fields_of (map (normal_field known place) l)) (take_all i fs h)
-    ∙ normal_fields known place fs
+    ap fields_of (sym (append-nil made) ∙ sym (ap (λ l. made ++ normals known place (sizes_of (take i fs)) l) (drop_all i fs h)) ∙ e)
+    ∙ normals_type known place [] fs
     ∙ ap (normal_type known place) q

@@ -1,9 +1,9 @@
 -- Shapes that are worked out dimension by dimension, and words that are added field by field.
-use Rattle.std.proofs.Common.{◌≡◌, ℕ, zero, suc, ◌+◌, ◌*◌, ◌<◌, ◌≤◌, Bool, true, false, ◌&&◌, ◌||◌, Option, Some, None, List, [], ◌∷◌, ◌++◌, length, is_some, refl, sym, ap, ◌∙◌, arith, ℤ, ⊎_elim, append_assoc, map, drop, get_or, add-one, drop-cons}
-use Rattle.std.proofs.lemmas.List.{length-map}
+use Rattle.std.proofs.Common.{◌≡◌, ℕ, zero, suc, ◌+◌, ◌*◌, ◌<◌, ◌≤◌, Bool, true, false, ◌&&◌, ◌||◌, Option, Some, None, List, [], ◌∷◌, ◌++◌, length, is_some, refl, sym, ap, ◌∙◌, arith, ℤ, ⊎_elim, append_assoc, map, take, drop, get_or, add-one, drop-cons}
+use Rattle.std.proofs.lemmas.List.{length-map, map-append, reverse-append, take_more}
 use Rattle.std.specs.List.{list_any}
 use Rattle.std.specs.Option.{option_map}
-use Rattle.std.specs.Prelude.{nat_lt}
+use Rattle.std.specs.Prelude.{nat_lt, reverse}
 use Rattle.std.proofs.lemmas.Bool.{cases_lt}
 use Rattle.std.proofs.lemmas.Bool.Decides.{nat_tests}
 use Rattle.fm_values.specs.Places.{Bounds, extent, size}
@@ -13,9 +13,11 @@ use Rattle.fm_tree.specs.declared.port_type.Field.{Field}
 use Rattle.fm_symbols.specs.ByName.{ByName}
 use Rattle.fm_rules.specs.declared.constants.Shape.{Shape}
 use Rattle.fm_rules.specs.declared.constants.Known.{Known}
-use Rattle.fm_rules.specs.Bounds.{Dimension, all_known, then_known, is_inverted, count, held, node_count, shape_by, elements}
-use Rattle.fm_rules.specs.PortTypes.{message_words}
+use Rattle.fm_rules.specs.Bounds.{Dimension, all_known, then_known, is_inverted, count, held, node_count, shape_by}
+use Rattle.fm_rules.specs.PortTypes.{words_behind, message_words}
+use Rattle.fm_rules.specs.SizedFields.{Sizes, field_size, sizes_of}
 use Rattle.fm_names_constants.specs.Shapes.{shape_start, shape_with}
+use Rattle.fm_names_constants.specs.Words.{words_of}
 
 -- a shape with the dimensions that are still to come
 abbrev pub finished : Shape → List Dimension → Shape
@@ -118,6 +120,13 @@ one_more s d ds w c = record { small = omega arith; rest = finished_with s d ds 
 pub front : {X : Type 0} (xs : List X) (i : ℕ) (x : X) → i < length xs → x ≡ get_or xs i x → drop i xs ≡ x ∷ drop (i + 1) xs
 front xs i x h e = rw add-one (drop-cons xs i x h ∙ ap (λ y. y ∷ drop (suc i) xs) (sym e))
 
+-- the sizes that the fields before the next one give, and its own
+pub sizes_more : (fs : List Field) (i : ℕ) (f : Field) → i < length fs → f ≡ get_or fs i f → sizes_of (take (i + 1) fs) ≡ field_size f ∷ sizes_of (take i fs)
+sizes_more fs i f h e =
+    ap sizes_of (take_more fs i f h ∙ ap (λ x. take i fs ++ x ∷ []) (sym e))
+    ∙ ap reverse (map-append field_size (take i fs) (f ∷ []))
+    ∙ reverse-append (map field_size (take i fs)) (field_size f ∷ [])
+
 pub comes_next : {X : Type 0} (f : X → Dimension) (xs : List X) (i : ℕ) (x : X) (s w : Shape) → i < length xs → x ≡ get_or xs i x
     → Comes s (map f (drop i xs)) w → Comes (shape_with s (f x)) (map f (drop (i + 1) xs)) w
 comes_next f xs i x s w h e c =
@@ -147,23 +156,29 @@ before_next bs b (Some cs) = ap Some (sym (append_assoc bs (b ∷ []) cs))
 
 -- Words.
 
--- the words so far, which are held, and those of the fields that are still to come add up to those of all
-pub record AddsUp (known : ByName Known) (place words : ℕ) (rest : List Field) (all : PortFields) : Type 0 where
+-- the words so far, which are held, and those of the fields that are still to come behind these add up to those of all
+pub record AddsUp (known : ByName Known) (place words : ℕ) (earlier : Sizes) (rest : List Field) (all : PortFields) : Type 0 where
   pub small : words ≤ 65537
-  pub total : held (words + message_words known place (fields_of rest)) ≡ held (message_words known place all)
+  pub total : held (words + words_behind known place earlier (fields_of rest)) ≡ held (message_words known place all)
 
-pub adds_next : (known : ByName Known) (place words : ℕ) (f : Field) (rest : List Field) (all : PortFields)
-    → AddsUp known place words (f ∷ rest) all → AddsUp known place (held (words + elements known place f.bounds)) rest all
-adds_next known place words f rest all a = record {
+adds_one : (known : ByName Known) (place words : ℕ) (earlier : Sizes) (f : Field) (rest : List Field) (all : PortFields)
+    → AddsUp known place words earlier (f ∷ rest) all → AddsUp known place (held (words + words_of known place earlier f)) (field_size f ∷ earlier) rest all
+adds_one known place words earlier f rest all a = record {
   small = omega arith;
-  total = sums_held words (elements known place f.bounds) (message_words known place (fields_of rest)) ∙ a.total;
+  total = sums_held words (words_of known place earlier f) (words_behind known place (field_size f ∷ earlier) (fields_of rest)) ∙ a.total;
 }
   where
     sums_held : (a b c : ℕ) → held (held (a + b) + c) ≡ held (a + (b + c))
     sums_held a b c = omega arith
 
+pub adds_next : (known : ByName Known) (place words : ℕ) (fs : List Field) (i : ℕ) (f : Field) (all : PortFields) → i < length fs → f ≡ get_or fs i f
+    → AddsUp known place words (sizes_of (take i fs)) (drop i fs) all
+    → AddsUp known place (held (words + words_of known place (sizes_of (take i fs)) f)) (sizes_of (take (i + 1) fs)) (drop (i + 1) fs) all
+adds_next known place words fs i f all h e a =
+    rw (sizes_more fs i f h e) (adds_one known place words (sizes_of (take i fs)) f (drop (i + 1) fs) all (rw (front fs i f h e) at a))
+
 pub long_alike : (w m : ℕ) → w ≤ 65537 → held (w + 0) ≡ held m → nat_lt 65536 w ≡ nat_lt 65536 m
 long_alike w m h e = grind (arith, nat_tests)
 
-pub long_at_end : (known : ByName Known) (place words : ℕ) (all : PortFields) → AddsUp known place words [] all → nat_lt 65536 words ≡ nat_lt 65536 (message_words known place all)
-long_at_end known place words all a = long_alike words (message_words known place all) a.small a.total
+pub long_at_end : (known : ByName Known) (place words : ℕ) (earlier : Sizes) (all : PortFields) → AddsUp known place words earlier [] all → nat_lt 65536 words ≡ nat_lt 65536 (message_words known place all)
+long_at_end known place words earlier all a = long_alike words (message_words known place all) a.small a.total

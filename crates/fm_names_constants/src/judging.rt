@@ -5,7 +5,8 @@ ghost use Rattle.std.specs.Option.{option_map};
 ghost use Rattle.std.specs.List.{flat_map};
 ghost use Rattle.fm_base.specs.Verdict.{least_from};
 ghost use Rattle.fm_tree.specs.PortReading.{kind_of};
-ghost use Rattle.fm_rules.specs.BrokenConstants.{broken_bounds, broken_decl, broken_decls, broken_definition, broken_definitions, broken_field, broken_from, broken_kind, broken_machine, broken_message, broken_shape, broken_statement, broken_type, is_bad, is_no_constant};
+ghost use Rattle.fm_rules.specs.BrokenConstants.{broken_bounds, broken_decl, broken_decls, broken_definition, broken_definitions, broken_extent, broken_field, broken_from, broken_kind, broken_machine, broken_message, broken_shape, broken_statement, broken_type, is_bad, is_no_constant};
+ghost use Rattle.fm_rules.specs.SizedFields.{sizes_of};
 
 use crate::bounds::{machine_shape, shape_of};
 use crate::parts::{decls_of, definitions_in, machine_in, port_type_in};
@@ -14,7 +15,7 @@ use crate::types::{is_of, scalar_of_name};
 use crate::values::value_of;
 use fm_base::{Line, Refusal, Rule, keep_if};
 use fm_finmap::NameMap;
-use fm_rules::{Known, Shape, Types};
+use fm_rules::{Known, Shape, Types, sized_by};
 use fm_symbols::{Constant, Scalar};
 use fm_tree::{Bound, Decl, Defined, Expr, Field, Kind, Placed, PortType};
 
@@ -122,6 +123,23 @@ fn judge_definitions(
     best
 }
 
+// The bounds of a field. The bound of one that an earlier field sizes needs no constant.
+fn judge_extent(
+    known: &NameMap<Known>,
+    at: usize,
+    line: Line,
+    size: Option<usize>,
+    bounds: &[Bound],
+    best: Option<Refusal>,
+) -> Option<Refusal>
+    ensures { result ≡ least_from best (broken_extent known.now at line.0 size bounds.now) }
+{
+    match size {
+        Some(_) => best,
+        None => judge_bounds(known, at, line, bounds, best),
+    }
+}
+
 #[cycle(judge_type)]
 #[tactic(auto, using(fm_base::proofs::Least::least_from_append))]
 fn judge_type(
@@ -134,8 +152,10 @@ fn judge_type(
     ensures { result ≡ least_from best (broken_type known.now at line.0 port_type.now) }
 {
     let mut best = keep_if(best, is_long(known, at, port_type), line, Rule::E34);
-    'fields: for field in port_type.as_slice() {
-        best = judge_field(known, at, line, field, best);
+    let fields = port_type.as_slice();
+    'fields: for index in 0..fields.len() {
+        let (earlier, _) = fields.split_at(index);
+        best = judge_field(known, at, line, earlier, &fields[index], best);
     }
     best
 }
@@ -146,12 +166,14 @@ fn judge_field(
     known: &NameMap<Known>,
     at: usize,
     line: Line,
+    earlier: &[Field],
     field: &Field,
     best: Option<Refusal>,
 ) -> Option<Refusal>
-    ensures { result ≡ least_from best (broken_field known.now at line.0 field.now) }
+    ensures { result ≡ least_from best (broken_field known.now at line.0 (sizes_of earlier.now) field.now) }
 {
-    let best = judge_bounds(known, at, line, field.bounds.as_slice(), best);
+    let size = sized_by(earlier, field);
+    let best = judge_extent(known, at, line, size, field.bounds.as_slice(), best);
     judge_kind(known, at, line, &field.kind, best)
 }
 

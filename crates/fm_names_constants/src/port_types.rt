@@ -1,14 +1,16 @@
 //! The types of ports with their bounds worked out.
 
-ghost use Rattle.std.specs.Prelude.{◌≡◌, ◌+◌, ◌≤◌, IfOk};
+ghost use Rattle.std.specs.Prelude.{◌≡◌, ◌+◌, ◌≤◌, IfOk, [], ◌∷◌};
 ghost use Rattle.fm_rules.specs.Bounds.{held};
 ghost use Rattle.fm_rules.specs.BrokenConstants.{is_long};
-ghost use Rattle.fm_rules.specs.PortTypes.{counted_bound, normal_bounds, normal_field, normal_field_kind, normal_type};
+ghost use Rattle.fm_rules.specs.PortTypes.{counted_bound, counted_bounds, field_words, normal_bounds, normal_field, normal_field_kind, normal_type, sized_bound};
+ghost use Rattle.fm_rules.specs.SizedFields.{sizes_of};
+ghost use Rattle.fm_names_constants.specs.Words.{words_of};
 
 use crate::bounds::elements;
 use fm_base::{NoMemory, Seq};
 use fm_finmap::NameMap;
-use fm_rules::Known;
+use fm_rules::{Known, sized_by};
 use fm_tree::{Bound, Expr, ExprNode, Field, Kind, PortType};
 use std::alloc::Global;
 
@@ -23,23 +25,61 @@ fn counted_bound(elements: u32) -> Bound
     }
 }
 
-fn normal_bounds(
+// The place of a field is a number of 32 bits: more fields find no memory.
+fn sized_bound(at: usize) -> Result<Bound, NoMemory>
+    ensures { IfOk result (λ b. b ≡ sized_bound at) }
+{
+    let place = u32::try_from(at).map_err(|_| NoMemory)?;
+    Ok(Bound {
+        low: Some(Expr {
+            node: ExprNode::Number(i64::from(place)),
+        }),
+        high: Expr {
+            node: ExprNode::Truth(true),
+        },
+    })
+}
+
+fn counted_bounds(
     alloc: Global,
     known: &NameMap<Known>,
     place: usize,
     bounds: &[Bound],
 ) -> Result<Seq<Bound>, NoMemory>
-    ensures { IfOk result (λ b. b ≡ normal_bounds known.now place bounds.now) }
+    ensures { IfOk result (λ b. b ≡ counted_bounds known.now place bounds.now) }
 {
-    let mut normal = Seq::new(alloc);
+    let mut counted = Seq::new(alloc);
     if !bounds.is_empty() {
-        normal.push(counted_bound(elements(known, place, bounds)))?;
+        counted.push(counted_bound(elements(known, place, bounds)))?;
     }
-    Ok(normal)
+    Ok(counted)
 }
 
-/// The type without names, each array by its number of elements alone: equal types are equal values. The type stands in
-/// the statement at this place.
+fn sized_bounds(alloc: Global, at: usize) -> Result<Seq<Bound>, NoMemory>
+    ensures { IfOk result (λ b. b ≡ sized_bound at ∷ []) }
+{
+    let mut sized = Seq::new(alloc);
+    sized.push(sized_bound(at)?)?;
+    Ok(sized)
+}
+
+fn normal_bounds(
+    alloc: Global,
+    known: &NameMap<Known>,
+    place: usize,
+    size: Option<usize>,
+    bounds: &[Bound],
+) -> Result<Seq<Bound>, NoMemory>
+    ensures { IfOk result (λ b. b ≡ normal_bounds known.now place size bounds.now) }
+{
+    match size {
+        Some(at) => sized_bounds(alloc, at),
+        None => counted_bounds(alloc, known, place, bounds),
+    }
+}
+
+/// The type without names, each array by its number of elements alone, or by the place of the field that sizes it: equal
+/// types are equal values. The type stands in the statement at this place.
 #[cycle(normal_port_type)]
 pub fn normal_port_type(
     alloc: Global,
@@ -49,11 +89,13 @@ pub fn normal_port_type(
 ) -> Result<PortType, NoMemory>
     ensures { IfOk result (λ p. p ≡ normal_type known.now place port_type.now) }
 {
-    let mut fields = Vec::new(alloc);
-    'fields: for field in port_type.as_slice() {
-        fields.push(normal_field(alloc, known, place, field)?)?;
+    let fields = port_type.as_slice();
+    let mut normal = Vec::new(alloc);
+    'fields: for index in 0..fields.len() {
+        let (earlier, _) = fields.split_at(index);
+        normal.push(normal_field(alloc, known, place, earlier, &fields[index])?)?;
     }
-    PortType::new(alloc, fields)
+    PortType::new(alloc, normal)
 }
 
 #[cycle(normal_port_type)]
@@ -61,14 +103,16 @@ fn normal_field(
     alloc: Global,
     known: &NameMap<Known>,
     place: usize,
+    earlier: &[Field],
     field: &Field,
 ) -> Result<Field, NoMemory>
-    ensures { IfOk result (λ f. f ≡ normal_field known.now place field.now) }
+    ensures { IfOk result (λ f. f ≡ normal_field known.now place (sizes_of earlier.now) field.now) }
 {
+    let size = sized_by(earlier, field);
     Ok(Field {
         kind: normal_kind(alloc, known, place, &field.kind)?,
         name: None,
-        bounds: normal_bounds(alloc, known, place, field.bounds.as_slice())?,
+        bounds: normal_bounds(alloc, known, place, size, field.bounds.as_slice())?,
     })
 }
 
@@ -102,14 +146,36 @@ fn held_sum(words: u32, more: u32) -> u32
     }
 }
 
+// The words of a field: an array that an earlier field sizes counts none.
+fn field_words(known: &NameMap<Known>, place: usize, size: Option<usize>, bounds: &[Bound]) -> u32
+    ensures words { result ≡ field_words known.now place size bounds.now }
+    ensures words_held { result ≤ 65537 }
+{
+    match size {
+        Some(_) => 0,
+        None => elements(known, place, bounds),
+    }
+}
+
+// The words of a field behind these.
+fn words_of(known: &NameMap<Known>, place: usize, earlier: &[Field], field: &Field) -> u32
+    ensures words { result ≡ words_of known.now place (sizes_of earlier.now) field.now }
+    ensures words_held { result ≤ 65537 }
+{
+    let size = sized_by(earlier, field);
+    field_words(known, place, size, field.bounds.as_slice())
+}
+
 /// Whether the messages of this type have too many words.
-#[tactic(auto, using(crate::proofs::Shapes::adds_next, crate::proofs::Shapes::long_at_end))]
+#[tactic(auto, using(crate::proofs::Shapes::long_at_end))]
 pub(crate) fn is_long(known: &NameMap<Known>, place: usize, port_type: &PortType) -> bool
     ensures { result ≡ is_long known.now place port_type.now }
 {
+    let fields = port_type.as_slice();
     let mut words: u32 = 0;
-    'fields: for field in port_type.as_slice() {
-        words = held_sum(words, elements(known, place, field.bounds.as_slice()));
+    'fields: for index in 0..fields.len() {
+        let (earlier, _) = fields.split_at(index);
+        words = held_sum(words, words_of(known, place, earlier, &fields[index]));
     }
     words > 65536
 }

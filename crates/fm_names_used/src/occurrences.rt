@@ -1,17 +1,18 @@
 //! The names that stand in a unit as variables, formal arguments, constants or the result of a FUNCTION.
 #![tactic(auto, using(crate::proofs::Meetings::with_names_append))]
 
-ghost use Rattle.std.specs.Prelude.{◌≡◌, ◌∷◌, ◌++◌, IfOk, List, ℕ, Bool, OnOk, map};
+ghost use Rattle.std.specs.Prelude.{◌≡◌, [], ◌∷◌, ◌++◌, IfOk, List, ℕ, Bool, OnOk, map};
 ghost use Rattle.std.specs.List.{flat_map};
 ghost use Rattle.fm_rules.specs.Arrays.{is_array};
-ghost use Rattle.fm_rules.specs.Occurrences.{in_bound, in_call_part, in_channel, in_decl, in_defined, in_entry, in_extra, in_field, in_fields, in_item, in_kind, in_loop, in_placed, in_simple, in_tree, in_trees, in_var, in_where, first_occurrences, occurrences, one_name, optional, stands_in, subscripted};
+ghost use Rattle.fm_rules.specs.Occurrences.{in_bound, in_call_part, in_channel, in_decl, in_defined, in_entry, in_extent, in_extra, in_field, in_fields, in_item, in_kind, in_loop, in_placed, in_simple, in_tree, in_trees, in_var, in_where, first_occurrences, occurrences, one_name, optional, stands_in, subscripted};
+ghost use Rattle.fm_rules.specs.SizedFields.{sizes_of};
 ghost use Rattle.fm_names_used.specs.Seen.{occurrence_of, with_names, with_occurrences};
 ghost use Rattle.fm_tree.specs.PortReading.{fields_of, kind_of};
 ghost use Rattle.fm_tree.specs.Tree.{trees_from};
 
 use fm_base::{Line, Name, NoMemory, Seq};
 use fm_finmap::{NameMap, NameTable};
-use fm_rules::{ArrayShape, Occurrence};
+use fm_rules::{ArrayShape, Occurrence, sized_by};
 use fm_tree::{
     Bound, CallPart, Decl, Defined, Entry, Expr, ExprNode, Extra, Field, Item, Kind, LoopHead,
     Placed, PortType, Simple, Stmt, Unit, Var, Where,
@@ -232,6 +233,23 @@ impl Standing for Defined {
     }
 }
 
+// The bounds of a field. The name by which an earlier field sizes it isn't met.
+fn meet_extent(
+    alloc: Global,
+    arrays: &Arrays,
+    line: Line,
+    size: Option<usize>,
+    bounds: &[Bound],
+    seen: &mut Seen,
+) -> Result<(), NoMemory>
+    ensures { OnOk result (seen.new ≡ with_names line seen.old (in_extent (is_array arrays.now) size bounds.now)) }
+{
+    match size {
+        Some(_) => Ok(()),
+        None => meet_all::<Bound>(alloc, arrays, line, bounds, seen),
+    }
+}
+
 #[cycle(fields)]
 fn meet_fields(
     alloc: Global,
@@ -240,10 +258,11 @@ fn meet_fields(
     fields: &[Field],
     seen: &mut Seen,
 ) -> Result<(), NoMemory>
-    ensures { OnOk result (seen.new ≡ with_names line seen.old (in_fields (is_array arrays.now) (fields_of fields.now))) }
+    ensures { OnOk result (seen.new ≡ with_names line seen.old (in_fields (is_array arrays.now) [] (fields_of fields.now))) }
 {
-    'fields: for field in fields {
-        meet_field(alloc, arrays, line, field, seen)?;
+    'fields: for index in 0..fields.len() {
+        let (earlier, _) = fields.split_at(index);
+        meet_field(alloc, arrays, line, earlier, &fields[index], seen)?;
     }
     Ok(())
 }
@@ -253,13 +272,15 @@ fn meet_field(
     alloc: Global,
     arrays: &Arrays,
     line: Line,
+    earlier: &[Field],
     field: &Field,
     seen: &mut Seen,
 ) -> Result<(), NoMemory>
-    ensures { OnOk result (seen.new ≡ with_names line seen.old (in_field (is_array arrays.now) field.now)) }
+    ensures { OnOk result (seen.new ≡ with_names line seen.old (in_field (is_array arrays.now) (sizes_of earlier.now) field.now)) }
 {
     meet_kind(alloc, arrays, line, &field.kind, seen)?;
-    meet_all::<Bound>(alloc, arrays, line, field.bounds.as_slice(), seen)
+    let size = sized_by(earlier, field);
+    meet_extent(alloc, arrays, line, size, field.bounds.as_slice(), seen)
 }
 
 #[cycle(fields)]
@@ -288,7 +309,7 @@ fn meet_port_type(
     port_type: &PortType,
     seen: &mut Seen,
 ) -> Result<(), NoMemory>
-    ensures { OnOk result (seen.new ≡ with_names line seen.old (in_fields (is_array arrays.now) port_type.now)) }
+    ensures { OnOk result (seen.new ≡ with_names line seen.old (in_fields (is_array arrays.now) [] port_type.now)) }
 {
     meet_fields(alloc, arrays, line, port_type.as_slice(), seen)
 }
@@ -509,7 +530,7 @@ fn meet_ports(
     decls: &[Decl],
     seen: &mut Seen,
 ) -> Result<(), NoMemory>
-    ensures { OnOk result (seen.new ≡ with_names line seen.old (in_fields (is_array arrays.now) port_type.now ++ flat_map (in_decl (is_array arrays.now)) decls.now)) }
+    ensures { OnOk result (seen.new ≡ with_names line seen.old (in_fields (is_array arrays.now) [] port_type.now ++ flat_map (in_decl (is_array arrays.now)) decls.now)) }
 {
     meet_port_type(alloc, arrays, line, port_type, seen)?;
     meet_all::<Decl>(alloc, arrays, line, decls, seen)

@@ -1,24 +1,32 @@
 -- Operands that are evaluated together: the first failure, and what a statement does with them.
-use Rattle.std.proofs.Common.{◌≡◌, ℕ, ◌+◌, List, Result, Ok, Err, false, ap, ◌∙◌, subst, arith}
+use Rattle.std.proofs.Common.{◌≡◌, ℕ, ◌+◌, List, Result, Ok, Err, IfOk, false, refl, sym, ap, ◌∙◌, subst, arith}
 use Rattle.fm_base.specs.declared.fault.Fault.{Fault}
+use Rattle.fm_base.specs.declared.memory.NoMemory.{NoMemory}
+use Rattle.fm_base.specs.declared.name.Line.{Line}
 use Rattle.fm_base.specs.declared.schedule.Machine.{Machine}
+use Rattle.fm_tree.specs.PortFields.{PortFields}
 use Rattle.fm_tree.specs.Tree.{Tree, trees_from}
 use Rattle.fm_tree.specs.declared.statement.Var.{Var}
 use Rattle.fm_tree.specs.declared.statement.Where.{Where}
 use Rattle.fm_mean.specs.Operands.{◌>>=◌}
-use Rattle.fm_mean.specs.Names.{Point}
+use Rattle.fm_mean.specs.Names.{Point, line_of}
 use Rattle.fm_mean.specs.Places.{port_at}
 use Rattle.fm_mean.specs.Process.{Frame}
 use Rattle.fm_mean.specs.declared.place.Actual.{Actual}
 use Rattle.fm_mean.specs.declared.place.Span.{Span}
-use Rattle.fm_mean.specs.Actions.{channel_places, seat_at, sends, sent, two_places}
+use Rattle.fm_mean.specs.Actions.{channel_places, fails, seat_at, sends, sent, two_places}
 use Rattle.fm_mean.specs.Evaluate.{Scope, actuals_of, place_of, refs_in_all, refs_in_var}
 use Rattle.fm_map.specs.Placement.{Seat, fitted}
 use Rattle.fm_plain_eval.specs.declared.failure.Failure.{Failure}
 use Rattle.fm_plain_eval.specs.declared.failure.Failure.TheVariants as failure
 use Rattle.fm_plain_eval.specs.Outcomes.{IsFailure}
 use Rattle.fm_plain_eval.specs.Operands.{seated}
+use Rattle.fm_plain_frame.specs.declared.frame.Frame as memory
+use Rattle.fm_plain.specs.declared.here.Here.{Here}
+use Rattle.fm_plain.specs.declared.step.Step.{Step}
 use Rattle.fm_plain.specs.Operands.{arguments_and_seat}
+use Rattle.fm_plain.specs.Standing.{ActsOn, frame_in, line_in, point_in}
+use Rattle.fm_plain.specs.Steps.{IsFailed}
 use Rattle.std.specs.Prelude.{Option}
 
 -- what comes behind a value that was found fails
@@ -83,7 +91,26 @@ ok a = Ok a
 ok_is : {A : Type 0} (a b : A) → ok a ≡ ok b → a ≡ b
 ok_is a b e = cc
 
-pub sends_to : (e : Point) (f : Frame) (m : Result Span Fault) (k : Result (List Actual) Fault) (q : Span) (xs : List Actual) → both m k ≡ Ok (q, xs) → sends e f m k ≡ sent e (port_at f.values q) xs
-sends_to e f (Ok p) (Ok ys) q xs h = ap (λ (r : Span × List Actual). sent e (port_at f.values r.0) r.1) (ok_is (p, ys) (q, xs) h)
-sends_to e f (Ok p) (Err g) q xs h = absurd (cc)
-sends_to e f (Err g) k q xs h = absurd (cc)
+pub sends_to : (e : Point) (fields : PortFields) (f : Frame) (m : Result Span Fault) (k : Result (List Actual) Fault) (q : Span) (xs : List Actual) → both m k ≡ Ok (q, xs) → sends e fields f m k ≡ sent e fields (port_at f.values q) xs
+sends_to e fields f (Ok p) (Ok ys) q xs h = ap (λ (r : Span × List Actual). sent e fields (port_at f.values r.0) r.1) (ok_is (p, ys) (q, xs) h)
+sends_to e given f (Ok p) (Err g) q xs h = absurd (cc)
+sends_to e given f (Err g) k q xs h = absurd (cc)
+
+abbrev no_operands : Fault → Result (Span × List Actual) Fault
+no_operands f = Err f
+
+the_fault : (f g : Fault) → no_operands f ≡ no_operands g → f ≡ g
+the_fault f g e = cc e
+
+sends_err : (e : Point) (fields : PortFields) (f : Frame) (m : Result Span Fault) (k : Result (List Actual) Fault) (fault : Fault) → both m k ≡ Err fault → sends e fields f m k ≡ fails (line_of e) fault
+sends_err e given f (Ok p) (Ok ys) fault h = absurd (cc)
+sends_err e given f (Ok p) (Err g) fault h = ap (fails (line_of e)) (the_fault g fault h)
+sends_err e given f (Err g) k fault h = ap (fails (line_of e)) (the_fault g fault h)
+
+pub sends_failed : (h : Here) (f : memory.Frame) (fields : PortFields) (m : Result Span Fault) (k : Result (List Actual) Fault) (line : Line) (e : Failure) (r : Result Step NoMemory)
+    → line.0 ≡ line_in h → IsFailure (both m k) e → IsFailed line e r → IfOk r (λ s. ActsOn h (λ w below. sends (point_in h) fields (frame_in h f) m k) f s f)
+sends_failed h f given m k line (failure.Fault fault) r at failing is =
+    subst (λ (t : Result Step NoMemory). IfOk t (λ s. ActsOn h (λ w below. sends (point_in h) given (frame_in h f) m k) f s f)) (sym is)
+    (λ w below. (refl, (sends_err (point_in h) given (frame_in h f) m k fault failing ∙ ap (λ (n : ℕ). fails n fault) (sym at), tt)))
+sends_failed h f given m k line failure.NoMemory r at failing is =
+    subst (λ (t : Result Step NoMemory). IfOk t (λ s. ActsOn h (λ w below. sends (point_in h) given (frame_in h f) m k) f s f)) (sym is) tt

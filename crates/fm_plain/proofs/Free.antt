@@ -3,9 +3,11 @@ use Rattle.std.proofs.Common.{◌≡◌, ℕ, ℤ, pos, Bool, true, false, cond,
 use Rattle.std.specs.Ordering.{int_eq}
 use Rattle.fm_base.specs.declared.fault.Fault.{Fault}
 use Rattle.fm_base.specs.declared.output.Printed.{Printed}
+use Rattle.fm_base.specs.declared.path.ChanName.{ChanName}
 use Rattle.fm_base.specs.declared.port.PortValue.{PortValue}
 use Rattle.fm_base.specs.declared.port.PortValue.TheVariants.{Writer, Reader}
 use Rattle.fm_base.specs.Channels.{Item}
+use Rattle.fm_tree.specs.PortFields.{PortFields}
 use Rattle.fm_tree.specs.declared.form.UnitKind.{UnitKind}
 use Rattle.fm_tree.specs.declared.form.UnitKind.TheVariants as unit_kind
 use Rattle.fm_values.specs.declared.value.Value.{Value}
@@ -21,7 +23,7 @@ use Rattle.fm_mean.specs.Names.{ProgramUnit, Point, unit_at}
 use Rattle.fm_mean.specs.Evaluate.{Scope, Reference, Element, Call, Built, Unknown}
 use Rattle.fm_mean.specs.Process.{Frame, Execution, Phase, Running, Joining, Ended, Faulted, Proc}
 use Rattle.fm_map.specs.Placement.{Seat}
-use Rattle.fm_mean.specs.Actions.{Event, Fail, Make, Send, Receive, Probe, Begin, Join, End, Action, Rest, Own, Meets, assigns, prints, tests, loops, adds, loop_trips, calls, returns, sends, sent, closes, closed, moves, probes, probes_at, makes, merges, starts_one, refers, process_calls, action_in, action_of, action_at, action_by, point_action, next_reference, running, joining}
+use Rattle.fm_mean.specs.Actions.{Event, Fail, Make, Send, Receive, Probe, Begin, Join, End, Action, Rest, Own, Meets, assigns, prints, tests, loops, adds, loop_trips, calls, returns, cut_items, sends, sent, sent_items, closes, closed, moves, probes, probes_at, makes, merges, starts_one, refers, process_calls, action_in, action_of, action_at, action_by, point_action, next_reference, running, joining}
 use Rattle.fm_mean.specs.Steps.{ask_event, ask_for}
 use Rattle.fm_mean.specs.Outcome.{need_in, need_of}
 use Rattle.fm_plain_frame.specs.declared.frame.Frame as memory
@@ -83,15 +85,19 @@ returns_free w u f (g ∷ below) unit_kind.Subroutine = refl
 returns_free w u f [] unit_kind.Function = refl
 returns_free w u f (g ∷ below) unit_kind.Function = refl
 
-sent_free : (e : Point) (p : Option PortValue) (items : List Actual) → goes_free (sent e p items) ≡ true
-sent_free e None items = refl
-sent_free e (Some (Reader c)) items = refl
-sent_free e (Some (Writer c w)) items = refl
+sent_items_free : (e : Point) (c : ChanName) (w : ℕ) (items : Result (List Actual) Fault) → goes_free (sent_items e c w items) ≡ true
+sent_items_free e c w (Err fault) = refl
+sent_items_free e c w (Ok items) = refl
 
-pub sends_free : (e : Point) (f : Frame) (q : Result Span Fault) (items : Result (List Actual) Fault) → goes_free (sends e f q items) ≡ true
-sends_free e f (Err fault) items = refl
-sends_free e f (Ok q) (Err fault) = refl
-sends_free e f (Ok q) (Ok items) = sent_free e _ items
+sent_free : (e : Point) (fields : PortFields) (p : Option PortValue) (items : List Actual) → goes_free (sent e fields p items) ≡ true
+sent_free e given None items = refl
+sent_free e given (Some (Reader c)) items = refl
+sent_free e given (Some (Writer c w)) items = sent_items_free e c w (cut_items [] given items)
+
+pub sends_free : (e : Point) (fields : PortFields) (f : Frame) (q : Result Span Fault) (items : Result (List Actual) Fault) → goes_free (sends e fields f q items) ≡ true
+sends_free e given f (Err fault) items = refl
+sends_free e given f (Ok q) (Err fault) = refl
+sends_free e given f (Ok q) (Ok items) = sent_free e given _ items
 
 closed_free : (w : Execution) (e : Point) (f : Frame) (below : List Frame) (vs : List Item) (p : Option PortValue) → goes_free (closed w e f below vs p) ≡ true
 closed_free w e f below vs None = refl

@@ -11,3 +11,4 @@ pub mod Free
 pub mod StandingLaws
 pub mod LocalLaws
 pub mod OwnSteps
+pub mod CutLaws

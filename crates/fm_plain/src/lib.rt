@@ -8,6 +8,7 @@ mod advancing;
 mod assigning;
 mod calling;
 mod control;
+mod cutting;
 mod event;
 mod here;
 mod joining;

@@ -2,14 +2,17 @@
 
 ghost use Rattle.std.specs.Prelude.{◌≡◌, ◌++◌, ◌∷◌, [], Ok, Some, List, IfOk, OnOk, length};
 ghost use Rattle.std.specs.Option.{option_copied};
+ghost use Rattle.fm_tree.specs.PortReading.{fields_of};
 ghost use Rattle.fm_tree.specs.Tree.{trees_from};
-ghost use Rattle.fm_mean.specs.Actions.{channel_places, elements_from, elements_of, iostat_of, makes, merger_places, merges, probes, probes_at, receive_places, receives, receives_at, sends, sent, two_places};
+ghost use Rattle.fm_mean.specs.Actions.{channel_places, elements_from, elements_of, fields_at, iostat_of, makes, merger_places, merges, probes, probes_at, receive_places, receives, receives_at, sends, sent, two_places};
 ghost use Rattle.fm_mean.specs.Evaluate.{actuals_of, place_of, refs_in_var};
+ghost use Rattle.fm_plain_frame.specs.Units.{unit_of};
 ghost use Rattle.fm_plain_eval.specs.Outcomes.{IsDone};
 ghost use Rattle.fm_plain_eval.specs.Scopes.{scope_of};
 ghost use Rattle.fm_plain.specs.Operands.{port_and_items};
 ghost use Rattle.fm_plain.specs.Standing.{ActsOn, StandsIn, frame_in, point_in, scope_in};
 
+use crate::cutting::{cut_items, fields_at};
 use crate::event::Event;
 use crate::here::Here;
 use crate::ports::two_places;
@@ -18,7 +21,7 @@ use fm_base::{Fault, NoMemory, PortValue, Seq};
 use fm_mean::{Actual, Span};
 use fm_plain_eval::{Failure, Scope, actuals, place, places};
 use fm_plain_frame::Frame;
-use fm_tree::{Expr, Extra, Var};
+use fm_tree::{Expr, Extra, Field, Var};
 use std::alloc::Global;
 
 fn send_operands(
@@ -41,25 +44,29 @@ fn sent(
     alloc: Global,
     here: &Here<'_>,
     top: &Frame,
+    fields: &[Field],
     port: Option<&PortValue>,
     items: Seq<Actual>,
 ) -> Result<Step, NoMemory>
-    ensures { IfOk result (λ r. ActsOn here.now (λ w below. sent (point_in here.now) (option_copied port.entry) items) top.now r top.now) }
+    ensures { IfOk result (λ r. ActsOn here.now (λ w below. sent (point_in here.now) (fields_of fields.now) (option_copied port.entry) items) top.now r top.now) }
 {
     let _frame = top;
     match port {
-        Some(PortValue::Writer(channel, writer)) => Ok(Step::Event(Event::Send {
-            channel: channel.copy(alloc)?,
-            writer: *writer,
-            items,
-            next: here.entry.after,
-        })),
+        Some(PortValue::Writer(channel, writer)) => match cut_items(alloc, fields, items) {
+            Err(failure) => failed(here.line(), failure),
+            Ok(items) => Ok(Step::Event(Event::Send {
+                channel: channel.copy(alloc)?,
+                writer: *writer,
+                items,
+                next: here.entry.after,
+            })),
+        },
         Some(PortValue::Reader(_)) => Ok(fails(here.line(), Fault::NullPort)),
         None => Ok(fails(here.line(), Fault::NullPort)),
     }
 }
 
-/// SEND. The port is looked at when all items are evaluated.
+/// SEND. The port is looked at when all items are evaluated, and then the sizes of items.
 pub(crate) fn sends(
     alloc: Global,
     here: &Here<'_>,
@@ -68,11 +75,14 @@ pub(crate) fn sends(
     items: &[Expr],
 ) -> Result<Step, NoMemory>
     requires { StandsIn here.now top.now }
-    ensures { IfOk result (λ r. ActsOn here.now (λ w below. sends (point_in here.now) (frame_in here.now top.now) (place_of (scope_in here.now top.now) port.now 0) (actuals_of (scope_in here.now top.now) (trees_from items.now) (refs_in_var (scope_in here.now top.now) port.now))) top.now r top.now) }
+    ensures { IfOk result (λ r. ActsOn here.now (λ w below. sends (point_in here.now) (fields_at (unit_of here.now.unit) port.now) (frame_in here.now top.now) (place_of (scope_in here.now top.now) port.now 0) (actuals_of (scope_in here.now top.now) (trees_from items.now) (refs_in_var (scope_in here.now top.now) port.now))) top.now r top.now) }
 {
     match send_operands(alloc, here, top, port, items) {
         Err(failure) => failed(here.line(), failure),
-        Ok((place, items)) => { sent(alloc, here, top, here.port(top, place), items) }
+        Ok((place, items)) => {
+            let fields = fields_at(here, port);
+            sent(alloc, here, top, fields, here.port(top, place), items)
+        }
     }
 }
 

@@ -14,7 +14,7 @@ use Rattle.fm_mean.specs.Calls.{child_of}
 use Rattle.fm_mean.specs.Process.{Frame, Kid, Phase, Running, Joining, Proc, Start}
 use Rattle.fm_mean.specs.Actions.{Action, Event, Rest, Own, Meets, Fail, Make, Send, Receive, Probe, Begin, Join, End, action_of, action_in, joining}
 use Rattle.fm_mean.specs.Outcome.{need_in, need_of}
-use Rattle.fm_mean.specs.Steps.{ask, ask_for, ask_event, ask_at, kid_of, received, language}
+use Rattle.fm_mean.specs.Steps.{ask, ask_for, ask_event, ask_at, kid_of, met, received, language}
 use Rattle.fm_plain_net.specs.Goes.{Performs, joined_in}
 use Rattle.fm_plain_net.specs.declared.ports.Ports.{Ports}
 
@@ -69,12 +69,18 @@ module _ (program : Program) (x : Proc) where
   arrives not line below f next items None (Some n) None = stays not _ refl refl
   arrives not line below f next items None None None = other _ _ refl (λ b kids e. cc e) refl
 
+  meets : joins_or_rests (action_of program x) ≡ false → (line : ℕ) (below : List Frame) (f : Frame) (next : ℕ) (items : List Span) (iostat : Option Span) (to : Option ℕ) (over : Bool) (m : Option Message)
+      → Begins x (met x line below f next items iostat to over m)
+  meets not line below f next items iostat to true None = other _ _ refl (λ b kids e. cc e) refl
+  meets not line below f next items iostat to true (Some m) = arrives not line below f next items iostat to (Some m)
+  meets not line below f next items iostat to false m = arrives not line below f next items iostat to m
+
   begins_at : (below : List Frame) (f : Frame) (e : Event) → joins_or_rests (action_of program x) ≡ joins_or_rests (Meets e) → BeginsAll x (ask_at program x below f e)
   unfolding joins_or_rests
   begins_at below f (Fail line fault) does = λ alone c r. other _ _ refl (λ b kids e. cc e) refl
   begins_at below f (Make places n cost next) does = λ alone c r. stays does _ refl refl
   begins_at below f (Send d w items next) does = λ alone c r. stays does _ refl refl
-  begins_at below f (Receive d line items iostat to next) does = λ alone c r. arrives does line below f next items iostat to r.message
+  begins_at below f (Receive d line items iostat to next) does = λ alone c r. meets does line below f next items iostat to r.exceeds r.message
   begins_at below f (Probe d place next) does = λ alone c r. stays does _ refl refl
   begins_at below f Begin does = λ alone c r. record {
     waits = λ b kids e.

@@ -26,3 +26,4 @@ pub mod Waited
 pub mod Born
 pub mod Families
 pub mod Phases
+pub mod Getting

@@ -1,5 +1,5 @@
 -- Whether a process can step, by what it does next.
-use Rattle.std.proofs.Common.{◌≡◌, ◌≤◌, ℕ, Bool, true, false, Option, Some, None, List, [], length, refl, sym, ap, subst, ◌∙◌, arith}
+use Rattle.std.proofs.Common.{◌≡◌, ◌≤◌, ℕ, Bool, true, false, Option, Some, None, List, length, refl, sym, ap, subst, ◌∙◌, arith}
 use Rattle.std.specs.Prelude.{is_some, option_map}
 use Rattle.std.specs.FinMap.{get}
 use Rattle.fm_base.specs.declared.path.ChanName.{ChanName}
@@ -19,7 +19,7 @@ use Rattle.fm_mean.specs.declared.place.Span.{Span}
 use Rattle.fm_mean.specs.Actions.{Join, Meets as Stops, Receive, action_of}
 use Rattle.fm_mean.specs.Process.{Proc, has_ended}
 use Rattle.fm_mean.specs.Outcome.{awaited, need_of, waits_by}
-use Rattle.fm_mean.specs.Steps.{ask, ask_event, ask_for, language, received, step}
+use Rattle.fm_mean.specs.Steps.{ask, ask_event, ask_for, language, limits_of, met, step}
 use Rattle.fm_mean.proofs.Lawful.{lawful}
 use Rattle.fm_plain.specs.Looking.{IsNext, is_free, waits_in}
 use Rattle.fm_plain.specs.declared.looking.Next.{Next}
@@ -45,7 +45,7 @@ use Rattle.fm_plain_net.proofs.Waiting.{begin_free, end_free, fail_free, has_fra
 
 module _ (program : Program) (s : State Proc) (p : Place) (x : Proc) (is : get s.procs p ≡ Some x) where
   pub receive_steps : (c : ChanName) (line : ℕ) (items : List Span) (iostat : Option Span) (to : Option ℕ) (next : ℕ) → action_of program x ≡ Stops (Receive c line items iostat to next) → is_some (step program s p) ≡ pops_at (get s.chans c)
-  receive_steps c line items iostat to next does = receives program s p x is c [] (receive_need program x c line items iostat to next does)
+  receive_steps c line items iostat to next does = receives program s p x is c (limits_of items) (receive_need program x c line items iostat to next does)
 
   pub join_steps : (block next : ℕ) → action_of program x ≡ Stops (Join block (kids_in x.phase) next) → is_some (step program s p) ≡ is_some (gathered has_ended s.procs p block 1 (length (kids_in x.phase)))
   join_steps block next does = joins program s p x is block (length (kids_in x.phase)) (join_need program x block next does)
@@ -75,8 +75,8 @@ module _ (program : Program) (s : State Proc) (p : Place) (x : Proc) (is : get s
   pub receive_kept : (ports : Ports) → HeldAreKept program ports s.procs → (c : ChanName) (line : ℕ) (items : List Span) (iostat : Option Span) (to : Option ℕ) (next : ℕ) → action_of program x ≡ Stops (Receive c line items iostat to next) → IsKept ports (Reader c)
   receive_kept ports held c line items iostat to next does =
       let i = has_frame program x (Receive c line items iostat to next) does in
-      let asks : ask program x ≡ Go (Event c (Pop [])) (λ d r. received x line i.below i.top next items iostat to r.message) = ap (ask_for program x) does ∙ ap (ask_event program x (Receive c line items iostat to next)) i.is in
-      let law : IsLawfulStep (language program) x (Event c (Pop [])) (λ d r. received x line i.below i.top next items iostat to r.message) = subst (IsLawfulAsk (language program) x) asks ((lawful program).goes x) in
+      let asks : ask program x ≡ Go (Event c (Pop (limits_of items))) (λ d r. met x line i.below i.top next items iostat to r.exceeds r.message) = ap (ask_for program x) does ∙ ap (ask_event program x (Receive c line items iostat to next)) i.is in
+      let law : IsLawfulStep (language program) x (Event c (Pop (limits_of items))) (λ d r. met x line i.below i.top next items iostat to r.exceeds r.message) = subst (IsLawfulAsk (language program) x) asks ((lawful program).goes x) in
       let part : holds (language program) (Reader c) x ≤ total (holds (language program) (Reader c)) s.procs =
       subst (λ v. value_or_zero (holds (language program) (Reader c)) v ≤ total (holds (language program) (Reader c)) s.procs) is (one_of_total path_order (holds (language program) (Reader c)) s.procs p) in
       held (Reader c) (omega (arith, law.uses, part))

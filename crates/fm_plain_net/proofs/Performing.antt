@@ -1,19 +1,21 @@
 -- What a process does with its event is what it asked for.
-use Rattle.std.proofs.Common.{◌≡◌, inl, inr, ◌+◌, ℕ, Bool, true, cond, Option, Some, None, List, [], ◌∷◌, ◌++◌, length, map, refl, sym, ap, subst, ◌∙◌, append-nil, arith}
+use Rattle.std.proofs.Common.{◌≡◌, inl, inr, ◌+◌, ℕ, Bool, true, false, cond, Option, Some, None, List, [], ◌∷◌, ◌++◌, length, map, refl, sym, ap, subst, ◌∙◌, append-nil, arith}
 use Rattle.std.proofs.lemmas.List.{length-map}
 use Rattle.std.specs.Prelude.{is_some}
 use Rattle.std.specs.FinMap.{get, insert}
 use Rattle.fm_base.specs.declared.fault.Fault.{Fault}
+use Rattle.fm_base.specs.declared.fault.Fault.TheVariants.{Subscript}
 use Rattle.fm_base.specs.declared.path.ChanName.{ChanName}
 use Rattle.fm_base.specs.declared.port.PortValue.{PortValue}
 use Rattle.fm_base.specs.declared.port.PortValue.TheVariants.{Writer, Reader}
-use Rattle.fm_base.specs.Channels.{Message, Chan, Chans, Push, Pop, Look, fresh, changed, gives, tells, is_ready, spills_at, message_ports, all_shed}
+use Rattle.fm_base.specs.Channels.{Message, Chan, Chans, Limits, Push, Pop, Look, fresh, changed, exceeds, gives, tells, is_ready, spills_at, message_ports, all_shed}
 use Rattle.fm_finmap.specs.Changes.{adjust}
 use Rattle.fm_finmap.proofs.Adjusts.{adjust-insert}
 use Rattle.fm_finmap.proofs.Inserts.{insert_same}
 use Rattle.fm_chan.specs.Events.{after_send as sent_by}
 use Rattle.fm_chan.specs.Received.{got_at, message_in, waits_at}
-use Rattle.fm_chan.proofs.Receiving.{message_brought}
+use Rattle.fm_chan.specs.declared.message.Got.{Got}
+use Rattle.fm_chan.specs.declared.message.Got.TheVariants as got
 use Rattle.fm_net.specs.Machine.{Place, Need, Nothing, New, Children, Reply, Onward, Go, reply_with, reply_at, served_at}
 use Rattle.fm_net.specs.Machine as net
 use Rattle.fm_net.specs.Lawful as law
@@ -30,7 +32,7 @@ use Rattle.fm_mean.specs.Calls.{child_of}
 use Rattle.fm_mean.specs.Process.{Frame, Proc}
 use Rattle.fm_mean.specs.Actions.{Event, Fail, Make, Send, Receive, Probe, Begin, End, Meets, action_of, message_words}
 use Rattle.fm_mean.specs.Outcome.{need_of, need_in}
-use Rattle.fm_mean.specs.Steps.{ask, ask_for, ask_event, ask_at, faulted, made, left_with, received, probed, began, ended}
+use Rattle.fm_mean.specs.Steps.{ask, ask_for, ask_event, ask_at, faulted, made, left_with, limits_of, came, at_the_end, met, probed, began, ended}
 use Rattle.fm_plain_frame.specs.Frames.{proc_of}
 use Rattle.fm_plain_frame.specs.declared.process.PlainProc.{PlainProc}
 use Rattle.fm_plain_replies.specs.Goes.{in_frames, after_make, after_send, after_message, after_end_of_channel, after_probe, after_begin, message_sent, message_in as in_message}
@@ -38,6 +40,7 @@ use Rattle.fm_plain_net.specs.declared.ports.Ports.{Ports}
 use Rattle.fm_plain_net.specs.Goes.{CanPerform, Performs, is_served}
 use Rattle.fm_plain_net.specs.Held.{AreKept, AreOnce, Carries, IsKept, MayDrop, MayGoOn, StayBut, Stay}
 use Rattle.fm_run.proofs.Able.{pops_served}
+use Rattle.fm_plain_net.proofs.Getting.{IsGot, got_message, got_tells}
 
 push_chan : (w : ℕ) (message : Message) (o : Option Chan) → is_some (served_at {Proc = Proc} (Push w message) o) ≡ true → (ch : Chan) × (o ≡ Some ch)
 push_chan w message None e = absurd (cc e)
@@ -47,13 +50,13 @@ look_chan : (o : Option Chan) → is_some (served_at {Proc = Proc} Look o) ≡ t
 look_chan None e = absurd (cc e)
 look_chan (Some ch) e = (ch, refl)
 
-pop_chan : (o : Option Chan) → is_some (served_at {Proc = Proc} (Pop []) o) ≡ true → (ch : Chan) × (o ≡ Some ch) × (is_ready (Pop []) ch ≡ true)
-pop_chan None e = absurd (cc e)
-pop_chan (Some ch) e = (ch, refl, sym (pops_served [] (Some ch)) ∙ e)
+pop_chan : (limits : Limits) (o : Option Chan) → is_some (served_at {Proc = Proc} (Pop limits) o) ≡ true → (ch : Chan) × (o ≡ Some ch) × (is_ready (Pop limits) ch ≡ true)
+pop_chan limits None e = absurd (cc e)
+pop_chan limits (Some ch) e = (ch, refl, sym (pops_served limits (Some ch)) ∙ e)
 
-no_spills : (o : Option Chan) → spills_at (Pop []) o ≡ []
-no_spills None = refl
-no_spills (Some ch) = refl
+no_spills : (limits : Limits) (o : Option Chan) → spills_at (Pop limits) o ≡ []
+no_spills limits None = refl
+no_spills limits (Some ch) = refl
 
 no_looks : (o : Option Chan) → spills_at Look o ≡ []
 no_looks None = refl
@@ -220,104 +223,139 @@ module _ (program : Program) (p : Place) (x : Proc) (m : Chans) (kids : List Pro
       receive_frame : InFrame x
       receive_frame = in_some (Receive c line items iostat to next) does can.ready
 
-      receive_there : (ch : Chan) × (get m c ≡ Some ch) × (is_ready (Pop []) ch ≡ true)
-      receive_there = pop_chan (get m c) (served_at_frame (Receive c line items iostat to next) does can.ready receive_frame)
+      abbrev limits : Limits
+      limits = limits_of items
 
-      abbrev after_receive : Option Message → Onward Proc
-      after_receive None = after_end_of_channel x line next iostat to
-      after_receive (Some message) = after_message x next items iostat message
+      receive_there : (ch : Chan) × (get m c ≡ Some ch) × (is_ready (Pop limits) ch ≡ true)
+      receive_there = pop_chan limits (get m c) (served_at_frame (Receive c line items iostat to next) does can.ready receive_frame)
 
-      receive_is : (o : Option Message) → after_receive o ≡ received x line receive_frame.below receive_frame.top next items iostat to o
-      receive_is None = ap (in_frames x (λ below f. received x line below f next items iostat to None)) receive_frame.is
-      receive_is (Some message) = ap (in_frames x (λ below f. received x line below f next items iostat to (Some message))) receive_frame.is
+      -- what the process does with what it got
+      abbrev after_got : Got → Onward Proc
+      after_got (got.Message message) = after_message x next items iostat message
+      after_got got.Exceeds = faulted x line Subscript
+      after_got got.Wait = faulted x line Subscript
+      after_got got.End = after_end_of_channel x line next iostat to
 
-      end_starts : (vs : List Frame) (f : Frame) (s : Option Span) (n : Option ℕ) → (received x line vs f next items s n None).starts ≡ []
+      abbrev met_here : Bool → Option Message → Onward Proc
+      met_here over o = met x line receive_frame.below receive_frame.top next items iostat to over o
+
+      message_is : (over : Bool) (message : Message) → after_message x next items iostat message ≡ met_here over (Some message)
+      message_is true message = ap (in_frames x (λ below f. came x below f next items iostat message)) receive_frame.is
+      message_is false message = ap (in_frames x (λ below f. came x below f next items iostat message)) receive_frame.is
+
+      end_is : after_end_of_channel x line next iostat to ≡ met_here false None
+      end_is = ap (in_frames x (λ below f. at_the_end x line below f next iostat to)) receive_frame.is
+
+      got_is : (g : Got) (over : Bool) (o : Option Message) → IsGot g over o → after_got g ≡ met_here over o
+      got_is (got.Message message) over o is = message_is over message ∙ ap (met_here over) (sym is)
+      got_is got.Exceeds over o is = sym (ap (λ b. met_here b o) is.0 ∙ ap (met_here true) is.1)
+      got_is got.Wait over o is = absurd is
+      got_is got.End over o is = end_is ∙ sym (ap (λ b. met_here b o) is.0 ∙ ap (met_here false) is.1)
+
+      end_starts : (vs : List Frame) (f : Frame) (s : Option Span) (n : Option ℕ) → (at_the_end x line vs f next s n).starts ≡ []
       end_starts vs f None None = refl
       end_starts vs f None (Some n) = refl
       end_starts vs f (Some s) n = refl
 
-      end_block : (vs : List Frame) (f : Frame) (s : Option Span) (n : Option ℕ) → (received x line vs f next items s n None).block ≡ x.next_block
+      end_block : (vs : List Frame) (f : Frame) (s : Option Span) (n : Option ℕ) → (at_the_end x line vs f next s n).block ≡ x.next_block
       end_block vs f None None = refl
       end_block vs f None (Some n) = refl
       end_block vs f (Some s) n = refl
 
       pub receive_cost : (message : Message) → (after_message x next items iostat message).cost ≡ 1 + message_words message
-      receive_cost message = ap (λ o. o.cost) (receive_is (Some message))
+      receive_cost message = ap (λ o. o.cost) (message_is false message)
 
-      receive_starts : (o : Option Message) → (received x line receive_frame.below receive_frame.top next items iostat to o).starts ≡ []
-      receive_starts None = end_starts receive_frame.below receive_frame.top iostat to
-      receive_starts (Some message) = refl
+      receive_starts : (over : Bool) (o : Option Message) → (met_here over o).starts ≡ []
+      receive_starts true None = refl
+      receive_starts true (Some message) = refl
+      receive_starts false None = end_starts receive_frame.below receive_frame.top iostat to
+      receive_starts false (Some message) = refl
 
-      receive_block : (o : Option Message) → (received x line receive_frame.below receive_frame.top next items iostat to o).block ≡ x.next_block
-      receive_block None = end_block receive_frame.below receive_frame.top iostat to
-      receive_block (Some message) = refl
+      receive_block : (over : Bool) (o : Option Message) → (met_here over o).block ≡ x.next_block
+      receive_block true None = refl
+      receive_block true (Some message) = refl
+      receive_block false None = end_block receive_frame.below receive_frame.top iostat to
+      receive_block false (Some message) = refl
 
-      receive_replies : served_at {Proc = Proc} (Pop []) (get m c) ≡ Some (reply_at (Pop []) receive_there.0)
-      receive_replies = ap (served_at (Pop [])) receive_there.1 ∙ ap (λ b. cond b (Some (reply_at (Pop []) receive_there.0)) None) receive_there.2
+      receive_replies : served_at {Proc = Proc} (Pop limits) (get m c) ≡ Some (reply_at (Pop limits) receive_there.0)
+      receive_replies = ap (served_at (Pop limits)) receive_there.1 ∙ ap (λ b. cond b (Some (reply_at (Pop limits) receive_there.0)) None) receive_there.2
 
-      receive_may : MayGoOn ports p (net.Event c (Pop [])) (reply_at (Pop []) receive_there.0) (received x line receive_frame.below receive_frame.top next items iostat to (gives (Pop []) receive_there.0))
-      receive_may = can.may (net.Event c (Pop [])) (λ d r. received x line receive_frame.below receive_frame.top next items iostat to r.message) (reply_at (Pop []) receive_there.0)
+      abbrev there_over : Bool
+      there_over = exceeds (Pop limits) receive_there.0
+
+      abbrev there_message : Option Message
+      there_message = gives (Pop limits) receive_there.0
+
+      receive_may : MayGoOn ports p (net.Event c (Pop limits)) (reply_at (Pop limits) receive_there.0) (met_here there_over there_message)
+      receive_may = can.may (net.Event c (Pop limits)) (λ d r. met_here r.exceeds r.message) (reply_at (Pop limits) receive_there.0)
           (asks_at (Receive c line items iostat to next) does can.ready receive_frame) receive_replies
 
       pub receive_uses : IsKept ports (Reader c)
-      receive_uses = receive_may.uses c (Pop []) refl
+      receive_uses = receive_may.uses c (Pop limits) refl
 
-      brought_is : (o : Option Message) → o ≡ message_in (got_at [] (get m c)) → o ≡ gives (Pop []) receive_there.0
-      brought_is o brought = brought ∙ ap (λ q. message_in (got_at [] q)) receive_there.1 ∙ message_brought receive_there.0 receive_there.2
+      told : (g : Got) → g ≡ got_at limits (get m c) → IsGot g there_over there_message
+      told g brought = got_tells limits receive_there.0 receive_there.2 g (brought ∙ ap (got_at limits) receive_there.1)
 
-      pub receive_drops : (message : Message) → Some message ≡ message_in (got_at [] (get m c)) → MayDrop ports (message_ports message) (after_message x next items iostat message).drops
+      pub receive_waits_not : got.Wait ≡ got_at limits (get m c) → ⊥
+      receive_waits_not brought = told got.Wait brought
+
+      pub receive_drops : (message : Message) → got.Message message ≡ got_at limits (get m c) → MayDrop ports (message_ports message) (after_message x next items iostat message).drops
       receive_drops message brought =
-          let same = brought_is (Some message) brought in
-          let at_message : MayDrop ports (law.got (Some message) ++ []) (received x line receive_frame.below receive_frame.top next items iostat to (Some message)).drops =
-          subst (λ (o : Option Message). MayDrop ports (law.got o ++ []) (received x line receive_frame.below receive_frame.top next items iostat to o).drops) (sym same) receive_may.drops in
-          subst (λ (o : Onward Proc). MayDrop ports (message_ports message) o.drops) (sym (receive_is (Some message)))
-          (subst (λ zs. MayDrop ports zs (received x line receive_frame.below receive_frame.top next items iostat to (Some message)).drops) (append-nil (message_ports message)) at_message)
+          let same : there_message ≡ Some message = told (got.Message message) brought in
+          let at_message : MayDrop ports (law.got (Some message) ++ []) (met_here there_over (Some message)).drops =
+          subst (λ (o : Option Message). MayDrop ports (law.got o ++ []) (met_here there_over o).drops) same receive_may.drops in
+          subst (λ (o : Onward Proc). MayDrop ports (message_ports message) o.drops) (sym (message_is there_over message))
+          (subst (λ zs. MayDrop ports zs (met_here there_over (Some message)).drops) (append-nil (message_ports message)) at_message)
 
-      pub receives : (o : Option Message) → o ≡ message_in (got_at [] (get m c)) → (y : Proc) → y ≡ (after_receive o).self
-          → (cs : Chans) → cs ≡ all_shed (after_receive o).drops (adjust m c (changed (Pop []))) → (cost : ℕ) → cost ≡ (after_receive o).cost
-          → Carries (law.got o) (after_receive o).drops ports later → Performs program p x m kids ports y [] cs later cost
-      receives o brought y is cs chans cost paid carries =
-          let i = receive_frame in
-          let same = brought_is o brought in
-          let r = received x line i.below i.top next items iostat to in
-          let goes : after_receive o ≡ r (gives (Pop []) receive_there.0) = receive_is o ∙ ap r same in
-          let out = r (gives (Pop []) receive_there.0) in
+      pub receives : (g : Got) → g ≡ got_at limits (get m c) → (y : Proc) → y ≡ (after_got g).self
+          → (cs : Chans) → cs ≡ all_shed (after_got g).drops (adjust m c (changed (Pop limits))) → (cost : ℕ) → cost ≡ (after_got g).cost
+          → Carries (law.got (message_in g)) (after_got g).drops ports later → Performs program p x m kids ports y [] cs later cost
+      receives g brought y is cs chans cost paid carries =
+          let here = told g brought in
+          let goes : after_got g ≡ met_here there_over there_message = got_is g there_over there_message here in
+          let same : message_in g ≡ there_message = got_message g there_over there_message here in
+          let out : Onward Proc = met_here there_over there_message in
           record {
-            need = net.Event c (Pop []);
-            going = λ d v. r v.message;
-            reply = reply_at (Pop []) receive_there.0;
-            asks = asks_at (Receive c line items iostat to next) does can.ready i;
+            need = net.Event c (Pop limits);
+            going = λ d v. met_here v.exceeds v.message;
+            reply = reply_at (Pop limits) receive_there.0;
+            asks = asks_at (Receive c line items iostat to next) does can.ready receive_frame;
             replies = receive_replies;
-            block_is = receive_block (gives (Pop []) receive_there.0);
+            block_is = receive_block there_over there_message;
             goes = record {
               self_is = is ∙ ap (λ v. v.self) goes;
-              starts_are = sym (receive_starts (gives (Pop []) receive_there.0));
+              starts_are = sym (receive_starts there_over there_message);
               cost_is = paid ∙ ap (λ v. v.cost) goes;
-              chans_are = chans ∙ ap (λ v. all_shed v.drops (adjust m c (changed (Pop [])))) goes ∙ ap (λ zs. all_shed zs (adjust m c (changed (Pop [])))) (sym (ap (λ zs. out.drops ++ zs) (no_spills (get m c)) ∙ append-nil out.drops));
+              chans_are = chans ∙ ap (λ v. all_shed v.drops (adjust m c (changed (Pop limits)))) goes ∙ ap (λ zs. all_shed zs (adjust m c (changed (Pop limits)))) (sym (ap (λ zs. out.drops ++ zs) (no_spills limits (get m c)) ∙ append-nil out.drops));
             };
             carries =
-                subst (λ zs. Carries zs (out.drops ++ []) ports later) (ap law.got same ∙ sym (append-nil (law.got (gives (Pop []) receive_there.0))))
-                (subst (λ zs. Carries (law.got o) zs ports later) (ap (λ v. v.drops) goes ∙ sym (append-nil out.drops)) carries);
+                subst (λ zs. Carries zs (out.drops ++ []) ports later) (ap law.got same ∙ sym (append-nil (law.got there_message)))
+                (subst (λ zs. Carries (law.got (message_in g)) zs ports later) (ap (λ v. v.drops) goes ∙ sym (append-nil out.drops)) carries);
           }
 
-      end_drops_none : (vs : List Frame) (f : Frame) (s : Option Span) (n : Option ℕ) → (received x line vs f next items s n None).drops ≡ []
+      end_drops_none : (vs : List Frame) (f : Frame) (s : Option Span) (n : Option ℕ) → (at_the_end x line vs f next s n).drops ≡ []
       end_drops_none vs f None None = refl
       end_drops_none vs f None (Some n) = refl
       end_drops_none vs f (Some s) n = refl
 
-      end_cost : (vs : List Frame) (f : Frame) (s : Option Span) (n : Option ℕ) → (received x line vs f next items s n None).cost ≡ 1
+      end_cost : (vs : List Frame) (f : Frame) (s : Option Span) (n : Option ℕ) → (at_the_end x line vs f next s n).cost ≡ 1
       end_cost vs f None None = refl
       end_cost vs f None (Some n) = refl
       end_cost vs f (Some s) n = refl
 
+      -- a message that exceeds stays, and that is a fault
+      pub exceeds_receives : ((left : List PortValue) → Carries [] left ports later) → got.Exceeds ≡ got_at limits (get m c) → (y : Proc) → y ≡ (faulted x line Subscript).self → (cs : Chans) → cs ≡ adjust m c (changed (Pop limits))
+          → Performs program p x m kids ports y [] cs later 1
+      exceeds_receives carries brought y is cs chans = receives got.Exceeds brought y is cs (chans ∙ sym (all_shed-nil (adjust m c (changed (Pop limits))))) 1 refl (carries [])
+
       -- at the end of the channel
-      pub end_receives : ((left : List PortValue) → Carries [] left ports later) → None ≡ message_in (got_at [] (get m c)) → (y : Proc) → y ≡ (after_end_of_channel x line next iostat to).self → (cs : Chans) → cs ≡ adjust m c (changed (Pop []))
+      pub end_receives : ((left : List PortValue) → Carries [] left ports later) → got.End ≡ got_at limits (get m c) → (y : Proc) → y ≡ (after_end_of_channel x line next iostat to).self → (cs : Chans) → cs ≡ adjust m c (changed (Pop limits))
           → Performs program p x m kids ports y [] cs later 1
       end_receives carries brought y is cs chans =
           let i = receive_frame in
-          let none : (after_receive None).drops ≡ [] = ap (λ o. o.drops) (receive_is None) ∙ end_drops_none i.below i.top iostat to in
-          let one : (after_receive None).cost ≡ 1 = ap (λ o. o.cost) (receive_is None) ∙ end_cost i.below i.top iostat to in
-          receives None brought y is cs (chans ∙ sym (ap (λ zs. all_shed zs (adjust m c (changed (Pop [])))) none ∙ all_shed-nil (adjust m c (changed (Pop []))))) 1 (sym one) (carries (after_receive None).drops)
+          let none : (after_end_of_channel x line next iostat to).drops ≡ [] = ap (λ o. o.drops) end_is ∙ end_drops_none i.below i.top iostat to in
+          let one : (after_end_of_channel x line next iostat to).cost ≡ 1 = ap (λ o. o.cost) end_is ∙ end_cost i.below i.top iostat to in
+          receives got.End brought y is cs (chans ∙ sym (ap (λ zs. all_shed zs (adjust m c (changed (Pop limits)))) none ∙ all_shed-nil (adjust m c (changed (Pop limits))))) 1 (sym one) (carries (after_end_of_channel x line next iostat to).drops)
 
     module _ (c : ChanName) (place : Span) (next : ℕ) (does : action_of program x ≡ Meets (Probe c place next)) (can : CanPerform program p x m [] ports) where
       probe_frame : InFrame x

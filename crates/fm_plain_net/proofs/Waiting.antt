@@ -13,7 +13,7 @@ use Rattle.fm_mean.specs.Actions as mean
 use Rattle.fm_mean.specs.Actions.{Join, Meets, Receive, action_in, action_of, joining, running}
 use Rattle.fm_mean.specs.Outcome.{awaited, need_in, need_of, waits_by}
 use Rattle.fm_mean.specs.Process.{Frame, Phase, Running, Joining, Ended, Faulted, Proc}
-use Rattle.fm_mean.specs.Steps.{ask_for, ask_event}
+use Rattle.fm_mean.specs.Steps.{ask_for, ask_event, limits_of}
 use Rattle.fm_plain.specs.Looking.{is_free}
 use Rattle.fm_plain_replies.specs.Joins.{kids_in}
 use Rattle.fm_plain_net.proofs.Performing.{InFrame}
@@ -33,7 +33,7 @@ module _ (program : Program) (x : Proc) where
   need_at : (e : mean.Event) → action_of program x ≡ Meets e → (i : InFrame x) → need_of program x ≡ need_in (ask_event program x e (i.top ∷ i.below))
   need_at e does i = ap (λ a. need_in (ask_for program x a)) does ∙ ap (λ fs. need_in (ask_event program x e fs)) i.is
 
-  pub receive_need : (c : ChanName) (line : ℕ) (items : List Span) (iostat : Option Span) (to : Option ℕ) (next : ℕ) → action_of program x ≡ Meets (Receive c line items iostat to next) → need_of program x ≡ Some (Event c (Pop []))
+  pub receive_need : (c : ChanName) (line : ℕ) (items : List Span) (iostat : Option Span) (to : Option ℕ) (next : ℕ) → action_of program x ≡ Meets (Receive c line items iostat to next) → need_of program x ≡ Some (Event c (Pop (limits_of items)))
   receive_need c line items iostat to next does = need_at (Receive c line items iostat to next) does (has_frame (Receive c line items iostat to next) does)
 
   pub join_need : (block next : ℕ) → action_of program x ≡ Meets (Join block (kids_in x.phase) next) → need_of program x ≡ Some (Children block (length (kids_in x.phase)))

@@ -7,7 +7,7 @@ ghost use Rattle.fm_base.specs.Channels.{Pop, all_shed, fresh, message_ports};
 ghost use Rattle.fm_base.specs.declared.port.PortValue.TheVariants.{Reader};
 ghost use Rattle.fm_chan.specs.Bodies.{chans_of};
 ghost use Rattle.fm_chan.specs.Events.{after_op};
-ghost use Rattle.fm_chan.specs.Received.{got_at, message_in, waits_at};
+ghost use Rattle.fm_chan.specs.Received.{got_at, waits_at};
 ghost use Rattle.fm_chan.specs.Woken.{Wakes, WakesAll};
 ghost use Rattle.fm_net.specs.Lawful.{ports_from};
 ghost use Rattle.fm_net.specs.Owned.{name_of};
@@ -15,7 +15,7 @@ ghost use Rattle.fm_rules.specs.declared.program.Program as declared;
 ghost use Rattle.fm_mean.specs.Actions as action;
 ghost use Rattle.fm_mean.specs.Actions.{action_of, message_words as words_of};
 ghost use Rattle.fm_mean.specs.Process.{Proc};
-ghost use Rattle.fm_mean.specs.Steps.{ended};
+ghost use Rattle.fm_mean.specs.Steps.{ended, limits_of};
 ghost use Rattle.fm_plain_frame.specs.Frames.{proc_of};
 ghost use Rattle.fm_plain_frame.specs.LetGo.{let_go_ports};
 ghost use Rattle.fm_plain_replies.specs.Goes.{after_begin, after_message};
@@ -28,7 +28,7 @@ ghost use Rattle.fm_plain_net.specs.Held.{AreKept, AreOnce, Carries, IsKept, May
 use crate::messages::{message_from, unpacked};
 use crate::ports::Ports;
 use fm_base::{ChanName, Fault, Line, NoMemory, Path, PortValue, Seq};
-use fm_chan::{Channels, Message, Port};
+use fm_chan::{Channels, Got, Message, Port};
 use fm_mean::{Actual, Span};
 use fm_plain::Event;
 use fm_plain_frame::{Leaving, LetGo, PlainProc};
@@ -257,15 +257,31 @@ fn send(
     Ok(alone(alloc, cost))
 }
 
-// The oldest message of a channel, or none at its end.
-fn next_message(channels: &mut Channels, ports: &Ports, channel: &ChanName) -> Option<Message>
+// The most elements that a receive into these places takes for each of them.
+fn limits_of(alloc: Global, places: &[Span]) -> Result<Vec<Option<u32>>, NoMemory>
+    ensures { IfOk result (λ limits. limits.items ≡ limits_of places.now) }
+{
+    let mut limits = Vec::new(alloc);
+    'places: for place in places {
+        limits.push(Some(place.count))?;
+    }
+    Ok(limits)
+}
+
+// What a receive with these limits gets of a channel.
+fn next_message(
+    channels: &mut Channels,
+    ports: &Ports,
+    channel: &ChanName,
+    limits: &[Option<u32>],
+) -> Got
     requires { IsKept ports.now (Reader channel.now) }
-    ensures message { result ≡ message_in (got_at [] (get (chans_of channels.old) channel.now)) }
-    ensures channels { chans_of channels.new ≡ after_op (Reader channel.now) (Pop []) (chans_of channels.old) }
+    ensures got { result ≡ got_at limits.now (get (chans_of channels.old) channel.now) }
+    ensures channels { chans_of channels.new ≡ after_op (Reader channel.now) (Pop limits.now) (chans_of channels.old) }
     ensures waking { Wakes channels.old channels.new }
 {
     match ports.inport(channel) {
-        Some(port) => channels.receive(port, &[]).into_message(),
+        Some(port) => channels.receive(port, limits),
         None => unreachable!(),
     }
 }
@@ -315,14 +331,20 @@ fn receive(
     ensures performs { IfOk result (λ done. Performs program.now path.now (proc_of program.now process.old) (chans_of channels.old) [] ports.old (proc_of program.now process.new) (map (proc_of program.now) done.children.items) (chans_of channels.new) ports.new done.cost) }
     ensures waking { OnOk result (WakesAll channels.old channels.new) }
 {
-    match next_message(channels, ports, &channel) {
-        Some(message) => {
+    let limits = limits_of(alloc, places)?;
+    match next_message(channels, ports, &channel, limits.as_slice()) {
+        Got::Message(message) => {
             let cost = store(
                 alloc, program, process, channels, ports, places, iostat, message, next,
             )?;
             Ok(alone(alloc, cost))
         }
-        None => {
+        Got::Exceeds => {
+            fail(process, line, Fault::Subscript);
+            Ok(alone(alloc, 1))
+        }
+        Got::Wait => unreachable!(),
+        Got::End => {
             meet_end(program, process, line, iostat, at_end, next);
             Ok(alone(alloc, 1))
         }

@@ -4,9 +4,9 @@ ghost use Rattle.std.specs.Prelude.{◌≡◌, option_map};
 ghost use Rattle.std.specs.List.{slice_get};
 ghost use Rattle.fm_tree.specs.PortReading.{kind_of};
 ghost use Rattle.fm_tree.specs.Same.{same_kind};
-ghost use Rattle.fm_rules.specs.PortFitting.{fits_field, fits_formal, goes, has_elements, is_array_in, is_as_long, is_kind_of, is_one_port, is_port_to, is_scalar, is_scalar_kind, is_whole, lacks_port, lacks_ports, message_in, message_of, messages_differ, number_in, port_variable, ports_differ};
+ghost use Rattle.fm_rules.specs.PortFitting.{fits_field, fits_formal, goes, has_elements, has_room, is_array_in, is_as_long, is_kind_of, is_one_port, is_port_to, is_scalar, is_scalar_kind, is_sized, is_whole, lacks_port, lacks_ports, message_in, message_of, messages_differ, number_in, port_variable, ports_differ};
 
-use fm_rules::ExprType;
+use fm_rules::{ExprType, sizing_place};
 use fm_symbols::{Direction, Scalar, UnitNames, Variable};
 use fm_tree::{Bound, Expr, ExprNode, Field, Kind, PortType};
 
@@ -173,6 +173,20 @@ fn has_elements(elements: u32, bounds: &[Bound]) -> bool
     }
 }
 
+// An array that an earlier field sizes.
+fn is_sized(bounds: &[Bound]) -> bool
+    ensures { result ≡ is_sized bounds.now }
+{
+    sizing_place(bounds).is_some()
+}
+
+// An array of so many elements, or one of any number.
+fn has_room(elements: u32, bounds: &[Bound]) -> bool
+    ensures { result ≡ has_room elements bounds.now }
+{
+    is_sized(bounds) || has_elements(elements, bounds)
+}
+
 fn is_kind_of(variable: Option<&Variable>, kind: &Kind) -> bool
     ensures { result ≡ is_kind_of (option_map (λ v. v.now) variable.entry) (kind_of kind.now) }
 {
@@ -199,7 +213,7 @@ pub(crate) fn fits_field(names: &UnitNames, found: ExprType, field: &Field) -> b
     match found {
         ExprType::Value(scalar) => is_scalar_kind(scalar, kind) && is_scalar(bounds),
         ExprType::Array(scalar, elements) => {
-            is_scalar_kind(scalar, kind) && has_elements(elements, bounds)
+            is_scalar_kind(scalar, kind) && has_room(elements, bounds)
         }
         ExprType::Port(place) => is_kind_of(variable_at(names, place), kind) && is_scalar(bounds),
         ExprType::Ports(place) => {

@@ -4,3 +4,4 @@ pub mod Messages
 pub mod NewChannels
 pub mod Faults
 pub mod Rooms
+pub mod OperandLimits

@@ -1,12 +1,13 @@
 -- What a process does with a message, or with the end of a channel, is what it asked for.
-use Rattle.std.proofs.Common.{◌≡◌, ℕ, ℤ, pos, ◌+◌, Bool, true, false, cond, Option, Some, None, List, [], ◌++◌, refl, sym, ap, ◌∙◌, append-nil}
+use Rattle.std.proofs.Common.{◌≡◌, ℕ, ℤ, pos, ◌+◌, Bool, true, false, cond, not, Option, Some, None, List, [], ◌∷◌, ◌++◌, refl, sym, ap, ap₂, ◌∙◌, append-nil}
 use Rattle.std.specs.Prelude.{is_some, slice_set, Result, Ok, Err, IfOk, OnErr, OnOk}
 use Rattle.fm_base.specs.declared.memory.NoMemory.{NoMemory}
-use Rattle.std.specs.FinMap.{get}
+use Rattle.std.specs.FinMap.{get, insert}
+use Rattle.fm_base.specs.declared.fault.Fault.TheVariants.{Subscript}
 use Rattle.fm_base.specs.declared.path.ChanName.{ChanName}
 use Rattle.fm_base.specs.declared.port.PortValue.{PortValue}
 use Rattle.fm_base.specs.declared.port.PortValue.TheVariants.{Writer, Reader}
-use Rattle.fm_base.specs.Channels.{Message, Chan, Chans, Push, Pop, Look, changed, tells, is_ready, spills_at, all_shed}
+use Rattle.fm_base.specs.Channels.{Message, Chan, Chans, Limits, Push, Pop, Look, changed, exceeds, first_exceeds, first_message, fits_limits, gives, tells, is_ready, spills_at, all_shed}
 use Rattle.fm_values.specs.Values.{truth_word}
 use Rattle.fm_finmap.specs.Changes.{adjust}
 use Rattle.fm_finmap.proofs.Adjusts.{adjust-insert}
@@ -15,19 +16,19 @@ use Rattle.fm_net.proofs.Keys.{channel_order}
 use Rattle.fm_discards.proofs.Shedding.{all_shed-nil}
 use Rattle.fm_chan.specs.Events.{after_send_to, after_op, chan_at, is_outport}
 use Rattle.fm_chan.specs.Received.{got_at, message_in, waits_at}
-use Rattle.fm_chan.proofs.Receiving.{message_brought}
-use Rattle.fm_net.specs.Machine.{Place, Event, Reply, reply_at, served_at}
+use Rattle.fm_chan.proofs.Receiving.{exceeds_rest, message_brought, within_first, within_rest}
+use Rattle.fm_net.specs.Machine.{Place, Event, Onward, Reply, reply_at, served_at}
 use Rattle.fm_code.specs.declared.ask.Ask.TheVariants as ask
 use Rattle.fm_code.specs.declared.ask.Operand.{Operand}
 use Rattle.fm_code.specs.declared.body.Body.{Body}
-use Rattle.fm_code.specs.Statements.{with_words}
+use Rattle.fm_code.specs.Statements.{line_of, with_words}
 use Rattle.fm_machine_calls.specs.declared.looking.Look.TheVariants as look
 use Rattle.fm_proc_language.specs.Slots.{Slots, in_slot}
 use Rattle.fm_proc_language.specs.Frames.{all_stored, message_from}
-use Rattle.fm_proc_language.specs.Processes.{CodeProc, asks, sends_by, receives_by, probes_by, sent, received, came, at_the_end, probed, holding, message_words, with_status}
+use Rattle.fm_proc_language.specs.Processes.{CodeProc, asks, sends_by, receives_by, probes_by, sent, limits_of, met, came, at_the_end, faulted, probed, holding, message_words, with_status}
 use Rattle.fm_proc_language.specs.Needs.{need_in}
 use Rattle.fm_proc_slots.specs.Helds.{held}
-use Rattle.fm_proc_events.specs.Events.{channel_in, with_body}
+use Rattle.fm_proc_events.specs.Events.{channel_in, exceeds_at, with_body}
 use Rattle.fm_proc_events.specs.Performs.{CanPerform, Performs, reply_to}
 use Rattle.fm_proc_events.specs.Told.{look_of}
 use Rattle.fm_proc_events.proofs.Doing.{bodied, asks_so, can_so}
@@ -65,9 +66,9 @@ any_writer : (c : ChanName) (v w : ℕ) (message : Message) (o : Option Chan) �
 any_writer c v w message None = refl
 any_writer c v w message (Some ch) = refl
 
-no_spills : (o : Option Chan) → spills_at (Pop []) o ≡ []
-no_spills None = refl
-no_spills (Some ch) = refl
+no_spills : (limits : Limits) (o : Option Chan) → spills_at (Pop limits) o ≡ []
+no_spills limits None = refl
+no_spills limits (Some ch) = refl
 
 no_looks : (o : Option Chan) → spills_at Look o ≡ []
 no_looks None = refl
@@ -152,22 +153,31 @@ module _ (y : CodeProc) (cs : Chans) (slot : ℤ) (items : List Operand) (next :
 
 -- ---- receiving
 
-record Popped (o : Option Chan) : Type 0 where
-  pub reply : Reply CodeProc
-  pub comes : served_at (Pop []) o ≡ Some reply
-  pub brings : reply.message ≡ message_in (got_at [] o)
-
-popped : (o : Option Chan) → is_some (served_at {Proc = CodeProc} (Pop []) o) ≡ true → Popped o
-popped None e = absurd (cc e)
-popped (Some ch) e = go (is_ready (Pop []) ch) refl
+-- no message comes where the first one exceeds its limits
+over_gives : (limits : Limits) (q : List Message) → first_exceeds limits q ≡ true → first_message limits q ≡ None
+over_gives limits [] over = refl
+over_gives limits (m ∷ ms) over = go (fits_limits limits m) over
   where
-    go : (b : Bool) → is_ready (Pop []) ch ≡ b → Popped (Some ch)
-    go true ready = record {
-      reply = reply_at (Pop []) ch;
-      comes = ap (λ b. cond b (Some (reply_at (Pop []) ch)) None) ready;
-      brings = sym (message_brought ch ready);
-    }
-    go false waits = absurd (cc (sym (ap (λ b. is_some (cond b (Some (reply_at {Proc = CodeProc} (Pop []) ch)) None)) waits) ∙ e))
+    go : (b : Bool) → not b ≡ true → cond b (Some m) None ≡ None
+    go true e = absurd (cc e)
+    go false e = refl
+
+-- a receive has its step at the channel
+record Popped (limits : Limits) (o : Option Chan) : Type 0 where
+  pub ch : Chan
+  pub there : o ≡ Some ch
+  pub ready : is_ready (Pop limits) ch ≡ true
+
+popped : (limits : Limits) (o : Option Chan) → is_some (served_at {Proc = CodeProc} (Pop limits) o) ≡ true → Popped limits o
+popped limits None e = absurd (cc e)
+popped limits (Some ch) e = go (is_ready (Pop limits) ch) refl
+  where
+    go : (b : Bool) → is_ready (Pop limits) ch ≡ b → Popped limits (Some ch)
+    go true ready = record { ch = ch; there = refl; ready = ready }
+    go false waits = absurd (cc (sym (ap (λ b. is_some (cond b (Some (reply_at {Proc = CodeProc} (Pop limits) ch)) None)) waits) ∙ e))
+
+pop_comes : (limits : Limits) (o : Option Chan) (ch : Chan) → o ≡ Some ch → is_ready (Pop limits) ch ≡ true → served_at {Proc = CodeProc} (Pop limits) o ≡ Some (reply_at (Pop limits) ch)
+pop_comes limits o ch there ready = ap (served_at (Pop limits)) there ∙ ap (λ b. cond b (Some (reply_at (Pop limits) ch)) None) ready
 
 module _ (y : CodeProc) (cs : Chans) (slot : ℤ) (items : List Operand) (status at_end : Option ℕ) (next : ℕ) (told : look_of y ≡ look.Asks (ask.Receive slot items status at_end next)) (can : CanPerform y cs) where
   receive_body : y.body ≡ None → ⊥
@@ -188,8 +198,8 @@ module _ (y : CodeProc) (cs : Chans) (slot : ℤ) (items : List Operand) (status
     asks_receive : asks y ≡ receives_by y b (Some (Reader inport.channel)) items status at_end next
     asks_receive = asks_so y cs (ask.Receive slot items status at_end next) refl told can b is ∙ ap (λ x. receives_by y b x items status at_end next) inport.is
 
-    receive_served : Popped (get cs inport.channel)
-    receive_served = popped (get cs inport.channel) (sym (ap (λ a. is_some (reply_to cs (need_in a))) asks_receive) ∙ can)
+    receive_served : Popped (limits_of items) (get cs inport.channel)
+    receive_served = popped (limits_of items) (get cs inport.channel) (sym (ap (λ a. is_some (reply_to cs (need_in a))) asks_receive) ∙ can)
 
     end_starts : (s e : Option ℕ) → (at_the_end y b next s e).starts ≡ []
     end_starts None None = refl
@@ -211,59 +221,102 @@ module _ (y : CodeProc) (cs : Chans) (slot : ℤ) (items : List Operand) (status
     end_cost None (Some to) = refl
     end_cost (Some k) to = refl
 
-    starts_none : (o : Option Message) → (received y b next items status at_end o).starts ≡ []
-    starts_none None = end_starts status at_end
-    starts_none (Some message) = refl
+    starts_none : (exceeds : Bool) (o : Option Message) → (met y b next items status at_end exceeds o).starts ≡ []
+    starts_none true None = refl
+    starts_none true (Some message) = refl
+    starts_none false None = end_starts status at_end
+    starts_none false (Some message) = refl
 
-    same_block : (o : Option Message) → (received y b next items status at_end o).block ≡ y.next_block
-    same_block None = end_block status at_end
-    same_block (Some message) = refl
+    same_block : (exceeds : Bool) (o : Option Message) → (met y b next items status at_end exceeds o).block ≡ y.next_block
+    same_block true None = refl
+    same_block true (Some message) = refl
+    same_block false None = end_block status at_end
+    same_block false (Some message) = refl
 
-    receives : (p : Place) (x : PortValue) → Some x ≡ in_slot y.slots slot
-        → (o : Option Message) → o ≡ message_in (got_at [] (chan_at x cs))
-        → (z : CodeProc) → z ≡ (received y b next items status at_end o).self
-        → (n : Chans) → n ≡ all_shed (received y b next items status at_end o).drops (after_op x (Pop []) cs)
-        → (cost : ℕ) → cost ≡ (received y b next items status at_end o).cost
+    -- what came of it
+    receives : (p : Place) (over : Bool) → over ≡ exceeds (Pop (limits_of items)) receive_served.ch → (o : Option Message) → o ≡ gives (Pop (limits_of items)) receive_served.ch
+        → (z : CodeProc) → z ≡ (met y b next items status at_end over o).self
+        → (n : Chans) → n ≡ all_shed (met y b next items status at_end over o).drops (adjust cs inport.channel (changed (Pop (limits_of items))))
+        → (cost : ℕ) → cost ≡ (met y b next items status at_end over o).cost
         → Performs p y cs z [] n cost
-    receives p x x_is o o_is z z_is n n_is cost cost_is =
+    receives p over over_is o o_is z z_is n n_is cost cost_is =
         let c = inport.channel in
-        let r = received y b next items status at_end in
-        let reader : x ≡ Reader c = cc (x_is ∙ inport.is) in
-        let brought : o ≡ receive_served.reply.message = o_is ∙ ap (λ v. message_in (got_at [] (chan_at v cs))) reader ∙ sym receive_served.brings in
-        let out = r receive_served.reply.message in
+        let pop = Pop (limits_of items) in
+        let r = met y b next items status at_end in
+        let reply : Reply CodeProc = reply_at pop receive_served.ch in
+        let same : r over o ≡ r reply.exceeds reply.message = ap₂ r over_is o_is in
+        let out = r reply.exceeds reply.message in
         record {
-          need = Event c (Pop []);
-          goes = λ d v. r v.message;
+          need = Event c pop;
+          goes = λ d v. r v.exceeds v.message;
           asks_so = asks_receive;
-          reply = receive_served.reply;
-          comes = receive_served.comes;
+          reply = reply;
+          comes = pop_comes (limits_of items) (get cs c) receive_served.ch receive_served.there receive_served.ready;
           on = record {
-            self = z_is ∙ ap (λ v. (r v).self) brought;
-            block = same_block receive_served.reply.message;
-            starts_are = sym (starts_none receive_served.reply.message);
-            chans = n_is ∙ ap (λ v. all_shed (r o).drops (after_op v (Pop []) cs)) reader ∙ ap (λ v. all_shed (r v).drops (adjust cs c (changed (Pop [])))) brought
-                ∙ ap (λ zs. all_shed zs (adjust cs c (changed (Pop [])))) (sym (ap (λ zs. out.drops ++ zs) (no_spills (get cs c)) ∙ append-nil out.drops));
-            cost_is = cost_is ∙ ap (λ v. (r v).cost) brought;
+            self = z_is ∙ ap (λ (v : Onward CodeProc). v.self) same;
+            block = same_block reply.exceeds reply.message;
+            starts_are = sym (starts_none reply.exceeds reply.message);
+            chans = n_is ∙ ap (λ (v : Onward CodeProc). all_shed v.drops (adjust cs c (changed pop))) same
+                ∙ ap (λ zs. all_shed zs (adjust cs c (changed pop))) (sym (ap (λ zs. out.drops ++ zs) (no_spills (limits_of items) (get cs c)) ∙ append-nil out.drops));
+            cost_is = cost_is ∙ ap (λ (v : Onward CodeProc). v.cost) same;
           };
         }
 
-    module _ (p : Place) (x : PortValue) (x_is : Some x ≡ in_slot y.slots slot) (mid : Chans) (mid_is : mid ≡ after_op x (Pop []) cs) (z : CodeProc) (n : Chans) where
-      pub gets_message : (message : Message) → Some message ≡ message_in (got_at [] (chan_at x cs)) → (its : List Operand) → its ≡ items
-          → (after : Body) → after ≡ with_words b next (with_status (all_stored (held b.frame.words y.slots) its message).0 status (pos 0)).words
-          → (slots : Slots) → slots ≡ (with_status (all_stored (held b.frame.words y.slots) its message).0 status (pos 0)).slots
-          → (drops : List PortValue) → drops ≡ (all_stored (held b.frame.words y.slots) its message).1
-          → z ≡ record y { body = Some after; slots = slots } → n ≡ all_shed drops mid
-          → (cost : ℕ) → cost ≡ 1 + message_words message → Performs p y cs z [] n cost
-      gets_message message came_so its same after after_is slots slots_are drops drops_are z_is n_is cost cost_is =
-          receives p x x_is (Some message) came_so z
-          (z_is ∙ (λ i. record y { body = Some (after_is i); slots = slots_are i }) ∙ ap (λ v. (came y b next v status message).self) same) n
-          (n_is ∙ ap (λ v. all_shed v mid) (drops_are ∙ ap (λ v. (all_stored (held b.frame.words y.slots) v message).1) same) ∙ ap (all_shed (came y b next items status message).drops) mid_is) cost cost_is
+    module _ (p : Place) (x : PortValue) (x_is : Some x ≡ in_slot y.slots slot) where
+      reader_is : x ≡ Reader inport.channel
+      reader_is = cc (x_is ∙ inport.is)
 
-      pub meets_end : None ≡ message_in (got_at [] (chan_at x cs)) → z ≡ (at_the_end (with_body y b) b next status at_end).self → n ≡ mid → Performs p y cs z [] n 1
-      meets_end ended z_is n_is =
-          let m = after_op x (Pop []) cs in
-          receives p x x_is None ended z (z_is ∙ ap (λ v. (at_the_end v b next status at_end).self) (as_it_was y b is)) n
-          (n_is ∙ mid_is ∙ sym (ap (λ zs. all_shed zs m) (end_drops status at_end) ∙ all_shed-nil m)) 1 (sym (end_cost status at_end))
+      found : chan_at x cs ≡ Some receive_served.ch
+      found = ap (λ v. chan_at v cs) reader_is ∙ receive_served.there
+
+      -- the first message exceeds its operands, and stays
+      excess_stays : exceeds_at (limits_of items) (chan_at x cs) ≡ true → (z : CodeProc) → z ≡ (faulted y (line_of b) Subscript).self → Performs p y cs z [] cs 1
+      excess_stays over z z_is =
+          let c = inport.channel in
+          let ch = receive_served.ch in
+          let pop = Pop (limits_of items) in
+          let over_at : exceeds pop ch ≡ true = sym (ap (exceeds_at (limits_of items)) found) ∙ over in
+          let stays : adjust cs c (changed pop) ≡ cs =
+          adjust-insert channel_order cs c (changed pop) ch receive_served.there ∙ ap (insert cs c) (sym (exceeds_rest (limits_of items) ch over_at))
+          ∙ insert_same channel_order cs c ch receive_served.there in
+          receives p true (sym over_at) None (sym (over_gives (limits_of items) ch.queue over_at)) z z_is cs (sym (all_shed-nil (adjust cs c (changed pop)) ∙ stays)) 1 refl
+
+      module _ (within : exceeds_at (limits_of items) (chan_at x cs) ≡ false) (mid : Chans) (mid_is : mid ≡ after_op x (Pop []) cs) (z : CodeProc) (n : Chans) where
+        fits : exceeds (Pop (limits_of items)) receive_served.ch ≡ false
+        fits = sym (ap (exceeds_at (limits_of items)) found) ∙ within
+
+        -- it is as without limits
+        brought : (o : Option Message) → o ≡ message_in (got_at [] (chan_at x cs)) → o ≡ gives (Pop (limits_of items)) receive_served.ch
+        brought o o_is =
+            o_is ∙ ap (λ v. message_in (got_at [] v)) found ∙ message_brought receive_served.ch receive_served.ready ∙ within_first (limits_of items) receive_served.ch.queue fits
+
+        mid_so : mid ≡ adjust cs inport.channel (changed (Pop (limits_of items)))
+        mid_so =
+            let c = inport.channel in
+            let ch = receive_served.ch in
+            mid_is ∙ ap (λ v. after_op v (Pop []) cs) reader_is ∙ adjust-insert channel_order cs c (changed (Pop [])) ch receive_served.there
+            ∙ ap (insert cs c) (within_rest (limits_of items) ch (changed (Pop []) ch) fits refl) ∙ sym (adjust-insert channel_order cs c (changed (Pop (limits_of items))) ch receive_served.there)
+
+        pub gets_message : (message : Message) → Some message ≡ message_in (got_at [] (chan_at x cs)) → (its : List Operand) → its ≡ items
+            → (after : Body) → after ≡ with_words b next (with_status (all_stored (held b.frame.words y.slots) its message).0 status (pos 0)).words
+            → (slots : Slots) → slots ≡ (with_status (all_stored (held b.frame.words y.slots) its message).0 status (pos 0)).slots
+            → (drops : List PortValue) → drops ≡ (all_stored (held b.frame.words y.slots) its message).1
+            → z ≡ record y { body = Some after; slots = slots } → n ≡ all_shed drops mid
+            → (cost : ℕ) → cost ≡ 1 + message_words message → Performs p y cs z [] n cost
+        gets_message message came_so its same after after_is slots slots_are drops drops_are z_is n_is cost cost_is =
+            receives p false (sym fits) (Some message) (brought (Some message) came_so) z
+            (z_is ∙ (λ i. record y { body = Some (after_is i); slots = slots_are i }) ∙ ap (λ v. (came y b next v status message).self) same) n
+            (n_is ∙ ap (λ v. all_shed v mid) (drops_are ∙ ap (λ v. (all_stored (held b.frame.words y.slots) v message).1) same) ∙ ap (all_shed (came y b next items status message).drops) mid_so) cost cost_is
+
+        pub meets_end : None ≡ message_in (got_at [] (chan_at x cs)) → z ≡ (at_the_end (with_body y b) b next status at_end).self → n ≡ mid → Performs p y cs z [] n 1
+        meets_end ended z_is n_is =
+            let m = adjust cs inport.channel (changed (Pop (limits_of items))) in
+            receives p false (sym fits) None (brought None ended) z (z_is ∙ ap (λ v. (at_the_end v b next status at_end).self) (as_it_was y b is)) n
+            (n_is ∙ mid_so ∙ sym (ap (λ zs. all_shed zs m) (end_drops status at_end) ∙ all_shed-nil m)) 1 (sym (end_cost status at_end))
+
+  pub meets_excess : (p : Place) (x : PortValue) → Some x ≡ in_slot y.slots slot → exceeds_at (limits_of items) (chan_at x cs) ≡ true
+      → (z : CodeProc) → ((b : Body) → y.body ≡ Some b → z ≡ (faulted y (line_of b) Subscript).self) → Performs p y cs z [] cs 1
+  meets_excess p x x_is over z z_is = some_body y (Performs p y cs z [] cs 1) receive_body (λ b is. excess_stays b is p x x_is over z (z_is b is))
 
 -- ---- looking
 

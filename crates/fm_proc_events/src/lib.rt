@@ -4,6 +4,7 @@
 #![tactic(auto)]
 
 mod failing;
+mod fitting;
 mod going;
 mod letting;
 mod making;

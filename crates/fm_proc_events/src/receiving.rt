@@ -1,6 +1,7 @@
 //! A message is received, or the end of its channel is met.
 
 ghost use Rattle.std.specs.Prelude.{◌≡◌, ◌+◌, [], false, pos, Some, IfErr, IfOk, IfSome, OnErr, OnOk};
+ghost use Rattle.fm_base.specs.declared.fault.Fault.TheVariants.{Subscript};
 ghost use Rattle.fm_base.specs.declared.port.PortValue.{PortValue};
 ghost use Rattle.fm_base.specs.Channels.{Pop, channel_of};
 ghost use Rattle.fm_finmap.specs.Changes.{adjust};
@@ -10,17 +11,19 @@ ghost use Rattle.fm_chan.specs.Received.{got_at, message_in};
 ghost use Rattle.fm_chan.specs.Rooms.{HasRoom};
 ghost use Rattle.fm_chan.specs.Woken.{WakesAll};
 ghost use Rattle.fm_code.specs.declared.ask.Ask.TheVariants as ask;
-ghost use Rattle.fm_code.specs.Statements.{with_words};
+ghost use Rattle.fm_code.specs.declared.body.Body as declared;
+ghost use Rattle.fm_code.specs.Statements.{line_of, with_words};
 ghost use Rattle.fm_machine_calls.specs.declared.looking.Look.TheVariants.{Asks};
 ghost use Rattle.fm_proc_language.specs.Frames.{all_stored};
-ghost use Rattle.fm_proc_language.specs.Processes.{at_the_end, message_words, with_status};
+ghost use Rattle.fm_proc_language.specs.Processes.{at_the_end, faulted, limits_of, message_words, with_status};
 ghost use Rattle.fm_proc_language.specs.Slots.{in_slot};
 ghost use Rattle.fm_proc_slots.specs.Helds.{held};
-ghost use Rattle.fm_proc_events.specs.Events.{with_body};
+ghost use Rattle.fm_proc_events.specs.Events.{exceeds_at, with_body};
 ghost use Rattle.fm_proc_events.specs.Performs.{CanPerform, Performs};
 ghost use Rattle.fm_proc_events.specs.Phases.{proc_of};
 ghost use Rattle.fm_proc_events.specs.Told.{look_of};
 
+use crate::fitting::exceeds;
 use crate::going::{put_and_set_address, set_address};
 use crate::process::{Phase, Process};
 use crate::sending::message_cost;
@@ -124,9 +127,22 @@ fn meet_end(process: &mut Process, body: Body, status: Option<u32>, at_end: Opti
     process.body = Some(body);
 }
 
-/// Receives a message by the port in a slot, or meets the end of its channel. The cost. After want of memory the process and the
-/// channels are as they were: the message goes back to where it was.
-pub fn receive(
+/// A process, whose oldest message exceeds its operands, meets a fault.
+fn meet_excess(process: &mut Process)
+    ensures { (b : declared.Body) → (proc_of process.old).body ≡ Some b → proc_of process.new ≡ (faulted (proc_of process.old) (line_of b) Subscript).self }
+{
+    let Some(body) = &process.body else {
+        return;
+    };
+    process.phase = Phase::Faulted {
+        line: line_of(body),
+        fault: Fault::Subscript,
+    };
+}
+
+/// Receives a message that fits by the port in a slot, or meets the end of its channel. The cost. After want of memory the process
+/// and the channels are as they were: the message goes back to where it was.
+fn take_message(
     alloc: Global,
     path: &Path,
     process: &mut Process,
@@ -139,6 +155,7 @@ pub fn receive(
 ) -> Result<u64, NoMemory>
     requires look { look_of (proc_of process.old) ≡ Asks (ask.Receive slot items status at_end next) }
     requires can { CanPerform (proc_of process.old) (chans_of channels.old) }
+    requires within { (x : PortValue) → Some x ≡ in_slot (proc_of process.old).slots slot → exceeds_at (limits_of items) (chan_at x (chans_of channels.old)) ≡ false }
     ensures performs { IfOk result (λ cost. Performs path.now (proc_of process.old) (chans_of channels.old) (proc_of process.new) [] (chans_of channels.new) cost) }
     ensures stays { OnErr result (proc_of process.new ≡ proc_of process.old) }
     ensures channels { OnErr result (chans_of channels.new ≡ chans_of channels.old) }
@@ -169,4 +186,38 @@ pub fn receive(
             Err(error)
         }
     }
+}
+
+/// Receives a message by the port in a slot, or meets the end of its channel. Where the message has more elements for an item than
+/// its operand, it stays and is a fault. The cost. After want of memory the process and the channels are as they were: the message
+/// goes back to where it was.
+pub fn receive(
+    alloc: Global,
+    path: &Path,
+    process: &mut Process,
+    channels: &mut Channels,
+    slot: i64,
+    items: Seq<Operand>,
+    status: Option<u32>,
+    at_end: Option<u32>,
+    next: u32,
+) -> Result<u64, NoMemory>
+    requires look { look_of (proc_of process.old) ≡ Asks (ask.Receive slot items status at_end next) }
+    requires can { CanPerform (proc_of process.old) (chans_of channels.old) }
+    ensures performs { IfOk result (λ cost. Performs path.now (proc_of process.old) (chans_of channels.old) (proc_of process.new) [] (chans_of channels.new) cost) }
+    ensures stays { OnErr result (proc_of process.new ≡ proc_of process.old) }
+    ensures channels { OnErr result (chans_of channels.new ≡ chans_of channels.old) }
+    ensures waking { OnOk result (WakesAll channels.old channels.new) }
+{
+    let exceeding = match process.slots.port(slot) {
+        Some(port) => exceeds(channels, port, items.as_slice()),
+        None => unreachable!(),
+    };
+    if exceeding {
+        meet_excess(process);
+        return Ok(1);
+    }
+    take_message(
+        alloc, path, process, channels, slot, items, status, at_end, next,
+    )
 }

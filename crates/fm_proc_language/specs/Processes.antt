@@ -3,11 +3,11 @@
 use Rattle.std.specs.Prelude.{ℕ, suc, ℤ, pos, negsuc, ◌+◌, ◌==◌, Bool, true, false, Option, Some, None, List, [], ◌∷◌, ◌++◌, length, map, unwrap_or, slice_set, replicate}
 use Rattle.std.specs.List.{flat_map}
 use Rattle.fm_base.specs.declared.fault.Fault.{Fault}
-use Rattle.fm_base.specs.declared.fault.Fault.TheVariants.{EndOfChannel}
+use Rattle.fm_base.specs.declared.fault.Fault.TheVariants.{EndOfChannel, Subscript}
 use Rattle.fm_base.specs.declared.path.ChanName.{ChanName}
 use Rattle.fm_base.specs.declared.port.PortValue.{PortValue}
 use Rattle.fm_base.specs.declared.port.PortValue.TheVariants.{Writer, Reader}
-use Rattle.fm_base.specs.Channels.{Words, Ports, Message, Push, Pop, Look}
+use Rattle.fm_base.specs.Channels.{Words, Ports, Message, Limits, Push, Pop, Look}
 use Rattle.fm_values.specs.Values.{truth_word}
 use Rattle.fm_net.specs.Lawful.{ports_from}
 use Rattle.fm_net.specs.Machine as net
@@ -16,6 +16,7 @@ use Rattle.fm_net.specs.Language.{Language}
 use Rattle.fm_code.specs.declared.ask.Ask.{Ask}
 use Rattle.fm_code.specs.declared.ask.Ask.TheVariants as ask
 use Rattle.fm_code.specs.declared.ask.Operand.{Operand}
+use Rattle.fm_code.specs.declared.ask.Operand.TheVariants as operand
 use Rattle.fm_code.specs.declared.body.Back.{Back}
 use Rattle.fm_code.specs.declared.body.Body.{Body}
 use Rattle.fm_code.specs.declared.body.Frame.{Frame}
@@ -128,6 +129,21 @@ abbrev pub received : CodeProc → Body → (next : ℕ) → List Operand → Op
 received y b next items status at_end None = at_the_end y b next status at_end
 received y b next items status at_end (Some m) = came y b next items status m
 
+-- a receive takes as many elements for each item as its place has
+abbrev pub limit_of : Operand → Option ℕ
+limit_of (operand.Value v) = None
+limit_of (operand.Words s) = Some s.count
+limit_of (operand.Ports s) = Some s.count
+
+abbrev pub limits_of : List Operand → Limits
+limits_of items = map limit_of items
+
+-- where none came since the first one has more, it stays, and that is a fault
+abbrev pub met : CodeProc → Body → (next : ℕ) → List Operand → Option ℕ → Option ℕ → (exceeds : Bool) → Option Message → Onward CodeProc
+met y b next items status at_end true None = faulted y (line_of b) Subscript
+met y b next items status at_end true (Some m) = received y b next items status at_end (Some m)
+met y b next items status at_end false m = received y b next items status at_end m
+
 abbrev pub probed : CodeProc → Body → (next : ℕ) → (empty : ℕ) → Bool → Onward CodeProc
 probed y b next k waits = onward y (going_on y b next (with_status (holding y b) (Some k) (truth_word waits))) [] [] 1
 
@@ -235,7 +251,7 @@ sends_by y b (Some (Writer c w)) m next = Go (net.Event c (Push w m.1)) (λ n r.
 abbrev pub receives_by : CodeProc → Body → Option PortValue → List Operand → (status at_end : Option ℕ) → (next : ℕ) → net.Ask CodeProc
 receives_by y b None items status at_end next = Stop
 receives_by y b (Some (Writer c w)) items status at_end next = Stop
-receives_by y b (Some (Reader c)) items status at_end next = Go (net.Event c (Pop [])) (λ n r. received y b next items status at_end r.message)
+receives_by y b (Some (Reader c)) items status at_end next = Go (net.Event c (Pop (limits_of items))) (λ n r. met y b next items status at_end r.exceeds r.message)
 
 abbrev pub probes_by : CodeProc → Body → Option PortValue → (empty next : ℕ) → net.Ask CodeProc
 probes_by y b None empty next = Stop

@@ -103,7 +103,7 @@ module _ (p : Program) (s : State Proc) (live : IsLive p s) (q : Place) (x : Pro
           event_alike (ask_of.Merger inport outports next) told a does m = merger_alike p types y x b h phase runs body e at inport outports next a m (ComesIn (language p) s) q
           event_alike (ask_of.Send slot items next) told a does m = sends_alike p types y x b h phase runs body e at slot items next a m (sends_from p types y x b h phase e at slot items next told a does m) (ComesIn (language p) s) q
           event_alike (ask_of.Receive slot items status at_end next) told a does m =
-              receives_alike p types y x b h phase runs body e at slot items status at_end next a m (receives_from p types y x b h phase e at slot items status at_end next told a does m) (ComesIn (language p) s) q (λ d r n comes. message_fits p types s live.typed.1 q d r comes n)
+              receives_alike p types y x b h phase runs body e at slot items status at_end next a m (receives_from p types y x b h phase e at slot items status at_end next told a does m) (ComesIn (language p) s) q (λ d limits r n comes. message_fits p types s live.typed.1 q d limits r comes n)
           event_alike (ask_of.Probe slot empty next) told a does m = probes_alike p types y x b h phase runs body e at slot empty next a m (probes_from p types y x b h phase e at slot empty next told a does m) (ComesIn (language p) s) q
           event_alike (ask_of.Begin next) told a does m =
               begins_alike p types y x b h phase runs body e at next a m (may_do p types y x b h phase e at (Meets Begin) (does ∙ m.does)) (ComesIn (language p) s) q

@@ -1,9 +1,9 @@
 -- What a live state tells of a step: the state after it is live again, a message that comes fits its channel, and children that
 -- are joined stand in the state and have ended.
-use Rattle.std.proofs.Common.{◌≡◌, ℕ, zero, suc, true, Some, List, [], ◌∷◌, sym, ap, subst, ◌∙◌}
+use Rattle.std.proofs.Common.{◌≡◌, ℕ, zero, suc, Bool, true, false, cond, Some, None, List, [], ◌∷◌, refl, sym, ap, subst, ◌∙◌}
 use Rattle.std.specs.FinMap.{get}
 use Rattle.fm_base.specs.declared.path.ChanName.{ChanName}
-use Rattle.fm_base.specs.Channels.{Message, Pop, first_message}
+use Rattle.fm_base.specs.Channels.{Message, Limits, Pop, first_message, fits_limits}
 use Rattle.fm_sched.specs.Schedule.{Can, next}
 use Rattle.fm_net.specs.Machine.{Place, Procs, Event, Children, Reply, State, child, gathered}
 use Rattle.fm_net.specs.Language.{language_step}
@@ -32,16 +32,21 @@ stays_live p s q live can = record {
 
 -- Messages.
 
-first_fits : (types : Types) (c : ChanName) (ms : List Message) (m : Message) → AllIn (Fits types c) ms → first_message [] ms ≡ Some m → Fits types c m
-first_fits types c [] m all e = absurd (cc)
-first_fits types c (n ∷ ms) m all e = subst (Fits types c) (the_value n m e) all.0
+-- one that comes is within the limits
+first_fits : (types : Types) (c : ChanName) (limits : Limits) (ms : List Message) (m : Message) → AllIn (Fits types c) ms → first_message limits ms ≡ Some m → Fits types c m × (fits_limits limits m ≡ true)
+first_fits types c limits [] m all e = absurd (cc)
+first_fits types c limits (n ∷ ms) m all e = go (fits_limits limits n) refl e
+  where
+    go : (b : Bool) → fits_limits limits n ≡ b → cond b (Some n) None ≡ Some m → Fits types c m × (fits_limits limits m ≡ true)
+    go true within comes = subst (λ (k : Message). Fits types c k × (fits_limits limits k ≡ true)) (the_value n m comes) (all.0, within)
+    go false within comes = absurd (cc comes)
 
--- the message that comes to who receives fits its channel
-pub message_fits : (p : Program) (types : Types) (s : State Proc) → AreTypes (language p) (IsFine p) Fits types s → (q : Place) (c : ChanName) (r : Reply Proc) → ComesIn (language p) s q (Event c (Pop [])) r
-    → (m : Message) → r.message ≡ Some m → Fits types c m
-message_fits p types s typed q c r comes m is =
-    let h = served_event (Pop []) (get s.chans c) r comes in
-    first_fits types c h.0.queue m (typed.queues c h.0 h.1) (sym (ap (λ (r : Reply Proc). r.message) h.3) ∙ is)
+-- the message that comes to who receives fits its channel, and the limits of the receive
+pub message_fits : (p : Program) (types : Types) (s : State Proc) → AreTypes (language p) (IsFine p) Fits types s → (q : Place) (c : ChanName) (limits : Limits) (r : Reply Proc)
+    → ComesIn (language p) s q (Event c (Pop limits)) r → (m : Message) → r.message ≡ Some m → Fits types c m × (fits_limits limits m ≡ true)
+message_fits p types s typed q c limits r comes m is =
+    let h = served_event (Pop limits) (get s.chans c) r comes in
+    first_fits types c limits h.0.queue m (typed.queues c h.0 h.1) (sym (ap (λ (r : Reply Proc). r.message) h.3) ∙ is)
 
 -- Children.
 

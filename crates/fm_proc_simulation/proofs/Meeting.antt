@@ -4,12 +4,14 @@ use Rattle.std.specs.Prelude.{slice_get}
 use Rattle.std.specs.Ordering.{int_eq}
 use Rattle.std.specs.FinMap as finite
 use Rattle.fm_base.specs.declared.fault.Fault.{Fault}
+use Rattle.fm_base.specs.declared.path.ChanName.{ChanName}
 use Rattle.fm_base.specs.declared.output.Printed.{Printed}
 use Rattle.fm_base.specs.declared.port.PortValue.{PortValue}
 use Rattle.fm_base.specs.declared.port.PortValue.TheVariants.{Writer, Reader}
 use Rattle.fm_base.specs.Channels.{Item}
 use Rattle.fm_values.specs.declared.value.Value.{Value}
 use Rattle.fm_tree.specs.Tree.{Tree, Number, Truth, Named, Ref, Paren, Signed, Not, Binary}
+use Rattle.fm_tree.specs.PortFields.{PortFields}
 use Rattle.fm_tree.specs.declared.form.UnitKind.{UnitKind}
 use Rattle.fm_tree.specs.declared.form.UnitKind.TheVariants as unit_kind
 use Rattle.fm_tree.specs.declared.program_unit.Entry.{Entry}
@@ -127,15 +129,19 @@ module _ (t : Stmt) (w : Execution) (f : Frame) (below : List Frame) where
     returns_so u unit_kind.Subroutine = gives_so below
     returns_so u unit_kind.Function = results_so u below
 
-    sent_so : (o : Option PortValue) (items : List Actual) → MayDo t (action.sent e o items)
-    sent_so None items = tt
-    sent_so (Some (Reader c)) items = tt
-    sent_so (Some (Writer c v)) items = tt
+    items_so : (c : ChanName) (v : ℕ) (items : Result (List Actual) Fault) → MayDo t (action.sent_items e c v items)
+    items_so c v (Err fault) = tt
+    items_so c v (Ok items) = tt
 
-    sends_so : (place : Result Span Fault) (items : Result (List Actual) Fault) → MayDo t (action.sends e f place items)
-    sends_so (Err fault) items = tt
-    sends_so (Ok q) (Err fault) = tt
-    sends_so (Ok q) (Ok items) = sent_so _ items
+    sent_so : (fs : PortFields) (o : Option PortValue) (items : List Actual) → MayDo t (action.sent e fs o items)
+    sent_so fs None items = tt
+    sent_so fs (Some (Reader c)) items = tt
+    sent_so fs (Some (Writer c v)) items = items_so c v _
+
+    sends_so : (fs : PortFields) (place : Result Span Fault) (items : Result (List Actual) Fault) → MayDo t (action.sends e fs f place items)
+    sends_so fs (Err fault) items = tt
+    sends_so fs (Ok q) (Err fault) = tt
+    sends_so fs (Ok q) (Ok items) = sent_so fs _ items
 
     receives_at_so : (r : Receiving) (o : Option PortValue) → MayDo t (action.receives_at e r o)
     receives_at_so r None = tt
@@ -195,7 +201,7 @@ module _ (p : Program) (w : Execution) (u : ProgramUnit) (e : Point) (f : Frame)
   simple_so t s (simple.Write unit items) = prints_so t w f below e _
   simple_so t s (simple.Channel in_first i o) = makes_so t w f below e _
   simple_so t s (simple.Merger i os) = merges_so t w f below e _
-  simple_so t s (simple.Send named q items) = sends_so t w f below e _ _
+  simple_so t s (simple.Send named q items) = sends_so t w f below e _ _ _
   simple_so t s (simple.Receive named q extras items) = receives_so t w f below e _
   simple_so t s (simple.EndChannel named q) = closes_so t w f below e _
   simple_so t s (simple.MovePort from to) = moves_so t w f below e _

@@ -8,13 +8,13 @@ use Rattle.fm_net.specs.Typed.{AllIn}
 use Rattle.fm_symbols.specs.declared.names.Variable.{Variable}
 use Rattle.fm_mean.specs.Names.{ProgramUnit}
 use Rattle.fm_mean.specs.Places as mean
-use Rattle.fm_mean.specs.Places.{items_at, words_in, words_of, first_word, exchange, exchange_all, taken_ports}
+use Rattle.fm_mean.specs.Places.{items_at, words_in, words_of, exchange, exchange_all, taken_ports}
 use Rattle.fm_mean.specs.declared.place.Actual.{Actual}
 use Rattle.fm_mean.specs.declared.place.Actual.TheVariants.{Given, Taken}
 use Rattle.fm_mean.specs.declared.place.Span.{Span}
 use Rattle.fm_code.specs.Passing.{spliced, nulls}
 use Rattle.fm_gen_relation.specs.Sound.{is_word, IsSoundUnit}
-use Rattle.fm_gen_relation.specs.Operands.{IsPlace, IsActual, word_number, operand_of}
+use Rattle.fm_gen_relation.specs.Operands.{IsPlace, of_length, item_of, IsItem, word_number}
 use Rattle.fm_gen_relation.proofs.PortWords.{first_there}
 use Rattle.fm_gen_relation.proofs.Passing.{variable_within, place_read}
 use Rattle.fm_gen_relation.proofs.Spans.{spliced_none, spliced_more, exchanges_words}
@@ -53,24 +53,19 @@ emptied_is h k (suc n) le =
     ∙ ap (λ l. taken_by h.slots l (w ∷ take n (drop (suc k) next))) (sym (spliced_more h.words k (pos 0) (nulls n) less))
     ∙ ap (taken_by h.slots (spliced h.words k (nulls (suc n)))) (take-behind n k h.words (pos 0) less)
 
--- ---- arguments
-
-one_word : (xs : List ℤ) → length xs ≡ 1 → first_word xs ∷ [] ≡ xs
-one_word [] e = absurd (omega (arith, e))
-one_word (x ∷ []) e = refl
-one_word (x ∷ y ∷ xs) e = absurd (omega (arith, e))
+-- ---- items
 
 -- they are as they were, where the words of all variables are
-arguments_kept : (vs : List Variable) (xs ys : List Item) → ((j : ℕ) → words_in (items_at ys j) ≡ words_in (items_at xs j)) → (args : List Actual) → AllIn (IsActual vs xs) args → AllIn (IsActual vs ys) args
-arguments_kept vs xs ys same [] are = tt
-arguments_kept vs xs ys same (Given ws None ∷ more) are = (are.0, arguments_kept vs xs ys same more are.1)
-arguments_kept vs xs ys same (Given ws (Some s) ∷ more) are =
-    ((are.0.0, are.0.1 ∙ ap (λ l. take s.count (drop s.first l)) (sym (same s.variable))), arguments_kept vs xs ys same more are.1)
-arguments_kept vs xs ys same (Taken s ∷ more) are = (are.0, arguments_kept vs xs ys same more are.1)
+items_kept : (vs : List Variable) (xs ys : List Item) → ((j : ℕ) → words_in (items_at ys j) ≡ words_in (items_at xs j)) → (args : List Actual) → AllIn (IsItem vs xs) args → AllIn (IsItem vs ys) args
+items_kept vs xs ys same [] are = tt
+items_kept vs xs ys same (Given ws None ∷ more) are = (are.0, items_kept vs xs ys same more are.1)
+items_kept vs xs ys same (Given ws (Some s) ∷ more) are =
+    ((are.0.0, are.0.1 ∙ ap (λ l. take (length ws) (drop s.first l)) (sym (same s.variable))), items_kept vs xs ys same more are.1)
+items_kept vs xs ys same (Taken s ∷ more) are = (are.0, items_kept vs xs ys same more are.1)
 
-kept_behind : (vs : List Variable) (xs : List Item) (a : Actual) (more : List Actual) → AllIn (IsActual vs xs) more → AllIn (IsActual vs (mean.item_from xs a).0) more
+kept_behind : (vs : List Variable) (xs : List Item) (a : Actual) (more : List Actual) → AllIn (IsItem vs xs) more → AllIn (IsItem vs (mean.item_from xs a).0) more
 kept_behind vs xs (Given ws back) more are = are
-kept_behind vs xs (Taken s) more are = arguments_kept vs xs (taken_ports xs s).0 (exchanges_words xs s.variable s.first (replicate s.count None)) more are
+kept_behind vs xs (Taken s) more are = items_kept vs xs (taken_ports xs s).0 (exchanges_words xs s.variable s.first (replicate s.count None)) more are
 
 -- ---- messages
 
@@ -108,26 +103,28 @@ ports_alike u sound others h xs count stands s at =
     (run_alike u sound others s.variable v at.there at.kind s.count s.first h xs count stands at.within))
 
 item_alike : (u : ProgramUnit) (sound : IsSoundUnit u) (others : List ℤ) (h : Held) (xs : List Item) → length h.words ≡ u.names.words → HeldStands u.names.variables others h xs
-    → (a : Actual) → IsActual u.names.variables xs a → GoesAlike u others h (item_from h (operand_of u.names.variables a)) (mean.item_from xs a)
-item_alike u sound others h xs count stands (Given ws None) is = (goes_nowhere u.names.variables others h xs stands, ap Words (one_word ws is))
+    → (a : Actual) → IsItem u.names.variables xs a → GoesAlike u others h (item_from h (item_of u.names.variables a)) (mean.item_from xs a)
+item_alike u sound others h xs count stands (Given [] None) is = (goes_nowhere u.names.variables others h xs stands, refl)
+item_alike u sound others h xs count stands (Given (w ∷ []) None) is = (goes_nowhere u.names.variables others h xs stands, refl)
+item_alike u sound others h xs count stands (Given (w ∷ v ∷ ws) None) is = absurd (omega (arith, is))
 item_alike u sound others h xs count stands (Given ws (Some s)) is =
     let vs = u.names.variables in
-    (goes_nowhere vs others h xs stands, ap Words (sym (is.1 ∙ ap (λ ys. words_of ys s) stands.values ∙ place_read (port_in h.slots) vs h.words s is.0)))
+    (goes_nowhere vs others h xs stands, ap Words (sym (is.1 ∙ ap (λ ys. words_of ys (of_length ws s)) stands.values ∙ place_read (port_in h.slots) vs h.words (of_length ws s) is.0)))
 item_alike u sound others h xs count stands (Taken s) is =
     let gone = ports_alike u sound others h xs count stands s is in
     (gone.0, ap Ports gone.1)
 
 pub message_alike : (u : ProgramUnit) → IsSoundUnit u → (others : List ℤ) (h : Held) (xs : List Item) → length h.words ≡ u.names.words → HeldStands u.names.variables others h xs
-    → (args : List Actual) → AllIn (IsActual u.names.variables xs) args
-    → GoesTo u.names.variables others h (message_from h (map (operand_of u.names.variables) args)).0 (mean.message_from xs args).0
-    × ((message_from h (map (operand_of u.names.variables) args)).1 ≡ (mean.message_from xs args).1)
+    → (args : List Actual) → AllIn (IsItem u.names.variables xs) args
+    → GoesTo u.names.variables others h (message_from h (map (item_of u.names.variables) args)).0 (mean.message_from xs args).0
+    × ((message_from h (map (item_of u.names.variables) args)).1 ≡ (mean.message_from xs args).1)
 message_alike u sound others h xs count stands [] are = (goes_nowhere u.names.variables others h xs stands, refl)
 message_alike u sound others h xs count stands (a ∷ more) are =
     let vs = u.names.variables in
-    let after = item_from h (operand_of vs a) in
+    let after = item_from h (item_of vs a) in
     let left = mean.item_from xs a in
     let one = item_alike u sound others h xs count stands a are.0 in
     let rest = message_alike u sound others after.0 left.0 (one.0.count ∙ count) one.0.stands more (kept_behind vs xs a more are.1) in (
-      goes_on vs others h after.0 (message_from after.0 (map (operand_of vs) more)).0 left.0 (mean.message_from left.0 more).0 one.0 rest.0,
-      ap (λ i. i ∷ (message_from after.0 (map (operand_of vs) more)).1) one.1 ∙ ap (λ l. left.1 ∷ l) rest.1,
+      goes_on vs others h after.0 (message_from after.0 (map (item_of vs) more)).0 left.0 (mean.message_from left.0 more).0 one.0 rest.0,
+      ap (λ i. i ∷ (message_from after.0 (map (item_of vs) more)).1) one.1 ∙ ap (λ l. left.1 ∷ l) rest.1,
     )

@@ -1,11 +1,12 @@
--- A body that receives needs what the process needs for which it stands, and goes on as that one does: with a message, and at
--- the end of the channel.
-use Rattle.std.proofs.Common.{◌≡◌, ℕ, ◌+◌, ℤ, pos, negsuc, Option, Some, None, List, [], ◌∷◌, length, map, option_map, refl, sym, ap, ◌∙◌, subst}
+-- A body that receives needs what the process needs for which it stands, and goes on as that one does: with a message, at the end
+-- of the channel, and where the first message is too long.
+use Rattle.std.proofs.Common.{◌≡◌, ℕ, ◌+◌, ℤ, pos, negsuc, Bool, true, false, cond, Option, Some, None, List, [], ◌∷◌, length, map, option_map, refl, sym, ap, ◌∙◌, subst}
 use Rattle.std.specs.Prelude.{unwrap_or, Ok}
-use Rattle.fm_base.specs.declared.fault.Fault.TheVariants.{EndOfChannel}
+use Rattle.fm_base.specs.declared.fault.Fault.{Fault}
+use Rattle.fm_base.specs.declared.fault.Fault.TheVariants.{EndOfChannel, Subscript}
 use Rattle.fm_base.specs.declared.path.ChanName.{ChanName}
 use Rattle.fm_base.specs.declared.port.PortValue.TheVariants.{Reader}
-use Rattle.fm_base.specs.Channels.{Item, Message, Pop}
+use Rattle.fm_base.specs.Channels.{Item, Message, Limits, Pop, fits_limits}
 use Rattle.fm_net.specs.Machine as net
 use Rattle.fm_net.specs.Machine.{Place, Need, Reply}
 use Rattle.fm_net.specs.Correspondence.{AsksCorrespond, OnwardsCorrespond}
@@ -22,17 +23,18 @@ use Rattle.fm_mean.specs.Evaluate.{Scope, places_of}
 use Rattle.fm_mean.specs.Fits.{Types, ValuesFit, Fits, MessageFits, FramesFit, sort_at}
 use Rattle.fm_mean.specs.Actions.{Action, Receive}
 use Rattle.fm_mean.specs.Steps as mean_steps
-use Rattle.fm_mean.specs.Steps.{ask_at, ask_for}
+use Rattle.fm_mean.specs.Steps.{limits_of, ask_at, ask_for}
 use Rattle.fm_mean.proofs.Fitting.{MayStandAt, exchange_fits, null_stands}
 use Rattle.fm_mean.proofs.TypedLanguage.{top_fits}
 use Rattle.fm_code.specs.declared.ask.Ask.TheVariants as ask
 use Rattle.fm_code.specs.declared.ask.Operand.{Operand}
+use Rattle.fm_code.specs.declared.ask.Operand.TheVariants as operand
 use Rattle.fm_code.specs.declared.body.Body.{Body}
 use Rattle.fm_code.specs.Statements as code_statements
 use Rattle.fm_gen_relation.specs.Sound.{IsSoundUnit}
 use Rattle.fm_gen_relation.specs.Targets.{TargetsFit}
 use Rattle.fm_gen_relation.specs.Standing.{scope_in}
-use Rattle.fm_gen_relation.specs.Operands.{MeanSpan, word_number, target_of}
+use Rattle.fm_gen_relation.specs.Operands.{MeanSpan, holds_words, word_number, code_span, target_of}
 use Rattle.fm_proc_language.specs.Slots.{in_slot, port_in}
 use Rattle.fm_proc_language.specs.Frames.{Held, all_stored}
 use Rattle.fm_proc_language.specs.Processes as code
@@ -57,10 +59,22 @@ channel_typed : (types : Types) (vars : List Variable) (xs : List Item) (q : Mea
 channel_typed types vars xs q t c fits sort stands =
     subst (MayStandAt types vars q.variable) (emptied_port xs q ∙ stands) (exchange_fits types vars xs q.variable q.first None fits (null_stands types vars q.variable)).1 (In t) sort
 
--- a message of a channel of this type fits where the variables of a RECEIVE do
+-- a message of a channel of this type, within the limits of a RECEIVE, fits where its variables do
 matched : (s : Scope) (sound : IsSoundUnit s.unit) (types : Types) (c : ChanName) (t : PortFields) (vs : List Var) (n : ℕ) (qs : List MeanSpan) (m : Message) → types c ≡ t → TargetsFit s.unit t vs → places_of s vs n ≡ Ok qs
-    → Fits types c m → ItemsMatch s.unit.names.variables qs m
-matched s sound types c t vs n qs m typed targets are fits = message_matches s sound types t vs n qs m targets are (subst (λ k. MessageFits types k m) typed fits)
+    → Fits types c m × (fits_limits (limits_of qs) m ≡ true) → ItemsMatch s.unit.names.variables qs m
+matched s sound types c t vs n qs m typed targets are fits = message_matches s sound types t vs n qs m targets are (subst (λ k. MessageFits types k m) typed fits.0) fits.1
+
+-- a place and what stands for it have room for as many elements
+limit_same : (vs : List Variable) (q : MeanSpan) → code.limit_of (target_of vs q) ≡ Some q.count
+limit_same vs q = go (holds_words vs q.variable)
+  where
+    go : (word : Bool) → code.limit_of (cond word (operand.Words (code_span vs q)) (operand.Ports (code_span vs q))) ≡ Some q.count
+    go true = refl
+    go false = refl
+
+limits_same : (vs : List Variable) (qs : List MeanSpan) → code.limits_of (map (target_of vs) qs) ≡ limits_of qs
+limits_same vs [] = refl
+limits_same vs (q ∷ qs) = ap (λ l. l ∷ code.limits_of (map (target_of vs) qs)) (limit_same vs q) ∙ ap (λ l. Some q.count ∷ l) (limits_same vs qs)
 
 -- ---- what comes behind
 
@@ -137,16 +151,19 @@ module _ (p : Program) (types : Types) (y : CodeProc) (x : Proc) (b : Body) (h :
           cost = ap (λ n. 1 + n) (words_same m);
         }
 
-    -- IOSTAT = -1 and the jump to END, where they are given, or else a fault
-    end_alike : (iostat : Option MeanSpan) (to : Option ℕ) → IsStatus site iostat
-        → OnwardsCorrespond (Corresponds p) (code.at_the_end y b (address after) (option_map word iostat) (option_map address to)) (mean_steps.at_the_end x (names.line_of e) h.stands.below h.stands.frame after iostat to)
-    end_alike None None status = record {
-      self = faults_alike p types y x b h body (code_statements.line_of b) (names.line_of e) EndOfChannel (line_here p types y x b h running e at);
+    fault_alike : (fault : Fault) → OnwardsCorrespond (Corresponds p) (code.faulted y (code_statements.line_of b) fault) (mean_steps.faulted x (names.line_of e) fault)
+    fault_alike fault = record {
+      self = faults_alike p types y x b h body (code_statements.line_of b) (names.line_of e) fault (line_here p types y x b h running e at);
       block = h.next_block;
       starts = tt;
       drops = refl;
       cost = refl;
     }
+
+    -- IOSTAT = -1 and the jump to END, where they are given, or else a fault
+    end_alike : (iostat : Option MeanSpan) (to : Option ℕ) → IsStatus site iostat
+        → OnwardsCorrespond (Corresponds p) (code.at_the_end y b (address after) (option_map word iostat) (option_map address to)) (mean_steps.at_the_end x (names.line_of e) h.stands.below h.stands.frame after iostat to)
+    end_alike None None status = fault_alike EndOfChannel
     end_alike None (Some n) status = record { self = onward_alike (holding y b) h.stands.frame.values stays (address n) n refl; block = h.next_block; starts = tt; drops = refl; cost = refl }
     end_alike (Some q) to status = record {
       self = onward_alike (code.with_status (holding y b) (Some (word q)) (negsuc 0)) (mean_steps.with_status h.stands.frame.values (Some q) (negsuc 0))
@@ -165,10 +182,18 @@ module _ (p : Program) (types : Types) (y : CodeProc) (x : Proc) (b : Body) (h :
     received_alike qs iostat None whole status match = end_alike iostat jump status
     received_alike qs iostat (Some m) whole status match = came_alike qs iostat m whole (match m refl) status
 
+    -- a first message that is too long is a fault
+    met_alike : (qs : List MeanSpan) (iostat : Option MeanSpan) (exceeds : Bool) (o : Option Message) → AreWhole site qs → IsStatus site iostat → ((m : Message) → o ≡ Some m → ItemsMatch vars qs m)
+        → OnwardsCorrespond (Corresponds p) (code.met y b (address after) (map (target_of vars) qs) (option_map word iostat) (option_map address jump) exceeds o)
+        (mean_steps.met x (names.line_of e) h.stands.below h.stands.frame after qs iostat jump exceeds o)
+    met_alike qs iostat true None whole status match = fault_alike Subscript
+    met_alike qs iostat true (Some m) whole status match = received_alike qs iostat (Some m) whole status match
+    met_alike qs iostat false o whole status match = received_alike qs iostat o whole status match
+
     pub receives_alike : (slot : ℤ) (items : List Operand) (status at_end : Option ℕ) (next : ℕ) (a : Action)
         → (s : ReceivesAlike (site_at p h.stands.first.unit (port_in y.slots) x.execution e h.stands.frame h.stands.below b.frame) slot items status at_end next a)
         → in_slot y.slots slot ≡ Some (Reader s.channel)
-        → (Comes : Place → Need → Reply Proc → Type 0) (q : Place) → ((c : ChanName) (r : Reply Proc) (m : Message) → Comes q (net.Event c (Pop [])) r → r.message ≡ Some m → Fits types c m)
+        → (Comes : Place → Need → Reply Proc → Type 0) (q : Place) → ((c : ChanName) (limits : Limits) (r : Reply Proc) (m : Message) → Comes q (net.Event c (Pop limits)) r → r.message ≡ Some m → Fits types c m × (fits_limits limits m ≡ true))
         → AsksCorrespond (Corresponds p) Comes q (runs_by y b (ask.Receive slot items status at_end next)) (ask_for p x a)
     receives_alike slot items status at_end next a s there Comes q fitting =
         let f = h.stands.frame in
@@ -183,10 +208,11 @@ module _ (p : Program) (types : Types) (y : CodeProc) (x : Proc) (b : Body) (h :
         (subst (λ k. AsksCorrespond (Corresponds p) Comes q (receives_by y b (Some (Reader c)) (map (target_of vars) s.places) k at_end next) asked) (sym s.status_is)
         (subst (λ k. AsksCorrespond (Corresponds p) Comes q (receives_by y b (Some (Reader c)) (map (target_of vars) s.places) (option_map word s.iostat) k next) asked) (sym s.at_end_is)
         (subst (λ n. AsksCorrespond (Corresponds p) Comes q (receives_by y b (Some (Reader c)) (map (target_of vars) s.places) (option_map word s.iostat) (option_map address jump) n) asked) (sym s.leads) (
-          refl,
+          ap (λ l. net.Event c (Pop l)) (limits_same vars s.places),
           λ u r comes replies.
-              subst (λ o. OnwardsCorrespond (Corresponds p) (code.received y b (address after) (map (target_of vars) s.places) (option_map word s.iostat) (option_map address jump) o)
-              (mean_steps.received x (names.line_of e) h.stands.below f after s.places s.iostat jump r.message)) (sym replies.message)
-              (received_alike s.places s.iostat r.message s.whole s.status_whole (λ m is.
-              matched scope (sound_here p types y x b h) types c s.fields s.targets s.done s.places m typed s.fit s.evaluated (fitting c r m comes is))),
+              let theirs = mean_steps.met x (names.line_of e) h.stands.below f after s.places s.iostat jump r.exceeds r.message in
+              subst (λ w. OnwardsCorrespond (Corresponds p) (code.met y b (address after) (map (target_of vars) s.places) (option_map word s.iostat) (option_map address jump) w u.message) theirs) (sym replies.exceeds)
+              (subst (λ o. OnwardsCorrespond (Corresponds p) (code.met y b (address after) (map (target_of vars) s.places) (option_map word s.iostat) (option_map address jump) r.exceeds o) theirs) (sym replies.message)
+              (met_alike s.places s.iostat r.exceeds r.message s.whole s.status_whole (λ m is.
+              matched scope (sound_here p types y x b h) types c s.fields s.targets s.done s.places m typed s.fit s.evaluated (fitting c (limits_of s.places) r m comes is)))),
         ))))))

@@ -19,7 +19,7 @@ use Rattle.fm_mean.specs.Steps.{ask_at, ask_event, ask_for}
 use Rattle.fm_code.specs.declared.ask.Ask.TheVariants as ask
 use Rattle.fm_code.specs.declared.ask.Operand.{Operand}
 use Rattle.fm_code.specs.declared.body.Body.{Body}
-use Rattle.fm_gen_relation.specs.Operands.{word_number, operand_of}
+use Rattle.fm_gen_relation.specs.Operands.{word_number, item_of}
 use Rattle.fm_proc_language.specs.Slots.{in_slot, port_in}
 use Rattle.fm_proc_language.specs.Frames.{Held, message_from}
 use Rattle.fm_proc_language.specs.Processes as code
@@ -72,7 +72,7 @@ module _ (p : Program) (types : Types) (y : CodeProc) (x : Proc) (b : Body) (h :
     sends_alike slot items next a s there Comes q =
         let vs = h.stands.first.unit.names.variables in
         let f = h.stands.frame in
-        let mine = message_from (holding y b) (map (operand_of vs) s.actuals) in
+        let mine = message_from (holding y b) (map (item_of vs) s.actuals) in
         let theirs = mean_places.message_from f.values s.actuals in
         let both = message_alike h.stands.first.unit (sound_here p types y x b h) (other_words b) (holding y b) f.values (words_here p types y x b h) (held_here p types y x b h) s.actuals s.whole in
         let asked = ask_at p x h.stands.below f (Send s.channel s.writer s.actuals e.entry.after) in

@@ -1,31 +1,32 @@
 -- What is stored into the words of a frame: words over some of a variable, and the items of a message at their places.
-use Rattle.std.proofs.Common.{◌≡◌, ℕ, zero, suc, ◌+◌, ◌<◌, ◌≤◌, ℤ, Bool, true, false, cond, Some, List, [], ◌∷◌, ◌++◌, length, map, take, drop, set, slice_get, slice_set, flat_map, Result, Ok, refl, sym, ap, subst, ◌∙◌, arith}
+use Rattle.std.proofs.Common.{◌≡◌, ℕ, zero, suc, ◌+◌, ◌<◌, ◌≤◌, ℤ, Bool, true, false, cond, Some, List, [], ◌∷◌, ◌++◌, length, map, take, drop, set, slice_get, slice_set, flat_map, Result, Ok, refl, sym, ap, subst, ◌∙◌, arith, nat_le, ◌&&◌}
+use Rattle.std.proofs.lemmas.Bool.Decides.{nat_tests}
 use Rattle.std.proofs.lemmas.List.{take-set-le, drop-set-lt, length-set}
 use Rattle.fm_base.specs.declared.fault.Fault.{Fault}
 use Rattle.fm_base.specs.declared.port.PortValue.{PortValue}
-use Rattle.fm_base.specs.Channels.{Item, Words, Ports, Message}
+use Rattle.fm_base.specs.Channels.{Item, Words, Ports, Message, item_length, fits_limits}
 use Rattle.fm_net.specs.Typed.{AllIn}
-use Rattle.fm_tree.specs.Tree.{Trees, NoTrees, More, trees_from}
 use Rattle.fm_tree.specs.PortFields.{PortFields, NoFields, FieldThen}
 use Rattle.fm_tree.specs.PortReading as reading
 use Rattle.fm_tree.specs.declared.port_type.Kind.{Kind}
 use Rattle.fm_tree.specs.declared.port_type.Kind.TheVariants as kind
 use Rattle.fm_tree.specs.declared.statement.Var.{Var}
-use Rattle.fm_values.specs.Places.{element_place}
 use Rattle.fm_symbols.specs.declared.names.Variable.{Variable}
+use Rattle.fm_rules.specs.PortTypes.{sizing_place}
 use Rattle.fm_mean.specs.Names.{ProgramUnit}
 use Rattle.fm_mean.specs.Layout.{AreLaidOut}
 use Rattle.fm_mean.specs.Places.{written, exchange_all, live, stored_all}
 use Rattle.fm_mean.specs.Places as mean
-use Rattle.fm_mean.specs.Evaluate.{Scope, numbers_of, refs_in_var, whole, single, spans_by, place_of, places_of}
-use Rattle.fm_mean.specs.Fits.{Types, ItemFits, MessageFits, elements_in}
+use Rattle.fm_mean.specs.Evaluate.{Scope, refs_in_var, place_of, places_of}
+use Rattle.fm_mean.specs.Fits.{Types, ItemFits, FieldsFit, MessageFits, elements_behind}
+use Rattle.fm_mean.specs.Steps.{limits_of}
 use Rattle.fm_mean.proofs.Sorts.{parts}
 use Rattle.fm_code.specs.Acts.{span_of as words_at}
 use Rattle.fm_code.specs.declared.ask.Operand.TheVariants as operand
 use Rattle.fm_code.specs.Passing as code
 use Rattle.fm_code.specs.Passing.{spliced, ports_in}
 use Rattle.fm_gen_relation.specs.Sound.{is_word, IsSoundUnit}
-use Rattle.fm_gen_relation.specs.Targets.{target_words, TargetsFit}
+use Rattle.fm_gen_relation.specs.Targets.{TargetsFit}
 use Rattle.fm_gen_relation.specs.Standing.{values_in}
 use Rattle.fm_gen_relation.specs.Operands.{MeanSpan, first_of, holds_words, word_number, code_span, IsPlace, target_of}
 use Rattle.fm_gen_relation.specs.Formals.{span_of, ports_of}
@@ -148,12 +149,12 @@ module _ (u : ProgramUnit) (sound : IsSoundUnit u) (others : List ℤ) (h : Held
 
 -- ---- the items of a message
 
--- as many as are wanted are all
-take_all : {X : Type 0} (xs : List X) (n : ℕ) → length xs ≡ n → take n xs ≡ xs
-take_all [] zero e = refl
-take_all [] (suc n) e = refl
-take_all (x ∷ xs) zero e = absurd (omega (arith, e))
-take_all (x ∷ xs) (suc n) e = ap (λ l. x ∷ l) (take_all xs n (omega (arith, e)))
+-- no more than are taken are all
+take_all : {X : Type 0} (xs : List X) (n : ℕ) → length xs ≤ n → take n xs ≡ xs
+take_all [] zero few = refl
+take_all [] (suc n) few = refl
+take_all (x ∷ xs) zero few = absurd (omega (arith, few))
+take_all (x ∷ xs) (suc n) few = ap (λ l. x ∷ l) (take_all xs n (omega (arith, few)))
 
 -- what one change of the words and slots does, and lets go, is what that of the values does
 abbrev Alike : List Variable → List ℤ → Held → Held × List PortValue → List Item × List PortValue → Type 0
@@ -168,7 +169,7 @@ module _ (u : ProgramUnit) (sound : IsSoundUnit u) (others : List ℤ) where
   store_alike h xs sized stands q (Words ns) place match =
       subst (λ o. Alike mine others h (stored h o (Words ns)) (mean.stored xs q (Words ns))) (sym (ap (λ b. cond b (operand.Words (code_span mine q)) (operand.Ports (code_span mine q))) match.0)) (
         subst (λ l. GoesTo mine others h (record h { words = spliced h.words (word_number mine q) l }) (written xs q ns)) (sym (take_all ns q.count match.1))
-            (word_alike u sound others h xs sized stands q ns (subst (λ b. IsPlace mine b q) match.0 place) (omega (arith, match.1))),
+            (word_alike u sound others h xs sized stands q ns (subst (λ b. IsPlace mine b q) match.0 place) match.1),
         refl,
       )
   store_alike h xs sized stands q (Ports ps) place match =
@@ -193,7 +194,7 @@ module _ (u : ProgramUnit) (sound : IsSoundUnit u) (others : List ℤ) where
         ap (λ l. l ++ (all_stored g (map (target_of mine) qs) ms).1) first.1 ∙ ap (λ l. (mean.stored xs q m).1 ++ l) rest.1,
       )
 
--- ---- a message of the types that a RECEIVE wants
+-- ---- a message of the types that a RECEIVE wants, within its limits
 
 the_span : (a b : MeanSpan) → ◌≡◌ {A = Result MeanSpan Fault} (Ok a) (Ok b) → a ≡ b
 the_span a b e = cc
@@ -201,48 +202,54 @@ the_span a b e = cc
 the_spans : (a b : List MeanSpan) → ◌≡◌ {A = Result (List MeanSpan) Fault} (Ok a) (Ok b) → a ≡ b
 the_spans a b e = cc
 
--- a whole variable, or one element
-span_count : (w : ℕ × Variable) (ts : Trees) (ks : Result (List ℤ) Fault) (q : MeanSpan) → spans_by (Some w) ts ks ≡ Ok q → q.count ≡ target_words w.1 ts
-span_count w NoTrees ks q is = sym (ap (λ (x : MeanSpan). x.count) (the_span (whole w.0 w.1) q is))
-span_count w (More t ts) ks q is =
-    let a = parts ks _ q is in
-    let b = parts (element_place w.1.bounds a.0) _ q a.2 in
-    sym (ap (λ (x : MeanSpan). x.count) (the_span (single w.0 b.0) q b.2))
-
 -- a place of words or of ports holds these
 place_is : (vs : List Variable) (word : Bool) (q : MeanSpan) → IsPlace vs word q → holds_words vs q.variable ≡ word
 place_is vs word q place =
     let other = place_holds vs word q place in
     sym other.kind ∙ ap (λ (v : Variable). is_word v.kind) (same_variable other.variable place.variable (sym other.there ∙ place.there)) ∙ place.kind
 
-item_matches : (types : Types) (vs : List Variable) (k : Kind) (n : ℕ) (q : MeanSpan) (m : Item) → ItemFits types (reading.kind_of k) n m → holds_words vs q.variable ≡ is_word k → q.count ≡ n → ItemMatches vs q m
-item_matches types vs kind.Integer n q (Words ns) fits is count = (is, fits ∙ sym count)
-item_matches types vs kind.Integer n q (Ports ps) fits is count = absurd fits
-item_matches types vs kind.Logical n q (Words ns) fits is count = (is, fits.0 ∙ sym count)
-item_matches types vs kind.Logical n q (Ports ps) fits is count = absurd fits
-item_matches types vs (kind.In t) n q (Words ns) fits is count = absurd fits
-item_matches types vs (kind.In t) n q (Ports ps) fits is count = (is, fits.0 ∙ sym count)
-item_matches types vs (kind.Out t) n q (Words ns) fits is count = absurd fits
-item_matches types vs (kind.Out t) n q (Ports ps) fits is count = (is, fits.0 ∙ sym count)
+item_matches : (types : Types) (vs : List Variable) (k : Kind) (n : ℕ) (q : MeanSpan) (m : Item) → ItemFits types (reading.kind_of k) n m → holds_words vs q.variable ≡ is_word k → item_length m ≤ q.count → ItemMatches vs q m
+item_matches types vs kind.Integer n q (Words ns) fits is few = (is, few)
+item_matches types vs kind.Integer n q (Ports ps) fits is few = absurd fits
+item_matches types vs kind.Logical n q (Words ns) fits is few = (is, few)
+item_matches types vs kind.Logical n q (Ports ps) fits is few = absurd fits
+item_matches types vs (kind.In t) n q (Words ns) fits is few = absurd fits
+item_matches types vs (kind.In t) n q (Ports ps) fits is few = (is, few)
+item_matches types vs (kind.Out t) n q (Words ns) fits is few = absurd fits
+item_matches types vs (kind.Out t) n q (Ports ps) fits is few = (is, few)
+
+-- the first item is within its limit, and those behind it within theirs
+both_within : (a b : Bool) → a && b ≡ true → (a ≡ true) × (b ≡ true)
+both_within true true e = (refl, refl)
+both_within true false e = absurd (cc)
+both_within false b e = absurd (cc)
+
+few_of : (n k : ℕ) → nat_le n k ≡ true → n ≤ k
+few_of n k e = grind (arith, nat_tests, e)
 
 module _ (s : Scope) (sound : IsSoundUnit s.unit) (types : Types) where
-  pub message_matches : (t : PortFields) (items : List Var) (n : ℕ) (qs : List MeanSpan) (m : Message) → TargetsFit s.unit t items → places_of s items n ≡ Ok qs → MessageFits types t m → ItemsMatch s.unit.names.variables qs m
-  message_matches NoFields [] n qs [] targets is fits = subst (λ (l : List MeanSpan). ItemsMatch s.unit.names.variables l []) (the_spans [] qs is) tt
-  message_matches NoFields [] n qs (m ∷ ms) targets is fits = absurd fits
-  message_matches NoFields (v ∷ vs) n qs m targets is fits = absurd targets
-  message_matches (FieldThen r a b rest) [] n qs m targets is fits = absurd targets
-  message_matches (FieldThen r a b rest) (v ∷ vs) n qs [] targets is fits = absurd fits
-  message_matches (FieldThen r a b rest) (v ∷ vs) n qs (m ∷ ms) targets is fits =
+  fields_match : (before : Message) (t : PortFields) (items : List Var) (n : ℕ) (qs : List MeanSpan) (m : Message) → TargetsFit s.unit t items → places_of s items n ≡ Ok qs → FieldsFit types before t m
+      → fits_limits (limits_of qs) m ≡ true → ItemsMatch s.unit.names.variables qs m
+  fields_match before NoFields [] n qs [] targets is fits within = subst (λ (l : List MeanSpan). ItemsMatch s.unit.names.variables l []) (the_spans [] qs is) tt
+  fields_match before NoFields [] n qs (m ∷ ms) targets is fits within = absurd fits
+  fields_match before NoFields (v ∷ vs) n qs m targets is fits within = absurd targets
+  fields_match before (FieldThen r a b rest) [] n qs m targets is fits within = absurd targets
+  fields_match before (FieldThen r a b rest) (v ∷ vs) n qs [] targets is fits within = absurd fits
+  fields_match before (FieldThen r a b rest) (v ∷ vs) n qs (m ∷ ms) targets is fits within =
       let w = targets.0.0 in
       let first = parts (place_of s v n) _ qs is in
       let more = parts (places_of s vs (n + refs_in_var s v)) _ qs first.2 in
       let q = first.0 in
+      let elements = elements_behind before (sizing_place b) b in
+      let same : q ∷ more.0 ≡ qs = the_spans (q ∷ more.0) qs more.2 in
+      let each = both_within (nat_le (item_length m) q.count) (fits_limits (limits_of more.0) ms) (subst (λ (l : List MeanSpan). fits_limits (limits_of l) (m ∷ ms) ≡ true) (sym same) within) in
       let place = (place_whole s sound w v n q targets.0.1 first.1).0 in
-      let count : q.count ≡ target_words w.1 (trees_from v.subscripts) =
-      span_count w (trees_from v.subscripts) (numbers_of s (trees_from v.subscripts) n) q
-      (subst (λ o. spans_by o (trees_from v.subscripts) (numbers_of s (trees_from v.subscripts) n) ≡ Ok q) targets.0.1 first.1) in
-      subst (λ (l : List MeanSpan). ItemsMatch s.unit.names.variables l (m ∷ ms)) (the_spans (q ∷ more.0) qs more.2) (
-        item_matches types s.unit.names.variables w.1.kind (elements_in b) q m (subst (λ x. ItemFits types x (elements_in b) m) (sym targets.0.2) fits.0)
-            (place_is s.unit.names.variables (is_word w.1.kind) q place) (count ∙ targets.0.3),
-        message_matches rest vs (n + refs_in_var s v) more.0 ms targets.1 more.1 fits.1,
+      subst (λ (l : List MeanSpan). ItemsMatch s.unit.names.variables l (m ∷ ms)) same (
+        item_matches types s.unit.names.variables w.1.kind elements q m (subst (λ x. ItemFits types x elements m) (sym targets.0.2) fits.0)
+            (place_is s.unit.names.variables (is_word w.1.kind) q place) (few_of (item_length m) q.count each.0),
+        fields_match (before ++ m ∷ []) rest vs (n + refs_in_var s v) more.0 ms targets.1 more.1 fits.1 each.1,
       )
+
+  pub message_matches : (t : PortFields) (items : List Var) (n : ℕ) (qs : List MeanSpan) (m : Message) → TargetsFit s.unit t items → places_of s items n ≡ Ok qs → MessageFits types t m → fits_limits (limits_of qs) m ≡ true
+      → ItemsMatch s.unit.names.variables qs m
+  message_matches = fields_match []

@@ -19,7 +19,7 @@ use Rattle.fm_code.specs.Statements.{Action, action_of}
 use Rattle.fm_machine_calls.specs.declared.looking.Look.TheVariants as look
 use Rattle.fm_proc_language.specs.Frames.{Held}
 use Rattle.fm_proc_language.specs.Slots.{Slots, in_slot}
-use Rattle.fm_proc_language.specs.Processes.{CodeProc, Kid, Phase, Running, Joining, Ended, Faulted, asks, asks_by, at_the_end, child_of, children_of, joining_by, joins_by, kid_of, probes_by, received, receives_by, running_by, runs_by, sends_by}
+use Rattle.fm_proc_language.specs.Processes.{CodeProc, Kid, Phase, Running, Joining, Ended, Faulted, asks, asks_by, at_the_end, child_of, children_of, joining_by, joins_by, kid_of, met, probes_by, receives_by, running_by, runs_by, sends_by}
 use Rattle.fm_proc_events.specs.Performs.{CanPerform, Performs, reply_of}
 use Rattle.fm_proc_events.specs.Told.{is_joining, is_running, look_of}
 use Rattle.fm_procs.specs.Readings.{code_step}
@@ -64,9 +64,11 @@ module _ (y : CodeProc) where
     ends next None (Some to) = stays _ refl refl
     ends next (Some k) to = stays _ refl refl
 
-    arrives : (next : ℕ) (items : List Operand) (status at_end : Option ℕ) (m : Option Message) → Begins y (received y b next items status at_end m)
-    arrives next items status at_end None = ends next status at_end
-    arrives next items status at_end (Some m) = stays _ refl refl
+    arrives : (next : ℕ) (items : List Operand) (status at_end : Option ℕ) (exceeds : Bool) (m : Option Message) → Begins y (met y b next items status at_end exceeds m)
+    arrives next items status at_end true None = idle _ _ refl (λ b kids e. cc e) refl
+    arrives next items status at_end true (Some m) = stays _ refl refl
+    arrives next items status at_end false None = ends next status at_end
+    arrives next items status at_end false (Some m) = stays _ refl refl
 
     sends : (o : Option PortValue) (m : Held × Message) (next : ℕ) → BeginsAll y (sends_by y b o m next)
     sends None m next = tt
@@ -76,7 +78,7 @@ module _ (y : CodeProc) where
     receives : (o : Option PortValue) (items : List Operand) (status at_end : Option ℕ) (next : ℕ) → BeginsAll y (receives_by y b o items status at_end next)
     receives None items status at_end next = tt
     receives (Some (Writer c w)) items status at_end next = tt
-    receives (Some (Reader c)) items status at_end next = λ alone c r. arrives next items status at_end r.message
+    receives (Some (Reader c)) items status at_end next = λ alone c r. arrives next items status at_end r.exceeds r.message
 
     probes : (o : Option PortValue) (empty next : ℕ) → BeginsAll y (probes_by y b o empty next)
     probes None empty next = tt

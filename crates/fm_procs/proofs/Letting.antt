@@ -146,6 +146,11 @@ building build.Status s b m = one s _ (λ x s. worded m x _ (λ k. refl))
 building (build.Loop l) s b m = refl
 building (build.Location n) s b m = whether (nat_le n (length s)) _ refl
 building build.Submachine s b m = two s _ (λ low high s. refl)
+building (build.Cut item size) s b m = one s _ (λ x rest. port m x _ (λ slot. cutting item (slice_get b.operands item)))
+  where
+    cutting : (item : ℕ) (o : Option Operand) → Keeps (acts.cuts_at item (acts.size_in m (slice_get (take item b.operands) size)) o s b)
+    cutting item None = refl
+    cutting item (Some o) = given (acts.cut_to (acts.size_in m (slice_get (take item b.operands) size)) o) _ (λ o. refl)
 
 ending_trip : (l : Loop) (body behind : ℕ) (t : Option Trips) (m : Frame) → Keeps (ends_trip l body behind t m)
 ending_trip l body behind None m = refl

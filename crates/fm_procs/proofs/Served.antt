@@ -19,7 +19,7 @@ use Rattle.fm_machine_calls.specs.declared.looking.Look.TheVariants as look
 use Rattle.fm_machine_calls.specs.Looks.{look_in}
 use Rattle.fm_proc_language.specs.Frames.{Held}
 use Rattle.fm_proc_language.specs.Needs.{need_in, need_of}
-use Rattle.fm_proc_language.specs.Processes.{CodeProc, Kid, Phase, Running, Joining, Ended, Faulted, asks, asks_by, emptied, has_ended, joining_by, joins_by, probes_by, receives_by, running_by, runs_by, sends_by}
+use Rattle.fm_proc_language.specs.Processes.{CodeProc, Kid, Phase, Running, Joining, Ended, Faulted, asks, asks_by, emptied, has_ended, joining_by, joins_by, limits_of, probes_by, receives_by, running_by, runs_by, sends_by}
 use Rattle.fm_proc_language.specs.Slots.{in_slot}
 use Rattle.fm_proc_events.specs.Performs.{reply_to}
 use Rattle.fm_proc_events.specs.Told as told_of
@@ -94,7 +94,7 @@ pops_served limits (Some ch) = elim (is_ready (Pop limits) ch) as (λ b. is_some
 receives_reply : (y : CodeProc) (b : Body) (o : Option PortValue) (items : List Operand) (status at_end : Option ℕ) (next : ℕ) (cs : Chans) → is_some (reply_to cs (need_in (receives_by y b o items status at_end next))) ≡ receives_at o cs
 receives_reply y b None items status at_end next cs = refl
 receives_reply y b (Some (Writer c w)) items status at_end next cs = refl
-receives_reply y b (Some (Reader c)) items status at_end next cs = pops_served [] (get cs c)
+receives_reply y b (Some (Reader c)) items status at_end next cs = pops_served (limits_of items) (get cs c)
 
 receives_channel : (y : CodeProc) (b : Body) (o : Option PortValue) (items : List Operand) (status at_end : Option ℕ) (next : ℕ) → channel_needed (need_in (receives_by y b o items status at_end next)) ≡ inport_in o
 receives_channel y b None items status at_end next = refl

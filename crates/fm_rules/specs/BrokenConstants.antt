@@ -27,6 +27,7 @@ use Rattle.fm_rules.specs.Constants.{constants_of}
 use Rattle.fm_rules.specs.NameTypes.{types_of, scalar_of_name, is_of}
 use Rattle.fm_rules.specs.Bounds.{shape_of, machine_shape}
 use Rattle.fm_rules.specs.PortTypes.{message_words}
+use Rattle.fm_rules.specs.SizedFields.{Sizes, size_given, sized_by}
 
 -- bad bounds: too many dimensions, an upper bound under its lower, or over 65,536 elements
 abbrev pub is_bad : (limit : ℕ) → Shape → Bool
@@ -78,25 +79,32 @@ broken_definitions known types at line item (d ∷ ds) =
 abbrev pub long_message : ByName Known → (at line : ℕ) → PortFields → List Refusal
 long_message known at line p = when (is_long known at p) (verdict.place line E34)
 
--- the fields of a message, and those of the messages of its ports
+-- the bounds of a field: the bound of one that an earlier field sizes needs no constant
+abbrev pub broken_extent : ByName Known → (at line : ℕ) → (size : Option ℕ) → List Bound → List Refusal
+broken_extent known at line None bounds = broken_bounds known at line bounds
+broken_extent known at line (Some place) bounds = []
+
+-- the fields of a message behind these, and those of the messages of its ports
 abbrev mutual
-  pub broken_fields : ByName Known → (at line : ℕ) → PortFields → List Refusal
-  broken_fields known at line NoFields = []
-  broken_fields known at line (FieldThen kind name bounds rest) =
-      (broken_bounds known at line bounds ++ broken_kind known at line kind) ++ broken_fields known at line rest
+  pub broken_fields : ByName Known → (at line : ℕ) → Sizes → PortFields → List Refusal
+  broken_fields known at line earlier NoFields = []
+  broken_fields known at line earlier (FieldThen kind name bounds rest) =
+      (broken_extent known at line (sized_by earlier kind bounds) bounds ++ broken_kind known at line kind)
+      ++ broken_fields known at line (size_given kind name bounds ∷ earlier) rest
 
   pub broken_kind : ByName Known → (at line : ℕ) → FieldKind → List Refusal
   broken_kind known at line Integer = []
   broken_kind known at line Logical = []
-  broken_kind known at line (In fields) = long_message known at line fields ++ broken_fields known at line fields
-  broken_kind known at line (Out fields) = long_message known at line fields ++ broken_fields known at line fields
+  broken_kind known at line (In fields) = long_message known at line fields ++ broken_fields known at line [] fields
+  broken_kind known at line (Out fields) = long_message known at line fields ++ broken_fields known at line [] fields
 
 -- of one field in memory
-abbrev pub broken_field : ByName Known → (at line : ℕ) → Field → List Refusal
-broken_field known at line f = broken_bounds known at line f.bounds ++ broken_kind known at line (kind_of f.kind)
+abbrev pub broken_field : ByName Known → (at line : ℕ) → Sizes → Field → List Refusal
+broken_field known at line earlier f =
+    broken_extent known at line (sized_by earlier (kind_of f.kind) f.bounds) f.bounds ++ broken_kind known at line (kind_of f.kind)
 
 abbrev pub broken_type : ByName Known → (at line : ℕ) → PortFields → List Refusal
-broken_type known at line p = long_message known at line p ++ broken_fields known at line p
+broken_type known at line p = long_message known at line p ++ broken_fields known at line [] p
 
 abbrev pub broken_message : ByName Known → (at line : ℕ) → Option PortFields → List Refusal
 broken_message known at line None = []

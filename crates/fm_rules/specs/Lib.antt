@@ -39,3 +39,4 @@ pub mod VariableTypes
 pub mod BrokenStructure
 pub mod UnitTitles
 pub mod Units
+pub mod SizedFields

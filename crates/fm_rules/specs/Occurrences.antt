@@ -31,6 +31,7 @@ use Rattle.fm_tree.specs.declared.statement.Stmt.{Stmt}
 use Rattle.fm_tree.specs.declared.statement.Stmt.TheVariants as stmt
 use Rattle.fm_rules.specs.Earlier.{with_earlier}
 use Rattle.fm_rules.specs.FunctionTitles.{same_name}
+use Rattle.fm_rules.specs.SizedFields.{Sizes, size_given, sized_by}
 use Rattle.fm_rules.specs.declared.sheet.Occurrence.{Occurrence}
 
 abbrev pub Names : Type 0
@@ -78,21 +79,27 @@ in_decl array d = d.name ∷ flat_map (in_bound array) d.bounds
 abbrev pub in_defined : (List ℕ → Bool) → Defined → Names
 in_defined array d = d.name ∷ in_tree array d.value
 
--- the names in the bounds of fields
+-- the names in the bounds of a field; the name by which an earlier field sizes it isn't one
+abbrev pub in_extent : (List ℕ → Bool) → (size : Option ℕ) → List Bound → Names
+in_extent array None bounds = flat_map (in_bound array) bounds
+in_extent array (Some place) bounds = []
+
+-- the names in the bounds of fields behind these
 abbrev mutual
   pub in_kind : (List ℕ → Bool) → FieldKind → Names
   in_kind array Integer = []
   in_kind array Logical = []
-  in_kind array (In fields) = in_fields array fields
-  in_kind array (Out fields) = in_fields array fields
+  in_kind array (In fields) = in_fields array [] fields
+  in_kind array (Out fields) = in_fields array [] fields
 
-  pub in_fields : (List ℕ → Bool) → PortFields → Names
-  in_fields array NoFields = []
-  in_fields array (FieldThen kind name bounds rest) = (in_kind array kind ++ flat_map (in_bound array) bounds) ++ in_fields array rest
+  pub in_fields : (List ℕ → Bool) → Sizes → PortFields → Names
+  in_fields array earlier NoFields = []
+  in_fields array earlier (FieldThen kind name bounds rest) =
+      (in_kind array kind ++ in_extent array (sized_by earlier kind bounds) bounds) ++ in_fields array (size_given kind name bounds ∷ earlier) rest
 
 -- of a field in memory
-abbrev pub in_field : (List ℕ → Bool) → Field → Names
-in_field array f = in_kind array (kind_of f.kind) ++ flat_map (in_bound array) f.bounds
+abbrev pub in_field : (List ℕ → Bool) → Sizes → Field → Names
+in_field array earlier f = in_kind array (kind_of f.kind) ++ in_extent array (sized_by earlier (kind_of f.kind) f.bounds) f.bounds
 
 abbrev pub in_loop : (List ℕ → Bool) → LoopHead → Names
 in_loop array h = h.variable ∷ (in_tree array h.from ++ (in_tree array h.to ++ optional (in_tree array) h.step))
@@ -145,8 +152,8 @@ stands_in array (stmt.Integer decls) = flat_map (in_decl array) decls
 stands_in array (stmt.Logical decls) = flat_map (in_decl array) decls
 stands_in array (stmt.Dimension decls) = flat_map (in_decl array) decls
 stands_in array (stmt.Parameter constants) = flat_map (in_defined array) constants
-stands_in array (stmt.Inport type decls) = in_fields array type ++ flat_map (in_decl array) decls
-stands_in array (stmt.Outport type decls) = in_fields array type ++ flat_map (in_decl array) decls
+stands_in array (stmt.Inport type decls) = in_fields array [] type ++ flat_map (in_decl array) decls
+stands_in array (stmt.Outport type decls) = in_fields array [] type ++ flat_map (in_decl array) decls
 stands_in array (stmt.Intent way names) = flat_map one_name names
 stands_in array (stmt.Processors extents) = flat_map (in_tree array) extents
 stands_in array (stmt.Simple s) = in_simple array s

@@ -1,9 +1,9 @@
 -- When ports are alike, and what fits a field of a message.
--- Two types of ports are the same where their fields agree in kind, in being arrays, and in their numbers of elements. The
--- types of variables are normalised: no field has a name, and a field that is an array has its number of elements as its
--- one bound. So the same types are equal values.
+-- Two types of ports are the same where their fields agree in kind, in being arrays, in their numbers of elements, and in the
+-- places of the fields that size them. The types of variables are normalised: no field has a name, and a field that is an array
+-- has its number of elements as its one bound, or the place of the field that sizes it. So the same types are equal values.
 -- Source: the Fortran M report (port variables, SEND and RECEIVE); this profile.
-use Rattle.std.specs.Prelude.{ℕ, ℤ, pos, nat_eq, not, ◌&&◌, ◌||◌, Bool, true, false, Option, Some, None, List, [], ◌∷◌, slice_get}
+use Rattle.std.specs.Prelude.{ℕ, ℤ, pos, nat_eq, not, ◌&&◌, ◌||◌, Bool, true, false, Option, Some, None, is_some, List, [], ◌∷◌, slice_get}
 use Rattle.std.specs.Option.{option_eq}
 use Rattle.std.specs.Ordering.{int_eq}
 use Rattle.fm_tree.specs.Tree.{Tree, Number, Truth, Named, Ref, Paren, Signed, Not, Binary}
@@ -21,6 +21,7 @@ use Rattle.fm_symbols.specs.declared.symbol.Direction.{Direction}
 use Rattle.fm_symbols.specs.declared.symbol.Direction.TheVariants as direction
 use Rattle.fm_symbols.specs.declared.symbol.Formal.{Formal}
 use Rattle.fm_symbols.specs.declared.symbol.Formal.TheVariants as formal
+use Rattle.fm_rules.specs.PortTypes.{sizing_place}
 use Rattle.fm_rules.specs.declared.typing.ExprType.{ExprType}
 use Rattle.fm_rules.specs.declared.typing.ExprType.TheVariants as expr_type
 
@@ -127,6 +128,14 @@ abbrev pub has_elements : ℕ → List Bound → Bool
 has_elements m [] = false
 has_elements m (b ∷ bs) = option_eq int_eq (number_in b.high) (Some (pos m))
 
+-- an array that an earlier field sizes
+abbrev pub is_sized : List Bound → Bool
+is_sized bs = is_some (sizing_place bs)
+
+-- an array of so many elements, or one of any number
+abbrev pub has_room : ℕ → List Bound → Bool
+has_room m bs = is_sized bs || has_elements m bs
+
 abbrev pub is_scalar : List Bound → Bool
 is_scalar [] = true
 is_scalar (b ∷ bs) = false
@@ -140,10 +149,10 @@ is_array_in None bs = false
 is_array_in (Some v) bs = has_elements v.words bs
 
 -- whether an item of this type fits a field: a value or a port of the field's kind where the field is no array, and else a
--- whole array of this kind with as many elements. What has no type fits
+-- whole array of this kind with as many elements, or with any number where an earlier field sizes it. What has no type fits
 abbrev pub fits_field : UnitNames → ExprType → FieldKind → List Bound → Bool
 fits_field n (expr_type.Value s) k bs = is_scalar_kind s k && is_scalar bs
-fits_field n (expr_type.Array s m) k bs = is_scalar_kind s k && has_elements m bs
+fits_field n (expr_type.Array s m) k bs = is_scalar_kind s k && has_room m bs
 fits_field n (expr_type.Port place) k bs = is_kind_of (slice_get n.variables place) k && is_scalar bs
 fits_field n (expr_type.Ports place) k bs = is_kind_of (slice_get n.variables place) k && is_array_in (slice_get n.variables place) bs
 fits_field n expr_type.Function k bs = false

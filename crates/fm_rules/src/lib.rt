@@ -9,6 +9,7 @@ mod entry_links;
 mod flags;
 mod program;
 mod sheet;
+mod sized_fields;
 mod titles;
 mod typing;
 
@@ -18,5 +19,6 @@ pub use entry_links::EntryLinks;
 pub use flags::Flags;
 pub use program::{Program, is_program, main_of};
 pub use sheet::{ArrayShape, Aspect, Occurrence, Sheet};
+pub use sized_fields::{sized_by, sizing_place};
 pub use titles::{Title, same_name};
 pub use typing::{Arguments, ExprType, Judgement, OperatorKind, Referent};

@@ -42,16 +42,20 @@ impl Piece {
     }
 }
 
-/// The most statements of the piece of a process whose frame has so many words: as many as the setup says, or more where its body is
-/// large, so that copying and comparing it takes little of its time.
-pub(crate) fn slice_for(slice: u32, words: usize) -> u32
+// What a heavy process gets at once, in slices, where it is played beside others.
+const HEAVY_SLICES: u32 = 64;
+
+/// The most statements of the piece of a process whose frame has so many words: as many as the setup says; or more where it is heavy,
+/// or its body is large, so that handing it out, copying it and comparing it takes little of its time.
+pub(crate) fn slice_for(slice: u32, words: usize, heavy: bool) -> u32
     requires some { 1 ≤ slice }
     requires small { slice ≤ 1000000 }
     ensures some { 1 ≤ result }
     ensures small { result ≤ 1000000 }
 {
-    if words < 125_000 {
-        slice.max(words as u32 * 8)
+    let long = if heavy { slice * HEAVY_SLICES } else { slice };
+    if words < 125_000 && long < 1_000_000 {
+        long.max(words as u32 * 8)
     } else {
         1_000_000
     }

@@ -17,7 +17,7 @@ use crate::reviving::is_empty;
 use crate::shares::Shares;
 use crate::standing::Standing;
 use crate::taking::{Start, start_of};
-use crate::weights::{is_heavy, weigh};
+use crate::weights::{is_worth, weigh};
 use fm_base::{NoMemory, Path, Setup, Turn};
 use fm_machine::Done;
 use fm_mean::Outcome;
@@ -247,7 +247,9 @@ impl Table {
     {
         self.standing.revive(alloc, &self.program)?;
         let Start { start, kept, path } = start_of(alloc, &self.standing.player.net, number)?;
-        let slice = slice_for(self.setup.slice, start.frame.words.len());
+        let ready = self.standing.player.able.numbers.len();
+        let heavy = is_worth(self.setup.workers, ready, self.heavy.as_slice(), number);
+        let slice = slice_for(self.setup.slice, start.frame.words.len(), heavy);
         self.out.push(Taken {
             number,
             start: kept,
@@ -290,8 +292,8 @@ impl Table {
     // Whether the piece of a process is worth being made outside: its last one used up its slice, and another worker could play another
     // process meanwhile.
     fn goes_out(&self, number: u32) -> bool {
-        let others = 1 < self.setup.workers && 1 < self.standing.player.able.numbers.len();
-        others && is_heavy(self.heavy.as_slice(), number)
+        let ready = self.standing.player.able.numbers.len();
+        is_worth(self.setup.workers, ready, self.heavy.as_slice(), number)
     }
 
     /// Plays what came of a piece that was made outside, as one entry: its statements, and one step more where that concerns others and

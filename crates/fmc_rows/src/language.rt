@@ -17,7 +17,7 @@ const RUN: &[&str] = &["run"];
 
 const VARS: &[&str] = &["run", "--vars"];
 
-pub(crate) const ROWS: [Row; 28] = [
+pub(crate) const ROWS: [Row; 33] = [
     // Powers, quotients and remainders.
     Row {
         source: b"      PROGRAM P
@@ -557,6 +557,99 @@ pub(crate) const ROWS: [Row; 28] = [
         words: VARS,
         exit: Exit::Done,
         text: b" 5\n 0\n 1\nturns 24\n",
+    },
+    // The first two elements of an array are sent, and set the first two of another.
+    Row {
+        source: b"      PROGRAM VAR
+      INPORT (INTEGER N, INTEGER X(N)) P
+      OUTPORT (INTEGER N, INTEGER X(N)) Q
+      INTEGER A(4), B(3)
+      CHANNEL(IN=P,OUT=Q)
+      A(1) = 7
+      A(2) = 8
+      SEND(Q) 2, A
+      RECEIVE(P) K, B
+      PRINT *, K, B
+      END
+",
+        words: VARS,
+        exit: Exit::Done,
+        text: b" 2 7 8 0\nvar A = 7 8 0 0\nvar B = 7 8 0\nvar K = 2\nvar P = NULL\nvar Q = NULL\nturns 22\n",
+    },
+    // More elements than the array has: nothing is sent.
+    Row {
+        source: b"      PROGRAM VAR
+      INPORT (INTEGER N, INTEGER X(N)) P
+      OUTPORT (INTEGER N, INTEGER X(N)) Q
+      INTEGER A(4), B(3)
+      CHANNEL(IN=P,OUT=Q)
+      A(1) = 7
+      A(2) = 8
+      SEND(Q) 5, A
+      RECEIVE(P) K, B
+      PRINT *, K, B
+      END
+",
+        words: VARS,
+        exit: Exit::Faulted,
+        text: b"var A = 7 8 0 0\nvar B = 0 0 0\nvar K = 0\nvar P = main:1\nvar Q = main:1\nfault main line 8 Subscript\nturns 4\n",
+    },
+    // Fewer than none.
+    Row {
+        source: b"      PROGRAM VAR
+      INPORT (INTEGER N, INTEGER X(N)) P
+      OUTPORT (INTEGER N, INTEGER X(N)) Q
+      INTEGER A(4), B(3)
+      CHANNEL(IN=P,OUT=Q)
+      A(1) = 7
+      A(2) = 8
+      SEND(Q) -1, A
+      RECEIVE(P) K, B
+      PRINT *, K, B
+      END
+",
+        words: RUN,
+        exit: Exit::Faulted,
+        text: b"fault main line 8 Subscript\n",
+    },
+    // More elements than the array that is to get them has.
+    Row {
+        source: b"      PROGRAM VAR
+      INPORT (INTEGER N, INTEGER X(N)) P
+      OUTPORT (INTEGER N, INTEGER X(N)) Q
+      INTEGER A(4), B(3)
+      CHANNEL(IN=P,OUT=Q)
+      A(1) = 7
+      A(2) = 8
+      SEND(Q) 4, A
+      RECEIVE(P) K, B
+      PRINT *, K, B
+      END
+",
+        words: VARS,
+        exit: Exit::Faulted,
+        text: b"var A = 7 8 0 0\nvar B = 0 0 0\nvar K = 0\nvar P = main:1\nvar Q = main:1\nfault main line 9 Subscript\nturns 10\n",
+    },
+    // The nearest field of a name gives the size, also where a constant has the name; types agree by its place.
+    Row {
+        source: b"      PROGRAM NEAR
+      PARAMETER (N = 9)
+      INPORT (INTEGER N, INTEGER N, LOGICAL L(N)) P
+      OUTPORT (INTEGER I, INTEGER J, LOGICAL L(J)) Q
+      LOGICAL A(3), B(3)
+      CHANNEL(IN=P,OUT=Q)
+      A(1) = .TRUE.
+      A(3) = .TRUE.
+      B(2) = .TRUE.
+      B(3) = .TRUE.
+      SEND(Q) 3, 1, A
+      RECEIVE(P) I, J, B
+      PRINT *, I, J, B
+      END
+",
+        words: RUN,
+        exit: Exit::Done,
+        text: b" 3 1 T T T\n",
     },
 ];
 

@@ -15,7 +15,7 @@ struct Row {
 const DETERMINISTIC: &[u8] = b"deterministic\n";
 
 /// First two rules at once, then the rules in their order, each alone but for an element with wrong subscripts.
-const ROWS: [Row; 38] = [
+const ROWS: [Row; 40] = [
     Row {
         broken: b"      PROGRAM P\n      X = 1\n      GOTO 10\n      END\n",
         refusal: b"line 3: E23 label missing\n",
@@ -132,6 +132,11 @@ const ROWS: [Row; 38] = [
         lawful: b"      PROGRAM P\n      PARAMETER (N = 3)\n      INTEGER A(N)\n      END\n",
     },
     Row {
+        broken: b"      PROGRAM P\n      INPORT (INTEGER X(N), INTEGER N) Q\n      END\n",
+        refusal: b"line 2: E33 no constant\n",
+        lawful: b"      PROGRAM P\n      INPORT (INTEGER N, INTEGER X(N)) Q\n      END\n",
+    },
+    Row {
         broken: b"      PROGRAM P\n      INTEGER A(65536), B\n      END\n",
         refusal: b"line 1: E34 too many words\n",
         lawful: b"      PROGRAM P\n      INTEGER A(65535), B\n      END\n",
@@ -197,6 +202,11 @@ const ROWS: [Row; 38] = [
         broken: b"      PROGRAM P\n      OUTPORT (INTEGER) Q\n      SEND(Q) 1, 2\n      END\n",
         refusal: b"line 3: E52 wrong message list\n",
         lawful: b"      PROGRAM P\n      OUTPORT (INTEGER, INTEGER) Q\n      SEND(Q) 1, 2\n      END\n",
+    },
+    Row {
+        broken: b"      PROGRAM P\n      OUTPORT (INTEGER N, INTEGER X(N)) Q\n      SEND(Q) 1, K\n      END\n",
+        refusal: b"line 3: E52 wrong message list\n",
+        lawful: b"      PROGRAM P\n      OUTPORT (INTEGER N, INTEGER X(N)) Q\n      INTEGER A(10)\n      SEND(Q) 1, A\n      END\n",
     },
     Row {
         broken: b"      PROGRAM P\n      INPORT (INTEGER) PI\n      OUTPORT (LOGICAL) PO\n      CHANNEL(IN=PI, OUT=PO)\n      END\n",

@@ -8,13 +8,13 @@ use Rattle.fm_names_constants.proofs.judging.+judge_type.Goals as goal
 
 pub judge_type-judge_field-best-requires : goal.judge_type-judge_field-best-requires
 judge_type-judge_field-best-requires t c =
-    let seen = ap fields_count c.as_slice-field-items.ensures in
-    let below = in_fields c.as_slice-field-items.result.now c.fields.field-index c.field-item.result c.fields-test.true in
-    let item = ap (λ (f : Field). kind_count (kind_of f.kind)) c.field-item.is in
+    let seen = ap fields_count c.as_slice-fields.ensures in
+    let below = in_fields c.as_slice-fields.result.now c.fields.index c.index-fields-index.result c.fields-test.true in
+    let item = ap (λ (f : Field). kind_count (kind_of f.kind)) c.index-fields-index.is in
     (omega (arith, seen, below, item, c.decreases), tt)
 
 pub judge_type-fields-preserved : goal.judge_type-fields-preserved
 judge_type-fields-preserved t c =
-    rw c.judge_field-best.ensures
-    (fields_next c.args.known.now c.args.at c.args.line.0 c.fields.best c.as_slice-field-items.result.now c.fields.field-index c.field-item.result c.fields-test.true c.field-item.is
+    rw (c.judge_field-best.ensures, c.split_at.ensures.front)
+    (fields_next c.args.known.now c.args.at c.args.line.0 c.fields.best c.as_slice-fields.result.now c.fields.index c.index-fields-index.result c.fields-test.true c.index-fields-index.is
     ∙ c.fields.invariant)

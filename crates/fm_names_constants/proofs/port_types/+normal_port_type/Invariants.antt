@@ -1,7 +1,8 @@
-use Rattle.std.proofs.Common.{◌≡◌, ◌+◌, ◌*◌, map, take}
+use Rattle.std.proofs.Common.{◌≡◌, ◌+◌, ◌*◌, ◌++◌, [], take, drop}
 use Rattle.fm_tree.specs.PortFields.{fields_count, kind_count}
 use Rattle.fm_tree.specs.PortReading.{kind_of}
-use Rattle.fm_rules.specs.PortTypes.{normal_field}
+use Rattle.fm_rules.specs.SizedFields.{sizes_of}
+use Rattle.fm_names_constants.proofs.Fields.{normals}
 use Rattle.fm_names_constants.proofs.port_types.+normal_port_type.Given as goal
 
 abbrev pub decreases-normal_port_type : goal.decreases-normal_port_type
@@ -14,4 +15,5 @@ abbrev pub decreases-normal_kind : goal.decreases-normal_kind
 decreases-normal_kind l = 2 * kind_count (kind_of l.kind.now)
 
 abbrev pub invariant-normal_port_type-fields : goal.invariant-normal_port_type-fields
-invariant-normal_port_type-fields l = l.fields.items ≡ map (normal_field l.known l.place) (take l.field-index l.field-items)
+invariant-normal_port_type-fields l =
+    l.normal.items ++ normals l.known l.place (sizes_of (take l.index l.fields)) (drop l.index l.fields) ≡ normals l.known l.place [] l.fields

@@ -7,7 +7,7 @@ use Rattle.fm_tree.specs.declared.statement.Item.{Item}
 use Rattle.fm_tree.specs.declared.statement.Var.{Var}
 use Rattle.fm_plain_frame.specs.Units.{unit_of}
 use Rattle.fm_mean.specs.Names.{unit_named}
-use Rattle.fm_mean.specs.Actions.{calls, merger_places, merges, prints, receive_places, receives, returns, sends}
+use Rattle.fm_mean.specs.Actions.{calls, fields_at, merger_places, merges, prints, receive_places, receives, returns, sends}
 use Rattle.fm_mean.specs.Evaluate.{actuals_of, place_of, printed_all, refs_in_var}
 use Rattle.fm_plain.specs.Standing.{ActsOn, frame_in, point_in, program_in, scope_in}
 use Rattle.fm_plain.proofs.StandingLaws.{StepsAll, anywhere, simple_all, simple_on}
@@ -62,7 +62,7 @@ returns-in-Merger-clause-acts c =
 pub returns-in-Send-clause-acts : goal.returns-in-Send-clause-acts
 returns-in-Send-clause-acts c =
     simple_on c.args.here.now _ _ c.args.top.now c.args.top.now c.args.below.now.items c.sends.result c.in-Send.is
-    (subst (λ (is : List Tree). IfOk c.sends.result (λ s. ActsOn c.args.here.now (λ w below. sends (point_in c.args.here.now) (frame_in c.args.here.now c.args.top.now) (place_of (scope_in c.args.here.now c.args.top.now) c.in-Send.port 0) (actuals_of (scope_in c.args.here.now c.args.top.now) (trees_from is) (refs_in_var (scope_in c.args.here.now c.args.top.now) c.in-Send.port))) c.args.top.now s c.args.top.now)) c.as_slice-in-Send.ensures c.sends.ensures)
+    (subst (λ (is : List Tree). IfOk c.sends.result (λ s. ActsOn c.args.here.now (λ w below. sends (point_in c.args.here.now) (fields_at (unit_of c.args.here.now.unit) c.in-Send.port) (frame_in c.args.here.now c.args.top.now) (place_of (scope_in c.args.here.now c.args.top.now) c.in-Send.port 0) (actuals_of (scope_in c.args.here.now c.args.top.now) (trees_from is) (refs_in_var (scope_in c.args.here.now c.args.top.now) c.in-Send.port))) c.args.top.now s c.args.top.now)) c.as_slice-in-Send.ensures c.sends.ensures)
 
 pub returns-in-Receive-clause-acts : goal.returns-in-Receive-clause-acts
 returns-in-Receive-clause-acts c =

@@ -1,4 +1,4 @@
-use Rattle.std.proofs.Common.{◌++◌, ap, sym, ◌∙◌, vec_capacity, vec_len}
+use Rattle.std.proofs.Common.{◌++◌, ap, ◌∙◌, vec_capacity, vec_len}
 use Rattle.std.specs.FinMap.{get, insert}
 use Rattle.fm_base.specs.declared.path.ChanName.{ChanName}
 use Rattle.fm_base.specs.Channels.{fresh}

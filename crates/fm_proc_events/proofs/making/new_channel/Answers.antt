@@ -1,4 +1,4 @@
-use Rattle.std.proofs.Common.{◌≡◌, ◌+◌, arith, vec_capacity, vec_len}
+use Rattle.std.proofs.Common.{◌≡◌, arith, vec_capacity, vec_len}
 use Rattle.fm_proc_events.proofs.NewChannels.{empty_for_outports}
 use Rattle.fm_proc_events.proofs.making.new_channel.Goals as goal
 

@@ -1,4 +1,4 @@
-use Rattle.std.proofs.Common.{◌≡◌, Some, sym, ap, ◌∙◌, w64}
+use Rattle.std.proofs.Common.{sym, ap, ◌∙◌, w64}
 use Rattle.std.proofs.lemmas.Int.{to_z-of_z}
 use Rattle.fm_chan.specs.Bodies.{chans_of}
 use Rattle.fm_proc_language.specs.Slots.{in_slot}

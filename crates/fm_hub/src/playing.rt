@@ -1,0 +1,43 @@
+//! What a seat that has the turn does to the table: what the table does, and nothing else.
+
+ghost use Rattle.std.specs.Prelude.{◌≡◌, IfOk, IfErr, OnErr};
+ghost use Rattle.fm_workers.specs.Histories.{IsGiven};
+
+use crate::handles::Held;
+use fm_base::NoMemory;
+use fm_workers::{Given, Phase, SharedTable};
+use std::alloc::Global;
+
+impl<T: SharedTable> Held<T> {
+    /// As the table's.
+    pub fn take(&mut self, alloc: Global, worker: u32) -> Result<Option<T::Piece>, NoMemory>
+        ensures same { self.new.place ≡ self.old.place }
+        ensures history { T.history_of self.new.table ≡ T.history_of self.old.table }
+    {
+        self.table.take(alloc, worker)
+    }
+
+    /// As the table's.
+    pub fn give(&mut self, alloc: Global, done: T::Done) -> Result<Given, (T::Done, NoMemory)>
+        ensures same { self.new.place ≡ self.old.place }
+        ensures given { IfOk result
+            (λ g. IsGiven g (T.process_of done) (T.history_of self.old.table) (T.history_of self.new.table)) }
+        ensures unchanged { OnErr result (T.history_of self.new.table ≡ T.history_of self.old.table) }
+        ensures back { IfErr result (λ e. e.0 ≡ done) }
+    {
+        self.table.give(alloc, done)
+    }
+
+    /// As the table's.
+    pub fn recall(&mut self)
+        ensures same { self.new.place ≡ self.old.place }
+        ensures history { T.history_of self.new.table ≡ T.history_of self.old.table }
+    {
+        self.table.recall();
+    }
+
+    /// As the table's.
+    pub fn phase(&self) -> Phase {
+        self.table.phase()
+    }
+}

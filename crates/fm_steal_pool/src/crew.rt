@@ -1,0 +1,81 @@
+//! The workers, each with a lane and with ways into the lanes of the others.
+
+ghost use Rattle.std.specs.Prelude.{◌≤◌};
+
+use fm_base::NoMemory;
+use fm_steal::{Lane, Thief, lane};
+use std::alloc::Global;
+use std::sync::Wait;
+
+// How many pieces a lane takes in all.
+const ROOM: usize = 65_536;
+
+/// A worker.
+#[derive(Drop)]
+pub struct Worker<P> {
+    /// Its number.
+    pub number: u32,
+    /// Its own lane.
+    pub lane: Lane<P>,
+    /// Its ways into the lanes of the others.
+    pub others: Vec<Thief<P>>,
+    /// Ways into its lane that no other worker has yet.
+    pub ways: Vec<Thief<P>>,
+}
+
+impl<P> Worker<P> {
+    /// The first piece of another worker's lane, if one has a piece.
+    pub fn steal<R: Wait>(&mut self, rt: &R) -> Option<P> {
+        'others: for other in self.others.iter_mut() {
+            if let Some((_, piece)) = other.steal(rt) {
+                return Some(piece);
+            }
+        }
+        None
+    }
+}
+
+// A worker with no way into other lanes, and with as many into its own as there are others.
+fn alone<P: Drop>(alloc: Global, number: u32, count: u32) -> Result<Worker<P>, NoMemory>
+    requires { (1 ≤ count) × (count ≤ 64) }
+{
+    let (lane, ways) = lane::<P>(alloc, ROOM, count - 1)?;
+    Ok(Worker {
+        number,
+        lane,
+        others: Vec::new(alloc),
+        ways,
+    })
+}
+
+// Each of the two gets a way into the other's lane.
+fn meet<P: Drop>(one: &mut Worker<P>, two: &mut Worker<P>) -> Result<(), NoMemory> {
+    if let Some(way) = one.ways.pop() {
+        two.others.push(way)?;
+    }
+    if let Some(way) = two.ways.pop() {
+        one.others.push(way)?;
+    }
+    Ok(())
+}
+
+// The new one meets all others.
+fn meet_all<P: Drop>(others: &mut [Worker<P>], new: &mut Worker<P>) -> Result<(), NoMemory> {
+    'others: for other in others {
+        meet(other, new)?;
+    }
+    Ok(())
+}
+
+/// So many workers, each with a way into the lane of each other.
+pub fn crew<P: Drop>(alloc: Global, count: u32) -> Result<Vec<Worker<P>>, NoMemory>
+    requires { (1 ≤ count) × (count ≤ 64) }
+{
+    let mut made = Vec::with_capacity(alloc, count as usize)?;
+    'workers: for number in 0..count {
+        let mut new = alone(alloc, number, count)?;
+        meet_all(made.as_mut_slice(), &mut new)?;
+        made.push(new)?;
+    }
+    Ok(made)
+}
