@@ -10,8 +10,8 @@ wants of each:
 - A call ends by no signal, writes nothing to standard error, and one text of the form that its status says.
 - `check`, `list`, `run` and `trace` refuse alike. What `list` writes, laid out as a text with each statement at its
   line, has the same answers of `check` and `run`, and the same list.
-- `run` writes the same report with the same status for each slice, where `check` says deterministic, and for other
-  workers and plans in any case.
+- `run` writes the same report with the same status for each slice, number of workers and plan, where `check` says
+  deterministic. Another program is run by one worker, and writes the same report where the slice is the same.
 - `replay` of the trace writes the report of the run. A trace that is bent in one byte is answered too, and where just
   its entries are bent and a deterministic program has ended, by the same report.
 
@@ -38,6 +38,7 @@ MADE = ["0", "181"]
 PLAIN = ()
 SLICES = [("--slice", "1"), ("--slice", "7"), ("--slice", "1000"), ("--slice", "1000000")]
 PLACES = [("--workers", "1"), ("--workers", "64", "--plan", "block")]
+ALONE = ("--workers", "1")
 
 TOKEN = re.compile(rb"'[^'\n]*'|[A-Z]\w*|\d+|\.[A-Z]+\.|\*\*|[^\s\w]", re.I)
 NAME = re.compile(rb"[A-Z]\w*", re.I)
@@ -164,14 +165,19 @@ def try_lawful(rng, binary, text, checked):
     again = laid_out(listed[1])
     same("list of the list", call(binary, ["list"], again), listed)
     same("check of the list", call(binary, ["check"], again), checked)
-    reports = {setup: call(binary, run_words(setup), text) for setup in [PLAIN, *SLICES, *PLACES]}
-    for setup in SLICES + PLACES:
-        if is_deterministic or setup in PLACES or setup == ("--slice", "1000"):
-            same("run " + " ".join(setup), reports[setup], reports[PLAIN])
-    same("run of the list", call(binary, run_words(PLAIN), again), reports[PLAIN])
+    if is_deterministic:
+        first, equal = PLAIN, SLICES + PLACES
+        setups = [first, *equal]
+    else:
+        first, equal = ALONE, [("--slice", "1000", *ALONE)]
+        setups = [first, *(slice + ALONE for slice in SLICES)]
+    reports = {setup: call(binary, run_words(setup), text) for setup in setups}
+    for setup in equal:
+        same("run " + " ".join(setup), reports[setup], reports[first])
+    same("run of the list", call(binary, run_words(first), again), reports[first])
     setup = rng.choice([*reports])
     try_trace(rng, binary, text, setup, reports[setup], is_deterministic)
-    return reports[PLAIN][0]
+    return reports[first][0]
 
 
 def try_text(rng, binary, text):
