@@ -14,6 +14,7 @@ crates/fmc_cli/out/fmc_cli, and stands for ./fmc.
   program isn't tried.
 - A block ```text right behind a block ```sh is what its lines write together. Lines that begin with ./fmc or
   extras/why are run, and are no usage; a block with other commands isn't compared. The file my.f is the last program.
+- A line that ends with > docs/NAME.svg writes that file as it is.
 """
 import os
 import re
@@ -26,6 +27,7 @@ PAGES = ["README.md", "docs/LANGUAGE.md", "docs/RULES.md", "docs/TOUR.md", "docs
 FENCE = re.compile(r"^```(\w*) ?([^\n]*)\n(.*?)^```$", re.M | re.S)
 HEADING = re.compile(r"^ +PROGRAM\b", re.M | re.I)
 UNIT = re.compile(r"(?:^[^\n]*\n)*?^[ \d]{6} *END\n", re.M)
+DRAWN = re.compile(r"^(\./fmc .*) > (docs/\w+\.svg)$", re.M)
 NAME = re.compile(r"^ +(?:(?:INTEGER|LOGICAL) )?(?:PROGRAM|PROCESS|SUBROUTINE|FUNCTION) (\w+)", re.M)
 
 
@@ -52,18 +54,32 @@ def with_units(program, text):
     return "".join(units.values())
 
 
+def typed(binary, program, line):
+    """What a line of a block of commands writes, and the status."""
+    line = line.replace("./fmc", shlex.quote(binary)).replace(" my.f", " /dev/stdin")
+    done = subprocess.run(line, shell=True, cwd=TOP, env={**os.environ, "FMC": binary}, input=program.encode(),
+                          stdout=subprocess.PIPE)
+    return done.stdout.decode(errors="replace"), done.returncode
+
+
 def shell(binary, program, text):
     """What the lines of a block of commands write, the worst status, and whether each of them is one of ours."""
-    lines = [line for line in text.splitlines() if line.strip() and not line.startswith("#")]
+    lines = [line for line in DRAWN.sub("", text).splitlines() if line.strip() and not line.startswith("#")]
     written, statuses = "", [0]
     for line in lines:
         if line.startswith(("./fmc ", "extras/why ")):
-            line = line.replace("./fmc", shlex.quote(binary)).replace(" my.f", " /dev/stdin")
-            done = subprocess.run(line, shell=True, cwd=TOP, env={**os.environ, "FMC": binary}, input=program.encode(),
-                                  stdout=subprocess.PIPE)
-            written += done.stdout.decode(errors="replace")
-            statuses.append(done.returncode)
+            told, status = typed(binary, program, line)
+            written += told
+            statuses.append(status)
     return written, 5 if 5 in statuses else 0, len(statuses) == len(lines) + 1
+
+
+def redrawn(binary, program, text):
+    """Those drawings of a block of commands that its lines write otherwise than they are."""
+    for command, name in DRAWN.findall(text):
+        with open(os.path.join(TOP, name), encoding="utf-8") as file:
+            if typed(binary, program, command)[0] != file.read():
+                yield name
 
 
 def tried(binary, page):
@@ -83,6 +99,9 @@ def tried(binary, page):
             answers = [ran(binary, it, program)[0] for it in ([words] if words else [["run"], ["check"], ["list"]])]
             yield line, "" if text in answers else answers[0] or "nothing", "compared"
         elif kind == "sh":
+            if DRAWN.search(text):
+                others = ", ".join(redrawn(binary, program, text))
+                yield line, others and f"another drawing than {others}", "redrawn"
             written, status, is_ours = shell(binary, program, text)
             if is_answered and is_ours:
                 wanted = blocks[number + 1][2]

@@ -1,16 +1,18 @@
 #!/usr/bin/env python3
-"""The time and the memory of a run with one worker and with several.
+"""The time and the memory of a run with one worker and with several, by each pool.
 
-    bench/pool.py [BINARY [RUNS [BEFORE]]]
+    bench/pool.py [BINARY [RUNS [BEFORE]]] [--steal BINARY] [--hub BINARY]
 
-Runs bench/pool/compute.f, whose eight processes compute by themselves, with 1, 2, 4 and 8 workers, and the
-program of `make 899`, whose processes have little to share, with 1 and 4; by turns, so that what else the
-machine does falls on all alike. For each it prints the least time of RUNS runs (3, if it isn't told), how
-many times as fast it is as with one worker, and the most memory. All runs of a program have to print the
-same. With BEFORE, another built program, such as one without workers, the programs of bench/speed are run
-by both with one worker, and what the first takes of the second's time is printed. BINARY is the built
-program, by default crates/fmc_cli/out/fmc_cli.
+Runs bench/pool/compute.f, whose eight processes compute by themselves, in pieces of the usual length and in short
+ones (slice 10), with 1, 2, 4 and 8 workers, and `demo 899`, whose processes have little to share, with 1 and 4; by
+turns, so that what else the machine does falls on all alike. For each pool it prints the least time of RUNS runs (3,
+if it isn't told), how many times as fast that is as the first pool with one worker, and the most memory. All runs of
+a program have to print the same. BINARY is the built program, by default crates/fmc_cli/out/fmc_cli; the programs
+with other pools are fmc_cli_steal and fmc_cli_hub beside it, and are left out where they aren't built. With BEFORE,
+another built program, such as one without workers, the programs of bench/speed are run by both with one worker, and
+what the first takes of the second's time is printed.
 """
+import argparse
 import os
 import subprocess
 import sys
@@ -19,10 +21,6 @@ import time
 HERE = os.path.dirname(os.path.abspath(__file__))
 TURNS = "1000000000"
 RUNS = 3
-
-
-def made(binary, number):
-    return subprocess.run([binary, "make", str(number)], stdout=subprocess.PIPE, check=True).stdout
 
 
 def text(*names):
@@ -57,34 +55,55 @@ def compared(commands, source, runs):
     return least, most
 
 
-def run(binary, workers):
-    return [binary, "run", "--turns", TURNS, "--workers", str(workers)]
+def run(binary, workers, *words):
+    return [binary, *(words or ["run"]), "--turns", TURNS, "--workers", str(workers)]
 
 
-def shared(binary, title, source, counts, runs):
-    least, most = compared({count: run(binary, count) for count in counts}, source, runs)
-    one, held = least[counts[0]], most[counts[0]]
+def shared(pools, title, words, source, counts, runs):
+    commands = {(name, count): run(binary, count, *words) for count in counts for name, binary in pools.items()}
+    least, most = compared(commands, source, runs)
+    one = least[next(iter(pools)), counts[0]]
     for count in counts:
-        print(
-            f"{title:12} workers {count}: {least[count]:7.3f} s, {one / least[count]:5.2f} times as fast as one,"
-            f" {most[count] / 1000:7.1f} MB, {most[count] / held:5.2f} times that of one"
-        )
+        columns = []
+        for name in pools:
+            spent, held = least[name, count], most[name, count]
+            columns.append(f"{name} {spent:7.3f} s {one / spent:5.2f} times {held / 1000:6.1f} MB")
+        print(f"{title:18} workers {count}: " + " | ".join(columns), flush=True)
 
 
 def alone(binary, before, title, source, runs):
     commands = {"now": run(binary, 1), "before": run(before, 1)}
     least, _ = compared(commands, source, runs)
-    print(f"{title:12} one worker takes {least['now'] / least['before']:5.2f} of the time before")
+    print(f"{title:18} one worker takes {least['now'] / least['before']:5.2f} of the time before")
+
+
+def beside(binary, name):
+    """The built program of this crate, next to that of fmc_cli."""
+    crates = os.path.dirname(os.path.dirname(os.path.dirname(os.path.abspath(binary))))
+    return os.path.join(crates, name, "out", name)
 
 
 def main():
-    binary = sys.argv[1] if len(sys.argv) > 1 else os.path.join(HERE, "../crates/fmc_cli/out/fmc_cli")
-    runs = int(sys.argv[2]) if len(sys.argv) > 2 else RUNS
-    shared(binary, "compute", text("pool", "compute.f"), [1, 2, 4, 8], runs)
-    shared(binary, "make 899", made(binary, 899), [1, 4], runs)
-    if len(sys.argv) > 3:
+    parser = argparse.ArgumentParser()
+    parser.add_argument("binary", nargs="?", default=os.path.join(HERE, "../crates/fmc_cli/out/fmc_cli"))
+    parser.add_argument("runs", nargs="?", type=int, default=RUNS)
+    parser.add_argument("before", nargs="?")
+    parser.add_argument("--steal")
+    parser.add_argument("--hub")
+    told = parser.parse_args()
+    found = {
+        "lock": told.binary,
+        "lanes": told.steal or beside(told.binary, "fmc_cli_steal"),
+        "hub": told.hub or beside(told.binary, "fmc_cli_hub"),
+    }
+    pools = {name: binary for name, binary in found.items() if name == "lock" or os.path.exists(binary)}
+    compute = text("pool", "compute.f")
+    shared(pools, "compute", ["run"], compute, [1, 2, 4, 8], told.runs)
+    shared(pools, "compute, slice 10", ["run", "--slice", "10"], compute, [1, 2, 4, 8], told.runs)
+    shared(pools, "demo 899", ["demo", "899"], b"", [1, 4], told.runs)
+    if told.before:
         for name in ["loop", "sieve", "matrix", "calls"]:
-            alone(binary, sys.argv[3], name, text("speed", name + ".f"), runs)
+            alone(told.binary, told.before, name, text("speed", name + ".f"), told.runs)
 
 
 if __name__ == "__main__":

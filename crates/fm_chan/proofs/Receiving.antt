@@ -1,10 +1,9 @@
 -- What a receive gets of a channel, from what is at its queue and its writers.
-use Rattle.std.proofs.Common.{◌≡◌, ℕ, Bool, true, false, cond, not, List, [], ◌∷◌, Option, Some, None, Bor, IfSome, refl, sym, ap, ◌∙◌}
-use Rattle.std.specs.Option.{option_copied}
-use Rattle.fm_base.specs.Channels.{Message, Chan, Limits, Pop, can_pop, is_ready, changed, gives, exceeds, fits_limits, first_exceeds, first_message, behind_first}
+use Rattle.std.proofs.Common.{◌≡◌, ℕ, Bool, true, false, cond, not, List, [], ◌∷◌, Option, Some, None, refl, sym, ap, ◌∙◌}
+use Rattle.fm_base.specs.Channels.{Message, Chan, Limits, Pop, can_pop, changed, gives, exceeds, fits_limits, first_exceeds, first_message, behind_first}
 use Rattle.fm_chan.specs.declared.message.Got.{Got}
 use Rattle.fm_chan.specs.declared.message.Got.TheVariants as got
-use Rattle.fm_chan.specs.Received.{got_of, got_from, got_at, oldest, first_at, got_first, message_in, brings}
+use Rattle.fm_chan.specs.Received.{got_of, got_from, brings}
 
 not_false : (b : Bool) → not b ≡ false → b ≡ true
 not_false true e = refl
@@ -76,40 +75,28 @@ module _ (limits : Limits) where
   pub nothing_taken : (ch : Chan) → brings (got_from limits ch) ≡ false → changed (Pop limits) ch ≡ ch
   nothing_taken ch none = ap (λ q. record { queue = q; writers = ch.writers; lives = ch.lives }) (idle ch.queue ch.writers none)
 
--- ---- without limits
+-- ---- what was got tells of the channel
 
--- no message exceeds
-none_exceeds : (queue : List Message) → first_exceeds [] queue ≡ false
-none_exceeds [] = refl
-none_exceeds (message ∷ queue) = refl
+pub message_tells : (ready over : Bool) (o : Option Message) (m : Message) → got.Message m ≡ cond ready (cond over got.Exceeds (got_of o)) got.Wait → (over ≡ false) × (Some m ≡ o)
+message_tells true false (Some n) m is = (refl, cc is)
+message_tells true false None m is = absurd (cc is)
+message_tells true true o m is = absurd (cc is)
+message_tells false over o m is = absurd (cc is)
 
-got_message : (o : Option Message) → message_in (got_of o) ≡ o
-got_message None = refl
-got_message (Some message) = refl
+pub end_tells : (ready over : Bool) (o : Option Message) → got.End ≡ cond ready (cond over got.Exceeds (got_of o)) got.Wait → (over ≡ false) × (None ≡ o)
+end_tells true false (Some n) is = absurd (cc is)
+end_tells true false None is = (refl, refl)
+end_tells true true o is = absurd (cc is)
+end_tells false over o is = absurd (cc is)
 
-pub message_brought : (ch : Chan) → is_ready (Pop []) ch ≡ true → message_in (got_at [] (Some ch)) ≡ gives (Pop []) ch
-message_brought ch ready =
-    ap (λ b. message_in (cond b (cond (first_exceeds [] ch.queue) got.Exceeds (got_of (gives (Pop []) ch))) got.Wait)) ready
-    ∙ ap (λ b. message_in (cond b got.Exceeds (got_of (gives (Pop []) ch)))) (none_exceeds ch.queue) ∙ got_message (gives (Pop []) ch)
+pub excess_tells : (ready over : Bool) (o : Option Message) → got.Exceeds ≡ cond ready (cond over got.Exceeds (got_of o)) got.Wait → over ≡ true
+excess_tells true false (Some n) is = absurd (cc is)
+excess_tells true false None is = absurd (cc is)
+excess_tells true true o is = refl
+excess_tells false over o is = absurd (cc is)
 
--- ---- the oldest message
-
--- is what a receive gets, or what exceeds
-pub first_received : (o : Option Chan) (m : Message) → Some m ≡ first_at o → (limits : Limits) → got_at limits o ≡ got_first limits m
-first_received None m is limits = absurd (cc is)
-first_received (Some ch) m is limits = go ch.queue is
-  where
-    received : (f : Bool) → cond (not f) got.Exceeds (got_of (cond f (Some m) None)) ≡ cond f (got.Message m) got.Exceeds
-    received true = refl
-    received false = refl
-
-    go : (q : List Message) → Some m ≡ oldest q → got_at limits (Some (record ch { queue = q })) ≡ got_first limits m
-    go [] e = absurd (cc e)
-    go (n ∷ ns) e =
-        let same : n ≡ m = cc (sym e) in
-        ap (λ x. got_at limits (Some (record ch { queue = x ∷ ns }))) same ∙ received (fits_limits limits m)
-
--- as it is lent
-pub first_lent : (o : Option (Bor Message)) (c : Option Chan) → option_copied o ≡ first_at c → IfSome o (λ m. (limits : Limits) → got_at limits c ≡ got_first limits m.now)
-first_lent None c is = tt
-first_lent (Some m) c is = first_received c m.now is
+pub wait_tells : (ready over : Bool) (o : Option Message) → got.Wait ≡ cond ready (cond over got.Exceeds (got_of o)) got.Wait → ready ≡ false
+wait_tells true false (Some n) is = absurd (cc is)
+wait_tells true false None is = absurd (cc is)
+wait_tells true true o is = absurd (cc is)
+wait_tells false over o is = refl

@@ -1,7 +1,7 @@
 -- What a receive gets.
 -- Source: the Fortran M report (RECEIVE, PROBE), with this profile's limits.
 use Rattle.std.specs.Prelude.{Bool, true, false, cond, Option, Some, None, List, [], ◌∷◌}
-use Rattle.fm_base.specs.Channels.{Message, Chan, Limits, Pop, Look, can_pop, is_ready, gives, exceeds, fits_limits, tells}
+use Rattle.fm_base.specs.Channels.{Message, Chan, Limits, Pop, Look, can_pop, is_ready, gives, exceeds, tells}
 use Rattle.fm_chan.specs.declared.message.Got.{Got}
 use Rattle.fm_chan.specs.declared.message.Got.TheVariants as got
 
@@ -19,13 +19,6 @@ abbrev pub got_at : Limits → Option Chan → Got
 got_at limits None = got.Wait
 got_at limits (Some ch) = got_from limits ch
 
--- the message that came, if one did
-abbrev pub message_in : Got → Option Message
-message_in (got.Message m) = Some m
-message_in got.Exceeds = None
-message_in got.Wait = None
-message_in got.End = None
-
 -- whether it is a message
 abbrev pub brings : Got → Bool
 brings (got.Message m) = true
@@ -37,15 +30,6 @@ brings got.End = false
 abbrev pub oldest : List Message → Option Message
 oldest [] = None
 oldest (m ∷ ms) = Some m
-
--- the oldest message at a port's channel, if that is there and has one
-abbrev pub first_at : Option Chan → Option Message
-first_at None = None
-first_at (Some ch) = oldest ch.queue
-
--- what a receive gets where this message is the oldest: the message where it fits the limits, else that it exceeds them
-abbrev pub got_first : Limits → Message → Got
-got_first limits m = cond (fits_limits limits m) (got.Message m) got.Exceeds
 
 -- whether a receive has its step at a port's channel, if that is there
 abbrev pub pops_at : Option Chan → Bool

@@ -11,7 +11,7 @@ ghost use Rattle.fm_chan.specs.Received.{brings, got_from, oldest};
 ghost use Rattle.fm_chan.specs.Rest.{left_ports};
 
 use crate::discarding::{Chain, Discarding};
-use crate::limits::fits_limits;
+use crate::limits::Limits;
 use crate::message::{Got, Message};
 use crate::port::Port;
 use fm_base::{NoMemory, PortValue};
@@ -148,8 +148,7 @@ impl Body {
         waits || self.writers.len() == 0
     }
 
-    /// The oldest message, which stays.
-    pub fn first(&self) -> Option<&Message>
+    fn first(&self) -> Option<&Message>
         ensures { option_copied result ≡ oldest (chan_of self.now).queue }
     {
         match &self.inport {
@@ -158,12 +157,12 @@ impl Body {
         }
     }
 
-    fn exceeds(&self, limits: &[Option<u32>]) -> bool
-        ensures { result ≡ exceeds (Pop limits.now) (chan_of self.now) }
+    fn exceeds<L: Limits>(&self, limits: &L) -> bool
+        ensures { result ≡ exceeds (Pop (L.most limits.now)) (chan_of self.now) }
     {
         match self.first() {
             None => false,
-            Some(message) => !fits_limits(limits, message),
+            Some(message) => !limits.fits(message),
         }
     }
 
@@ -181,9 +180,9 @@ impl Body {
     }
 
     /// The oldest message, which leaves the queue if it is within the limits; or what stands against it.
-    pub fn receive(&mut self, limits: &[Option<u32>]) -> Got
-        ensures got { result ≡ got_from limits.now (chan_of self.old) }
-        ensures rest { chan_of self.new ≡ changed (Pop limits.now) (chan_of self.old) }
+    pub fn receive<L: Limits>(&mut self, limits: &L) -> Got
+        ensures got { result ≡ got_from (L.most limits.now) (chan_of self.old) }
+        ensures rest { chan_of self.new ≡ changed (Pop (L.most limits.now)) (chan_of self.old) }
         ensures reader { self.new.reader ≡ self.old.reader }
         ensures room { IsRoomy self.old → IsRoomy self.new }
         ensures taken { brings result ≡ true → IsRoomy self.new }

@@ -14,6 +14,7 @@ ghost use Rattle.fm_chan.specs.Rest.{left_ports};
 
 use crate::body::{Body, Put};
 use crate::discarding::Discarding;
+use crate::limits::Limits;
 use crate::message::{Got, Message};
 use crate::port::Port;
 use fm_base::{ChanName, NoMemory};
@@ -58,9 +59,9 @@ pub fn put(
 }
 
 /// The oldest message, which leaves the queue if it is within the limits; or what stands against it.
-pub fn receive(bodies: &mut Bodies, name: &ChanName, limits: &[Option<u32>]) -> Got
-    ensures got { result ≡ got_at limits.now (map.get (chans_in bodies.old) name.now) }
-    ensures channels { chans_in bodies.new ≡ adjust (chans_in bodies.old) name.now (changed (Pop limits.now)) }
+pub fn receive<L: Limits>(bodies: &mut Bodies, name: &ChanName, limits: &L) -> Got
+    ensures got { result ≡ got_at (L.most limits.now) (map.get (chans_in bodies.old) name.now) }
+    ensures channels { chans_in bodies.new ≡ adjust (chans_in bodies.old) name.now (changed (Pop (L.most limits.now))) }
     ensures unchanged { brings result ≡ false → chans_in bodies.new ≡ chans_in bodies.old }
     ensures readers { WakesOne IsReadyAt bodies.old bodies.new None }
     ensures noted { noted_in bodies.new ≡ noted_in bodies.old }

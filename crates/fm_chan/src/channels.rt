@@ -1,6 +1,6 @@
 //! The channels of a run.
 
-ghost use Rattle.std.specs.Prelude.{◌≡◌, ◌≤◌, ◌+◌, true, false, None, Some, [], ◌∷◌, ◌++◌, IfOk, OnOk, OnErr, IfErr, IfNone, IfSome, IsOk, option_to_list, vec_len, vec_capacity};
+ghost use Rattle.std.specs.Prelude.{◌≡◌, ◌≤◌, ◌+◌, true, false, None, Some, [], ◌∷◌, ◌++◌, IfOk, OnOk, OnErr, IfErr, IfNone, IsOk, option_to_list, vec_len, vec_capacity};
 ghost use Rattle.fm_base.specs.declared.port.PortValue.TheVariants.{Writer, Reader};
 ghost use Rattle.fm_chan.specs.Events.{outports};
 ghost use Rattle.fm_chan.specs.Readers.{HasRoomToWake, count_of};
@@ -8,6 +8,7 @@ ghost use Rattle.fm_chan.specs.Readers.{HasRoomToWake, count_of};
 use crate::body::{Body, Put};
 use crate::by_name::{Bodies, note, put, put_back, receive, reserve, shut};
 use crate::discarding::Discarding;
+use crate::limits::Limits;
 use crate::message::{Got, Message};
 use crate::port::Port;
 use fm_base::{ChanName, NoMemory, PortValue};
@@ -73,13 +74,12 @@ impl Channels {
     ghost use Rattle.std.specs.Prelude.{◌≢◌, ℕ};
     ghost use Rattle.std.specs.FinMap as map;
     ghost use Rattle.fm_base.specs.declared.path.ChanName as declared;
-    ghost use Rattle.fm_base.specs.Channels.{Limits, fresh, channel_of, Push, Pop, freed, shut, message_ports, all_shed};
+    ghost use Rattle.fm_base.specs.Channels.{fresh, channel_of, Push, Pop, freed, shut, message_ports, all_shed};
     ghost use Rattle.fm_chan.specs.Bodies.{chans_of};
     ghost use Rattle.fm_chan.specs.Rooms.{HasRoom, KeepsRoom, KeepsOthersRoom};
     ghost use Rattle.fm_chan.specs.Events.{is_outport, writer_number, chan_at, after_op, after_send, after_send_to, put_first};
     ghost use Rattle.fm_finmap.specs.Changes.{adjust};
-    ghost use Rattle.std.specs.Option.{option_copied};
-    ghost use Rattle.fm_chan.specs.Received.{first_at, got_at, got_first, brings, pops_at, waits_at};
+    ghost use Rattle.fm_chan.specs.Received.{got_at, brings, pops_at, waits_at};
     ghost use Rattle.fm_chan.specs.Rest.{left_ports};
     ghost use Rattle.fm_chan.specs.Woken.{waiting_reader, woken_of, Wakes, WakesAtEnd, WakesAll};
 
@@ -120,20 +120,6 @@ impl Channels {
         match self.bodies.get(port.channel()) {
             Some(body) => !body.is_ready(),
             None => true,
-        }
-    }
-
-    /// The oldest message of the port's channel, which stays; none exactly where no message is there, or
-    /// no channel. A receive gets it where it fits the limits, and else meets that it exceeds them.
-    /// Takes no memory.
-    pub fn first(&self, port: &Port) -> Option<&Message>
-        requires { is_outport port.now ≡ false }
-        ensures first { option_copied result ≡ first_at (chan_at port.now (chans_of self.now)) }
-        ensures received { IfSome result (λ m. (limits : Limits) → got_at limits (chan_at port.now (chans_of self.now)) ≡ got_first limits m.now) }
-    {
-        match self.bodies.get(port.channel()) {
-            Some(body) => body.first(),
-            None => None,
         }
     }
 
@@ -251,12 +237,11 @@ impl Channels {
     }
 
     /// The oldest message, which leaves the queue, where no item of it has more elements than its
-    /// limit; or that it exceeds the limits, a wait, or the end, which change nothing. The limits stand
-    /// for the items from the first on; `None`, and an item behind the last, have none.
-    pub fn receive(&mut self, port: &Port, limits: &[Option<u32>]) -> Got
+    /// limit; or that it exceeds the limits, a wait, or the end, which change nothing.
+    pub fn receive<L: Limits>(&mut self, port: &Port, limits: &L) -> Got
         requires { is_outport port.now ≡ false }
-        ensures got { result ≡ got_at limits.now (chan_at port.now (chans_of self.old)) }
-        ensures channels { chans_of self.new ≡ after_op port.now (Pop limits.now) (chans_of self.old) }
+        ensures got { result ≡ got_at (L.most limits.now) (chan_at port.now (chans_of self.old)) }
+        ensures channels { chans_of self.new ≡ after_op port.now (Pop (L.most limits.now)) (chans_of self.old) }
         ensures unchanged { brings result ≡ false → chans_of self.new ≡ chans_of self.old }
         ensures room { KeepsRoom self.old self.new }
         ensures taken { brings result ≡ true → HasRoom self.new (channel_of port.now) }

@@ -16,6 +16,6 @@ mod message;
 mod port;
 
 pub use channels::Channels;
-pub use limits::{is_within, word_is_within};
+pub use limits::{Limits, is_within, word_is_within};
 pub use message::{Content, Got, Item, Message};
 pub use port::Port;

@@ -1,10 +1,21 @@
 //! Limits of a receive.
 
 ghost use Rattle.std.specs.Prelude.{◌≡◌, ℤ, ◌∷◌, [], map};
+ghost use Rattle.fm_base.specs.Channels as base;
 ghost use Rattle.fm_base.specs.Channels.{Words, item_length, is_within, fits_limits};
 ghost use Rattle.fm_chan.specs.Items.{plain_item};
 
 use crate::message::{Content, Item, Message};
+
+/// What a receive takes at most. Contracts see it as the list of the limits (`most`), which stand for the
+/// items from the first on: `None`, and an item behind the last, have none.
+pub trait Limits {
+    ghost most: { Self → base.Limits };
+
+    /// Whether no item of a message has more elements than its limit.
+    fn fits(&self, message: &Message) -> bool
+        ensures { result ≡ fits_limits (most self.now) message.now };
+}
 
 fn item_length(item: &Item) -> usize
     ensures { result ≡ item_length (plain_item item.now) }
@@ -66,12 +77,13 @@ fn items_fit(limits: &[Option<u32>], items: &[Item]) -> bool
     }
 }
 
-/// Whether no item has more elements than its limit. Items behind the last limit have none.
-pub fn fits_limits(limits: &[Option<u32>], message: &Message) -> bool
-    ensures { result ≡ fits_limits limits.now message.now }
-{
-    match &message.content {
-        Content::Word(_) => word_fits(limits),
-        Content::Items(items) => items_fit(limits, items.as_slice()),
+impl Limits for &[Option<u32>] {
+    ghost most = { λ limits. limits.now };
+
+    fn fits(&self, message: &Message) -> bool {
+        match &message.content {
+            Content::Word(_) => word_fits(self),
+            Content::Items(items) => items_fit(self, items.as_slice()),
+        }
     }
 }

@@ -52,20 +52,3 @@ pub enum Got {
     /// No message is there, and none comes any more.
     End,
 }
-
-impl Got {
-    ghost use Rattle.std.specs.Prelude.{◌≡◌};
-    ghost use Rattle.fm_chan.specs.Received.{message_in};
-
-    /// The message, if one came.
-    pub fn into_message(self) -> Option<Message>
-        ensures { result ≡ message_in self }
-    {
-        match self {
-            Got::Message(message) => Some(message),
-            Got::Exceeds => None,
-            Got::Wait => None,
-            Got::End => None,
-        }
-    }
-}

@@ -1,9 +1,8 @@
 -- A message has 65,536 words at most, as its type has, and 65,536 for each field that an earlier one sizes.
 use Rattle.std.proofs.Common.{◌≡◌, ℕ, suc, ℤ, pos, negsuc, ◌+◌, ◌*◌, ◌≤◌, Bool, true, false, cond, Option, Some, None, option_map, unwrap_or, List, [], ◌∷◌, ◌++◌, map, drop, take, length, replicate, slice_get, Result, Ok, refl, sym, ap, ◌∙◌, subst, arith}
-use Rattle.std.specs.Prelude.{nat_le, nat_lt}
+use Rattle.std.specs.Prelude.{nat_le}
 use Rattle.std.specs.FinMap.{get}
 use Rattle.std.specs.Coded.{Unit-prop, le_prop}
-use Rattle.std.proofs.lemmas.Bool.Decides.{nat_tests}
 use Rattle.std.proofs.lemmas.List.{length-replicate, length-take}
 use Rattle.fm_base.specs.Channels.{Item, Message}
 use Rattle.fm_base.specs.Verdict as verdict
@@ -62,7 +61,7 @@ use Rattle.fm_mean.proofs.Arguments.{same_pair, the_actual, the_type, variable_t
 use Rattle.fm_mean.proofs.FirstEntries.{first_entry, first_there}
 use Rattle.fm_mean.proofs.Fitting.{chosen, enough}
 use Rattle.fm_mean.proofs.Sizes as sizes
-use Rattle.fm_mean.proofs.Sizes.{all_append, in_all, parts_of, the_names}
+use Rattle.fm_mean.proofs.Sizes.{all_append, in_all, not_more, parts_of, the_names}
 use Rattle.fm_mean.proofs.Sorts.{parts}
 use Rattle.fm_mean.proofs.Unbroken.{Unbroken, from_rules, left_empty, right_empty, each_empty, not_when}
 
@@ -105,9 +104,6 @@ small_prop (Out t) = le_prop
 abbrev IsSmallOf : Option Kind → Type 0
 IsSmallOf None = Unit {0}
 IsSmallOf (Some k) = IsSmallSort (reading.kind_of k)
-
-not_more : (n : ℕ) → nat_lt 65536 n ≡ false → n ≤ 65536
-not_more n e = grind (arith, nat_tests)
 
 declared_small : (known : ByName Known) (at line : ℕ) (t : PortFields) → broken_message known at line (Some t) ≡ [] → type_words (normal_type known at t) ≤ 65536
 declared_small known at line t e =

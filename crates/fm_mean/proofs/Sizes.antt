@@ -23,7 +23,7 @@ use Rattle.fm_rules.specs.declared.constants.Types.{Types}
 use Rattle.fm_rules.specs.Constants.{constants_of}
 use Rattle.fm_rules.specs.NameTypes.{types_of}
 use Rattle.fm_rules.specs.ConstantParts.{decls_of, port_type_in, definitions_in, machine_in}
-use Rattle.fm_rules.specs.Bounds.{dimension_of, all_known, count, held, shape_of}
+use Rattle.fm_rules.specs.Bounds.{dimension_of, all_known, count, shape_of}
 use Rattle.fm_rules.specs.BrokenConstants.{broken_bounds, broken_decl, broken_decls, broken_message, broken_definitions, broken_machine, broken_statement, broken_from, is_bad}
 use Rattle.fm_rules.specs.Declarations.{declared_twice_in}
 use Rattle.fm_rules.specs.FunctionTitles.{titles_of}
@@ -53,12 +53,12 @@ lays s first (o ∷ os) = (refl, lays s (first + words_of s o.name) os)
 abbrev IsWhole : List ℕ × ArrayShape → Type 0
 IsWhole e = (e.1.words ≡ size e.1.bounds) × (e.1.words ≤ 65536)
 
-held_few : (n : ℕ) → nat_lt 65536 (held n) ≡ false → (held n ≡ n) × (held n ≤ 65536)
-held_few n e = (grind (arith, nat_tests), grind (arith, nat_tests))
+pub not_more : (n : ℕ) → nat_lt 65536 n ≡ false → n ≤ 65536
+not_more n e = grind (arith, nat_tests)
 
-known_whole : (o : Option Bounds) → not (is_some o) ≡ false → nat_lt 65536 (held (count o)) ≡ false → (held (count o) ≡ size (unwrap_or o [])) × (held (count o) ≤ 65536)
+known_whole : (o : Option Bounds) → not (is_some o) ≡ false → nat_lt 65536 (count o) ≡ false → (count o ≡ size (unwrap_or o [])) × (count o ≤ 65536)
 known_whole None e few = absurd (cc)
-known_whole (Some bs) e few = held_few (size bs) few
+known_whole (Some bs) e few = (refl, not_more (size bs) few)
 
 shape_whole : (known : ByName Known) (at line : ℕ) (name : List ℕ) (bounds : List Bound) → broken_bounds known at line bounds ≡ [] → AllIn IsWhole (shape_entries known at name bounds)
 shape_whole known at line name [] e = tt

@@ -17,7 +17,7 @@ use Rattle.fm_finmap.proofs.Inserts.{insert_here, insert_there}
 use Rattle.fm_map.specs.Placement.{Seat, fitted}
 use Rattle.fm_values.specs.Values.{sum}
 use Rattle.fm_values.specs.declared.value.Value.{Value}
-use Rattle.fm_tree.specs.PortFields.{PortFields, FieldKind, Out}
+use Rattle.fm_tree.specs.PortFields.{PortFields}
 use Rattle.fm_tree.specs.Tree.{Tree, Number, Truth, Named, Ref, Paren, Signed, Not, Binary, trees_from}
 use Rattle.fm_tree.specs.declared.form.UnitKind.{UnitKind}
 use Rattle.fm_tree.specs.declared.form.UnitKind.TheVariants as unit_kind
@@ -29,7 +29,6 @@ use Rattle.fm_tree.specs.declared.statement.Simple.{Simple}
 use Rattle.fm_tree.specs.declared.statement.Simple.TheVariants as simple
 use Rattle.fm_tree.specs.declared.statement.Stmt.{Stmt}
 use Rattle.fm_tree.specs.declared.statement.Stmt.TheVariants as stmt
-use Rattle.fm_symbols.specs.declared.names.Variable.{Variable}
 use Rattle.fm_sched.specs.Schedule.{IsLegal, Throughout, cost, next, play, used}
 use Rattle.fm_sched.proofs.Runs.{cost-Some, next-Some}
 use Rattle.fm_net.specs.Machine as net
@@ -52,7 +51,6 @@ use Rattle.fm_mean.specs.Process.{Start, Frame, framed, Kid, Phase, Running, Joi
 use Rattle.fm_mean.specs.Calls.{back_words, backs_of, child_of, ended_frames, entered, new_frame}
 use Rattle.fm_mean.specs.Actions as action
 use Rattle.fm_mean.specs.Actions.{Event, Fail, Make, Send, Receive, Probe, Begin, Join, End, Action, Rest, Own, Meets, at_entry, Receiving, Loop, Counted, While, NoLoop, scalar_place, action_in, action_of, arguments_in, elements_of, trees_in}
-use Rattle.fm_mean.specs.Fits.{sort_of_variable}
 use Rattle.fm_mean.specs.Owed.{starts_owe, frames_owe, kids_owe, phase_owes, owed, OweAtMost, IsQuiet, IsShort, HaveShortMessages, SizesAtMost, sized_fields}
 use Rattle.fm_mean.specs.Steps as steps
 use Rattle.fm_mean.specs.Steps.{received, joining_words, kid_of, ask, ask_at, ask_event, ask_for, main_in, main_by, proc_of, first_proc, first, language, step}
@@ -65,7 +63,7 @@ use Rattle.fm_mean.proofs.Laws.{first_owned}
 use Rattle.fm_mean.proofs.Machines.{entry_there, named_unit}
 use Rattle.fm_mean.proofs.MessageWords.{sent_small}
 use Rattle.fm_mean.proofs.ProgramMeanings.{program_has_types}
-use Rattle.fm_mean.proofs.Sorts.{parts}
+use Rattle.fm_mean.proofs.Sorts.{fields_of_outport, parts}
 
 -- ---- lists
 
@@ -92,14 +90,6 @@ ended_owe p (f ∷ g ∷ fs) = omega (arith, ended_owe p (g ∷ fs))
 
 the_pair : (a b : List Actual × Seat) → ◌≡◌ {A = Result (List Actual × Seat) Fault} (Ok a) (Ok b) → a ≡ b
 the_pair a b e = cc
-
--- an outport's messages have the fields of its type
-outport_fields : (v : Option (ℕ × Variable)) (t : PortFields) → option_map (λ (v : ℕ × Variable). (sort_of_variable v.1)) v ≡ Some (Out t) → action.fields_in v ≡ t
-outport_fields None t e = absurd (cc e)
-outport_fields (Some v) t e = ap action.fields_by (the_kind (sort_of_variable v.1) (Out t) e)
-  where
-    the_kind : (a b : FieldKind) → Some a ≡ Some b → a ≡ b
-    the_kind a b e = cc
 
 -- ---- one step
 
@@ -391,7 +381,7 @@ module _ (sizes : ℕ) (p : Program) (x : Proc) where
         → action.cut_items [] (action.fields_at u q) given ≡ Ok cut → SizesAtMost sizes p → IsShort sizes (message_from f.values cut).1
     small_message named q items here given cut is cuts few =
         let t = types (stmt.Simple (simple.Send named q items)) here in
-        let fields : action.fields_at u q ≡ t.0 = outport_fields (variable_of u q.name) t.0 t.1 in
+        let fields : action.fields_at u q ≡ t.0 = fields_of_outport u q t.0 t.1 in
         let sized : sized_fields t.0 ≤ sizes = subst (λ (fields : PortFields). sized_fields fields ≤ sizes) fields (few f.unit u f.entry e.entry named q items is_unit there here) in
         let words = sent_small p f.unit u q.name t.0 is_unit t.1 here_in refl (trees_from items) (refs_in_var here_in q) given cut (t.2 here_in within) is (subst (λ (fields : PortFields). action.cut_items [] fields given ≡ Ok cut) fields cuts) f.values in
         omega (arith, sized, words)

@@ -6,7 +6,6 @@ use Rattle.std.specs.Coded.{le_prop}
 use Rattle.std.proofs.Math.Nat.{one-le-mul}
 use Rattle.std.proofs.lemmas.Nat.{mul-le}
 use Rattle.std.proofs.lemmas.Int.{ints}
-use Rattle.std.proofs.lemmas.Bool.Decides.{nat_tests}
 use Rattle.fm_base.specs.Verdict.{place, when}
 use Rattle.fm_base.specs.declared.name.Label.{Label}
 use Rattle.fm_base.specs.declared.name.Line.{Line}
@@ -37,7 +36,7 @@ use Rattle.fm_symbols.specs.Headings.{heading_kind}
 use Rattle.fm_symbols.specs.declared.names.UnitNames.{UnitNames}
 use Rattle.fm_rules.specs.declared.constants.Known.{Known}
 use Rattle.fm_rules.specs.declared.constants.Types.{Types}
-use Rattle.fm_rules.specs.Bounds.{Dimension, machine_dimension, then_known, all_known, count, is_inverted, held, node_count, machine_shape, extents_or, extents_from}
+use Rattle.fm_rules.specs.Bounds.{Dimension, machine_dimension, then_known, all_known, count, is_inverted, node_count, machine_shape, extents_or, extents_from}
 use Rattle.fm_rules.specs.BrokenConstants as constants
 use Rattle.fm_rules.specs.BrokenConstants.{broken_decls, broken_message, broken_definitions, broken_machine, broken_statement, is_bad}
 use Rattle.fm_rules.specs.BrokenNames.{broken_in, untyped_in, is_long}
@@ -56,7 +55,7 @@ use Rattle.fm_rules.specs.declared.program.Program.{Program}
 use Rattle.fm_mean.specs.Names.{ProgramUnit, unit_at, kind_of}
 use Rattle.fm_mean.proofs.BodyRules.{rules_at}
 use Rattle.fm_mean.proofs.Members.{from_map}
-use Rattle.fm_mean.proofs.Sizes.{parts_of, the_names}
+use Rattle.fm_mean.proofs.Sizes.{not_more, parts_of, the_names}
 use Rattle.fm_mean.proofs.Unbroken.{Unbroken, from_rules, left_empty, right_empty, each_empty, not_when, or_left, or_right}
 
 never : true ≡ false → ⊥
@@ -100,12 +99,7 @@ module _ (f : Tree → Dimension) where
       go (Some b) (Some cs) at up is rest =
           let some : 1 ≤ extent b = extent_some b (or_left (is_inverted (Some b)) (list_any is_inverted (map f es)) up) in
           let others = rest cs (or_right (is_inverted (Some b)) (list_any is_inverted (map f es)) up) at in
-          let one : 1 ≤ held (extent b) = omega (arith, some) in
-          let few : held (extent b) ≤ extent b = omega arith in
-          (one-le-mul one others.0, subst (λ (bs : Bounds). held (extent b) * product (counts es) ≤ size bs) (the_bounds (b ∷ cs) bs is) (mul-le (held (extent b)) (product (counts es)) (extent b) (size cs) few others.1))
-
-held_few : (n : ℕ) → nat_lt 65536 (held n) ≡ false → n ≤ 65536
-held_few n e = grind (arith, nat_tests)
+          (one-le-mul some others.0, subst (λ (bs : Bounds). extent b * product (counts es) ≤ size bs) (the_bounds (b ∷ cs) bs is) (mul-le (extent b) (product (counts es)) (extent b) (size cs) (omega arith) others.1))
 
 shape_nodes : (known : ByName Known) (at line : ℕ) (es : List Tree) → broken_machine known at line es ≡ [] → AreNodes (map (λ x. node_count (machine_dimension known at x)) es)
 shape_nodes known at line es e =
@@ -122,7 +116,7 @@ shape_nodes known at line es e =
     go None at' is up few = absurd (never (sym (ap (λ o. not (is_some o)) at') ∙ is))
     go (Some bs) at' is up few =
         let below = nodes_below (machine_dimension known at) es bs up at' in
-        let small : size bs ≤ 65536 = held_few (size bs) (sym (ap (λ o. nat_lt 65536 (held (count o))) at') ∙ few) in
+        let small : size bs ≤ 65536 = not_more (size bs) (sym (ap (λ o. nat_lt 65536 (count o)) at') ∙ few) in
         (below.0, omega (arith, below.1, small))
 
 extents_nodes : (known : ByName Known) (types : Types) (at : ℕ) (ps : List Placed) → constants.broken_from known types at ps ≡ [] → AreNodes (extents_from known at ps)

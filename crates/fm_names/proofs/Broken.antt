@@ -15,7 +15,7 @@ use Rattle.fm_names.specs.Layouts.{IsNamed, names_unless}
 use Rattle.fm_rules.specs.Names.{unit_names}
 
 -- once something is broken, something stays broken
-stays_some : (p : Refusal) (qs : List Refusal) → least_from (Some p) qs ≡ None → ⊥
+pub stays_some : (p : Refusal) (qs : List Refusal) → least_from (Some p) qs ≡ None → ⊥
 stays_some p [] e = absurd (some-none e)
   where
     some-none : Some p ≡ None → ⊥

@@ -1,11 +1,8 @@
 -- Maps to which names are added one after the other.
-use Rattle.std.proofs.Common.{◌≡◌, ℕ, ◌+◌, ◌<◌, List, [], ◌∷◌, ◌++◌, drop, length, get_or, refl, sym, ap, ◌∙◌}
+use Rattle.std.proofs.Common.{◌≡◌, ℕ, ◌+◌, ◌<◌, List, ◌∷◌, ◌++◌, drop, length, get_or, sym, ap, ◌∙◌}
 use Rattle.std.proofs.lemmas.List.{drop_more}
-use Rattle.fm_symbols.specs.ByName.{ByName, with_new, with_all}
-
-pub with_all_append : {X : Type 0} (m : ByName X) (es fs : List (List ℕ × X)) → with_all m (es ++ fs) ≡ with_all (with_all m es) fs
-with_all_append m [] fs = refl
-with_all_append m (e ∷ es) fs = with_all_append (with_new m e.0 e.1) es fs
+use Rattle.fm_symbols.specs.ByName.{ByName, with_all}
+use Rattle.fm_symbols.proofs.Maps.{with_all_append}
 
 -- the next item of a list, whose entries may depend on its place
 pub all_more : {A V : Type 0} (f : ℕ → A → List (List ℕ × V)) (g : ℕ → List A → List (List ℕ × V)) → ((i : ℕ) (x : A) (xs : List A) → g i (x ∷ xs) ≡ f i x ++ g (i + 1) xs)

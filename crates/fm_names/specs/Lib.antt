@@ -1,1 +1,2 @@
+pub mod KeptSheets
 pub mod Layouts

@@ -1,11 +1,14 @@
 //! What the statements of a unit say of its names.
-#![tactic(auto, using(crate::proofs::Maps::with_all_append))]
+#![tactic(auto, using(fm_symbols::proofs::Maps::with_all_append, crate::proofs::KeptMaps::with_values_append))]
 
-ghost use Rattle.std.specs.Prelude.{◌≡◌, ◌+◌, Some, IfOk, OnOk, map};
+ghost use Rattle.std.specs.Prelude.{◌≡◌, ◌+◌, ◌++◌, Some, IfOk, OnOk, map};
 ghost use Rattle.std.specs.List.{flat_map};
-ghost use Rattle.fm_symbols.specs.ByName.{with_all};
+ghost use Rattle.std.specs.Option.{option_map};
+ghost use Rattle.fm_symbols.specs.ByName.{first_of_each, with_all};
 ghost use Rattle.fm_rules.specs.ConstantParts.{decls_of};
-ghost use Rattle.fm_rules.specs.Sheets.{array_shape, arrays_of, decl_shapes, formals_of, inputs_of, intents_at, intents_in, is_in, kind_entries, kind_in, kinds_at, kinds_from, kinds_of, numbered, own_kind, shape_entries, shapes_from, sheet_of};
+ghost use Rattle.fm_rules.specs.Sheets.{array_shape, decl_shapes, formals_of, inputs_of, intents_at, intents_in, is_in, kind_entries, kind_in, kinds_at, kinds_from, numbered, own_kind, shape_entries, shapes_from};
+ghost use Rattle.fm_names_constants.specs.Kept.{kept_field_kind};
+ghost use Rattle.fm_names.specs.KeptSheets.{kept_array, kept_sheet, with_values};
 
 use fm_base::{Name, NoMemory, Seq};
 use fm_finmap::NameMap;
@@ -23,7 +26,7 @@ fn kind_in(
     at: usize,
     stmt: &Stmt,
 ) -> Result<Option<Kind>, NoMemory>
-    ensures { IfOk result (λ k. k ≡ kind_in known.now at stmt.now) }
+    ensures { IfOk result (λ k. k ≡ option_map kept_field_kind (kind_in known.now at stmt.now)) }
 {
     match stmt {
         Stmt::Integer(_) => Ok(Some(Kind::Integer)),
@@ -54,6 +57,7 @@ fn add_kinds(
     Ok(())
 }
 
+#[tactic(auto, using(crate::proofs::KeptSheets::kinds_with_values))]
 fn add_kinds_at(
     alloc: Global,
     known: &NameMap<Known>,
@@ -61,7 +65,7 @@ fn add_kinds_at(
     placed: &Placed,
     kinds: &mut NameMap<Kind>,
 ) -> Result<(), NoMemory>
-    ensures { OnOk result (kinds.new ≡ with_all kinds.old (kinds_at known.now at placed.now)) }
+    ensures { OnOk result (kinds.new ≡ with_all kinds.old (with_values kept_field_kind (kinds_at known.now at placed.now))) }
 {
     match kind_in(alloc, known, at, &placed.stmt)? {
         Some(kind) => add_kinds(alloc, &kind, decls_of(&placed.stmt), kinds),
@@ -75,7 +79,7 @@ fn add_all_kinds(
     specs: &[Placed],
     kinds: &mut NameMap<Kind>,
 ) -> Result<(), NoMemory>
-    ensures { OnOk result (kinds.new ≡ with_all kinds.old (kinds_from known.now 0 specs.now)) }
+    ensures { OnOk result (kinds.new ≡ with_all kinds.old (with_values kept_field_kind (kinds_from known.now 0 specs.now))) }
 {
     'specs: for at in 0..specs.len() {
         add_kinds_at(alloc, known, at, &specs[at], kinds)?;
@@ -94,8 +98,9 @@ fn add_own_kind(alloc: Global, heading: &Stmt, kinds: &mut NameMap<Kind>) -> Res
     }
 }
 
+#[tactic(auto, using(fm_symbols::proofs::Maps::with_all_append, crate::proofs::KeptMaps::with_values_append, crate::proofs::KeptSheets::own_kept))]
 fn kinds(alloc: Global, known: &NameMap<Known>, unit: &Unit) -> Result<NameMap<Kind>, NoMemory>
-    ensures { IfOk result (λ m. m ≡ kinds_of known.now unit.now) }
+    ensures { IfOk result (λ m. m ≡ first_of_each (with_values kept_field_kind (own_kind unit.now.heading.stmt ++ kinds_from known.now 0 unit.now.specs))) }
 {
     let mut kinds = NameMap::new(alloc);
     add_own_kind(alloc, &unit.heading.stmt, &mut kinds)?;
@@ -109,7 +114,7 @@ fn array_shape(
     at: usize,
     bounds: &[Bound],
 ) -> Result<ArrayShape, NoMemory>
-    ensures { IfOk result (λ a. a ≡ array_shape known.now at bounds.now) }
+    ensures { IfOk result (λ a. a ≡ kept_array (array_shape known.now at bounds.now)) }
 {
     let words = elements(known, at, bounds);
     match bounds_of(alloc, known, at, bounds)? {
@@ -129,7 +134,7 @@ fn add_shape(
     bounds: &[Bound],
     arrays: &mut NameMap<ArrayShape>,
 ) -> Result<(), NoMemory>
-    ensures { OnOk result (arrays.new ≡ with_all arrays.old (shape_entries known.now at name.now bounds.now)) }
+    ensures { OnOk result (arrays.new ≡ with_all arrays.old (with_values kept_array (shape_entries known.now at name.now bounds.now))) }
 {
     if bounds.is_empty() {
         return Ok(());
@@ -145,7 +150,7 @@ fn add_shapes(
     decls: &[Decl],
     arrays: &mut NameMap<ArrayShape>,
 ) -> Result<(), NoMemory>
-    ensures { OnOk result (arrays.new ≡ with_all arrays.old (flat_map (decl_shapes known.now at) decls.now)) }
+    ensures { OnOk result (arrays.new ≡ with_all arrays.old (with_values kept_array (flat_map (decl_shapes known.now at) decls.now))) }
 {
     'decls: for decl in decls {
         let bounds = decl.bounds.as_slice();
@@ -159,7 +164,7 @@ fn arrays(
     known: &NameMap<Known>,
     specs: &[Placed],
 ) -> Result<NameMap<ArrayShape>, NoMemory>
-    ensures { IfOk result (λ m. m ≡ arrays_of known.now specs.now) }
+    ensures { IfOk result (λ m. m ≡ first_of_each (with_values kept_array (shapes_from known.now 0 specs.now))) }
 {
     let mut arrays = NameMap::new(alloc);
     'specs: for at in 0..specs.len() {
@@ -240,9 +245,10 @@ fn add_formals(alloc: Global, names: &[Name], formals: &mut NameMap<u32>) -> Res
     Ok(())
 }
 
-/// What the statements of a unit say of its names.
+/// What the statements of a unit say of its names, with numbers of elements as they are kept.
+#[tactic(auto, using(crate::proofs::KeptSheets::same_first))]
 pub fn make_sheet(alloc: Global, unit: &Unit) -> Result<Sheet, NoMemory>
-    ensures { IfOk result (λ s. s ≡ sheet_of unit.now) }
+    ensures { IfOk result (λ s. s ≡ kept_sheet unit.now) }
 {
     let specs = unit.specs.as_slice();
     let known = constants(alloc, specs)?;

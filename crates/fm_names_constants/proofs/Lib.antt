@@ -1,3 +1,4 @@
-pub mod Shapes
 pub mod Fields
+pub mod Kept
+pub mod Shapes
 pub mod Steps

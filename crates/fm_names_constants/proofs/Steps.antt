@@ -15,7 +15,8 @@ use Rattle.fm_rules.specs.declared.constants.Types.{Types}
 use Rattle.fm_rules.specs.NameTypes.{entries_at}
 use Rattle.fm_rules.specs.BrokenConstants.{broken_field, broken_fields, broken_statement, broken_from}
 use Rattle.fm_rules.specs.SizedFields.{field_size, sizes_of}
-use Rattle.fm_names_constants.proofs.Shapes.{front, sizes_more}
+use Rattle.fm_rules.proofs.FieldSizes.{sizes_more}
+use Rattle.fm_names_constants.proofs.Shapes.{front}
 
 pub all_next : {X : Type 0} (f : X → List Refusal) (best : Option Refusal) (xs : List X) (i : ℕ) (x : X) → i < length xs → x ≡ get_or xs i x
     → least_from (least_from best (f x)) (flat_map f (drop (i + 1) xs)) ≡ least_from best (flat_map f (drop i xs))

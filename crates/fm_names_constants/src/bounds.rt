@@ -1,10 +1,10 @@
 //! Bounds of arrays, and the extents of PROCESSORS.
 
-ghost use Rattle.std.specs.Prelude.{◌≡◌, ◌≤◌, IfOk, map};
+ghost use Rattle.std.specs.Prelude.{◌≡◌, ◌≤◌, ◌*◌, ◌&&◌, ◌||◌, true, false, is_some, IfOk, map};
 ghost use Rattle.fm_values.specs.Places.{extent};
-ghost use Rattle.fm_rules.specs.Bounds.{both, bounds_of, dimension_of, elements, extents_from, held, is_inverted, low_of, machine_dimension, machine_shape, node_count, shape_of};
+ghost use Rattle.fm_rules.specs.Bounds.{both, bounds_of, dimension_of, elements, extents_from, is_inverted, low_of, machine_dimension, machine_shape, node_count, shape_of};
 ghost use Rattle.fm_rules.specs.ConstantParts.{machine_in};
-ghost use Rattle.fm_names_constants.specs.Shapes.{shape_start, shape_with};
+ghost use Rattle.fm_names_constants.specs.Kept.{kept, kept_shape};
 
 use crate::parts::machine_in;
 use crate::values::integer_of;
@@ -58,14 +58,14 @@ fn is_inverted(dimension: Option<(i64, i64)>) -> bool
     }
 }
 
-fn held(number: u64) -> u32
-    ensures { result ≡ held number }
+fn kept(number: u64) -> u32
+    ensures { result ≡ kept number }
 {
     if number < 65537 { number as u32 } else { 65537 }
 }
 
-fn held_extent(low: i64, high: i64) -> u32
-    ensures { result ≡ held (extent (low, high)) }
+fn kept_extent(low: i64, high: i64) -> u32
+    ensures { result ≡ kept (extent (low, high)) }
 {
     if high < low {
         return 0;
@@ -74,18 +74,21 @@ fn held_extent(low: i64, high: i64) -> u32
     if last < 65536 { last as u32 + 1 } else { 65537 }
 }
 
-fn node_count(dimension: Option<(i64, i64)>) -> u32
-    ensures { result ≡ node_count dimension }
+fn kept_count(dimension: Option<(i64, i64)>) -> u32
+    ensures { result ≡ kept (node_count dimension) }
 {
     match dimension {
-        Some((low, high)) => held_extent(low, high),
+        Some((low, high)) => kept_extent(low, high),
         None => 0,
     }
 }
 
 // Of so many dimensions, none of which was looked at.
 fn shape_start(dimensions: usize) -> Shape
-    ensures { result ≡ shape_start dimensions }
+    ensures dimensions { result.dimensions ≡ dimensions }
+    ensures known { result.known ≡ true }
+    ensures inverted { result.inverted ≡ false }
+    ensures elements { result.elements ≡ 1 }
 {
     Shape {
         dimensions,
@@ -97,21 +100,24 @@ fn shape_start(dimensions: usize) -> Shape
 
 // With one more dimension.
 fn shape_with(shape: Shape, dimension: Option<(i64, i64)>) -> Shape
-    ensures { result ≡ shape_with shape dimension }
+    ensures dimensions { result.dimensions ≡ shape.dimensions }
+    ensures known { result.known ≡ (shape.known && is_some dimension) }
+    ensures inverted { result.inverted ≡ (shape.inverted || is_inverted dimension) }
+    ensures elements { result.elements ≡ kept (shape.elements * kept (node_count dimension)) }
 {
-    let elements = u64::from(shape.elements) * u64::from(node_count(dimension));
+    let elements = u64::from(shape.elements) * u64::from(kept_count(dimension));
     Shape {
         dimensions: shape.dimensions,
         known: shape.known && dimension.is_some(),
         inverted: shape.inverted || is_inverted(dimension),
-        elements: held(elements),
+        elements: kept(elements),
     }
 }
 
-/// What the bounds of an array come to. The bounds stand in the statement at this place.
-#[tactic(auto, using(crate::proofs::Shapes::comes_first, crate::proofs::Shapes::comes_alone))]
+/// What the bounds of an array come to, with the elements as they are kept. The bounds stand in the statement at this place.
+#[tactic(auto, using(crate::proofs::Shapes::comes_alone))]
 pub(crate) fn shape_of(known: &NameMap<Known>, place: usize, bounds: &[Bound]) -> Shape
-    ensures { result ≡ shape_of known.now place bounds.now }
+    ensures { result ≡ kept_shape (shape_of known.now place bounds.now) }
 {
     let mut shape = shape_start(bounds.len());
     'bounds: for bound in bounds {
@@ -121,9 +127,9 @@ pub(crate) fn shape_of(known: &NameMap<Known>, place: usize, bounds: &[Bound]) -
 }
 
 /// What the extents of a machine come to, as the bounds of an array from 1.
-#[tactic(auto, using(crate::proofs::Shapes::comes_first, crate::proofs::Shapes::comes_alone))]
+#[tactic(auto, using(crate::proofs::Shapes::comes_alone))]
 pub(crate) fn machine_shape(known: &NameMap<Known>, place: usize, extents: &[Expr]) -> Shape
-    ensures { result ≡ machine_shape known.now place extents.now }
+    ensures { result ≡ kept_shape (machine_shape known.now place extents.now) }
 {
     let mut shape = shape_start(extents.len());
     'extents: for extent in extents {
@@ -133,9 +139,9 @@ pub(crate) fn machine_shape(known: &NameMap<Known>, place: usize, extents: &[Exp
 }
 
 /// The elements, and so the words, of what is declared with bounds: 1 where there are none, 0 where one is no constant or
-/// under its lower, and 65,537 where there are more than 65,536.
+/// under its lower. Where there are more than 65,536, it is 65,537.
 pub fn elements(known: &NameMap<Known>, place: usize, bounds: &[Bound]) -> u32
-    ensures { result ≡ elements known.now place bounds.now }
+    ensures { result ≡ kept (elements known.now place bounds.now) }
 {
     shape_of(known, place, bounds).elements
 }
@@ -160,6 +166,30 @@ pub fn bounds_of(
     Ok(Some(pairs))
 }
 
+// A number over 4,294,967,295 finds no memory.
+fn extent_of(low: i64, high: i64) -> Result<u32, NoMemory>
+    ensures { IfOk result (λ n. n ≡ extent (low, high)) }
+{
+    if high < low {
+        return Ok(0);
+    }
+    let last = high.abs_diff(low);
+    if last < 4294967295 {
+        Ok(last as u32 + 1)
+    } else {
+        Err(NoMemory)
+    }
+}
+
+fn node_count(dimension: Option<(i64, i64)>) -> Result<u32, NoMemory>
+    ensures { IfOk result (λ n. n ≡ node_count dimension) }
+{
+    match dimension {
+        Some((low, high)) => extent_of(low, high),
+        None => Ok(0),
+    }
+}
+
 fn node_counts(
     alloc: Global,
     known: &NameMap<Known>,
@@ -170,13 +200,12 @@ fn node_counts(
 {
     let mut counts = Seq::new(alloc);
     'extents: for extent in extents {
-        counts.push(node_count(machine_dimension(known, place, extent)))?;
+        counts.push(node_count(machine_dimension(known, place, extent))?)?;
     }
     Ok(counts)
 }
 
-/// The extents of PROCESSORS, none where there is none. An extent that is no constant or under 1 counts as 0, one over
-/// 65,536 as 65,537.
+/// The extents of PROCESSORS, none where there is none. An extent that is no constant or under 1 counts as 0.
 pub fn extents(
     alloc: Global,
     known: &NameMap<Known>,

@@ -38,6 +38,7 @@ fn judge_shape(limit: usize, line: Line, shape: Shape, best: Option<Refusal>) ->
     keep_if(best, !shape.known, line, Rule::E33)
 }
 
+#[tactic(auto, using(crate::proofs::Shapes::broken_kept))]
 fn judge_bounds(
     known: &NameMap<Known>,
     at: usize,
@@ -66,6 +67,7 @@ fn judge_decls(
     best
 }
 
+#[tactic(auto, using(crate::proofs::Shapes::broken_kept))]
 fn judge_machine(
     known: &NameMap<Known>,
     at: usize,

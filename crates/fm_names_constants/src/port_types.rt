@@ -1,10 +1,10 @@
 //! The types of ports with their bounds worked out.
 
 ghost use Rattle.std.specs.Prelude.{◌≡◌, ◌+◌, ◌≤◌, IfOk, [], ◌∷◌};
-ghost use Rattle.fm_rules.specs.Bounds.{held};
 ghost use Rattle.fm_rules.specs.BrokenConstants.{is_long};
 ghost use Rattle.fm_rules.specs.PortTypes.{counted_bound, counted_bounds, field_words, normal_bounds, normal_field, normal_field_kind, normal_type, sized_bound};
 ghost use Rattle.fm_rules.specs.SizedFields.{sizes_of};
+ghost use Rattle.fm_names_constants.specs.Kept.{kept, kept_bounds, kept_field, kept_field_kind, kept_type};
 ghost use Rattle.fm_names_constants.specs.Words.{words_of};
 
 use crate::bounds::elements;
@@ -46,7 +46,7 @@ fn counted_bounds(
     place: usize,
     bounds: &[Bound],
 ) -> Result<Seq<Bound>, NoMemory>
-    ensures { IfOk result (λ b. b ≡ counted_bounds known.now place bounds.now) }
+    ensures { IfOk result (λ b. b ≡ kept_bounds (counted_bounds known.now place bounds.now)) }
 {
     let mut counted = Seq::new(alloc);
     if !bounds.is_empty() {
@@ -70,7 +70,7 @@ fn normal_bounds(
     size: Option<usize>,
     bounds: &[Bound],
 ) -> Result<Seq<Bound>, NoMemory>
-    ensures { IfOk result (λ b. b ≡ normal_bounds known.now place size bounds.now) }
+    ensures { IfOk result (λ b. b ≡ kept_bounds (normal_bounds known.now place size bounds.now)) }
 {
     match size {
         Some(at) => sized_bounds(alloc, at),
@@ -78,8 +78,8 @@ fn normal_bounds(
     }
 }
 
-/// The type without names, each array by its number of elements alone, or by the place of the field that sizes it: equal
-/// types are equal values. The type stands in the statement at this place.
+/// The type without names, each array by its number of elements alone, as it is kept, or by the place of the field that sizes
+/// it. The type stands in the statement at this place.
 #[cycle(normal_port_type)]
 pub fn normal_port_type(
     alloc: Global,
@@ -87,7 +87,7 @@ pub fn normal_port_type(
     place: usize,
     port_type: &PortType,
 ) -> Result<PortType, NoMemory>
-    ensures { IfOk result (λ p. p ≡ normal_type known.now place port_type.now) }
+    ensures { IfOk result (λ p. p ≡ kept_type (normal_type known.now place port_type.now)) }
 {
     let fields = port_type.as_slice();
     let mut normal = Vec::new(alloc);
@@ -106,7 +106,7 @@ fn normal_field(
     earlier: &[Field],
     field: &Field,
 ) -> Result<Field, NoMemory>
-    ensures { IfOk result (λ f. f ≡ normal_field known.now place (sizes_of earlier.now) field.now) }
+    ensures { IfOk result (λ f. f ≡ kept_field (normal_field known.now place (sizes_of earlier.now) field.now)) }
 {
     let size = sized_by(earlier, field);
     Ok(Field {
@@ -123,7 +123,7 @@ fn normal_kind(
     place: usize,
     kind: &Kind,
 ) -> Result<Kind, NoMemory>
-    ensures { IfOk result (λ k. k ≡ normal_field_kind known.now place kind.now) }
+    ensures { IfOk result (λ k. k ≡ kept_field_kind (normal_field_kind known.now place kind.now)) }
 {
     match kind {
         Kind::Integer => Ok(Kind::Integer),
@@ -134,10 +134,10 @@ fn normal_kind(
 }
 
 // The sum of two numbers of words, or one more than the greatest number of words.
-fn held_sum(words: u32, more: u32) -> u32
-    requires words_held { words ≤ 65537 }
-    requires more_held { more ≤ 65537 }
-    ensures { result ≡ held (words + more) }
+fn kept_sum(words: u32, more: u32) -> u32
+    requires words_kept { words ≤ 65537 }
+    requires more_kept { more ≤ 65537 }
+    ensures { result ≡ kept (words + more) }
 {
     if words + more < 65537 {
         words + more
@@ -148,8 +148,8 @@ fn held_sum(words: u32, more: u32) -> u32
 
 // The words of a field: an array that an earlier field sizes counts none.
 fn field_words(known: &NameMap<Known>, place: usize, size: Option<usize>, bounds: &[Bound]) -> u32
-    ensures words { result ≡ field_words known.now place size bounds.now }
-    ensures words_held { result ≤ 65537 }
+    ensures words { result ≡ kept (field_words known.now place size bounds.now) }
+    ensures few { result ≤ 65537 }
 {
     match size {
         Some(_) => 0,
@@ -159,8 +159,8 @@ fn field_words(known: &NameMap<Known>, place: usize, size: Option<usize>, bounds
 
 // The words of a field behind these.
 fn words_of(known: &NameMap<Known>, place: usize, earlier: &[Field], field: &Field) -> u32
-    ensures words { result ≡ words_of known.now place (sizes_of earlier.now) field.now }
-    ensures words_held { result ≤ 65537 }
+    ensures words { result ≡ kept (words_of known.now place (sizes_of earlier.now) field.now) }
+    ensures few { result ≤ 65537 }
 {
     let size = sized_by(earlier, field);
     field_words(known, place, size, field.bounds.as_slice())
@@ -175,7 +175,7 @@ pub(crate) fn is_long(known: &NameMap<Known>, place: usize, port_type: &PortType
     let mut words: u32 = 0;
     'fields: for index in 0..fields.len() {
         let (earlier, _) = fields.split_at(index);
-        words = held_sum(words, words_of(known, place, earlier, &fields[index]));
+        words = kept_sum(words, words_of(known, place, earlier, &fields[index]));
     }
     words > 65536
 }

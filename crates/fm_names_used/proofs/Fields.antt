@@ -1,21 +1,14 @@
 -- The names in the bounds of fields, field by field.
-use Rattle.std.proofs.Common.{◌≡◌, ℕ, Bool, List, [], ◌∷◌, ◌++◌, map, take, drop, length, get_or, sym, ap, ◌∙◌, ◌<◌, ◌+◌}
-use Rattle.std.specs.Prelude.{reverse}
-use Rattle.std.proofs.lemmas.List.{drop_more, map-append, reverse-append, take_more}
+use Rattle.std.proofs.Common.{◌≡◌, ℕ, Bool, List, ◌∷◌, take, drop, length, get_or, sym, ap, ◌∙◌, ◌<◌, ◌+◌}
+use Rattle.std.proofs.lemmas.List.{drop_more}
 use Rattle.fm_base.specs.declared.name.Line.{Line}
 use Rattle.fm_tree.specs.PortReading.{fields_of}
 use Rattle.fm_tree.specs.declared.port_type.Field.{Field}
 use Rattle.fm_rules.specs.Occurrences.{in_field, in_fields}
 use Rattle.fm_rules.specs.SizedFields.{field_size, sizes_of}
+use Rattle.fm_rules.proofs.FieldSizes.{sizes_more}
 use Rattle.fm_names_used.specs.Seen.{Seen, with_names}
 use Rattle.fm_names_used.proofs.Meetings.{with_names_append}
-
--- the sizes that the fields before the next one give, and its own
-sizes_more : (fs : List Field) (i : ℕ) (f : Field) → i < length fs → f ≡ get_or fs i f → sizes_of (take (i + 1) fs) ≡ field_size f ∷ sizes_of (take i fs)
-sizes_more fs i f below is =
-    ap sizes_of (take_more fs i f below ∙ ap (λ x. take i fs ++ x ∷ []) (sym is))
-    ∙ ap reverse (map-append field_size (take i fs) (f ∷ []))
-    ∙ reverse-append (map field_size (take i fs)) (field_size f ∷ [])
 
 -- the next field is met
 pub fields_more : (array : List ℕ → Bool) (line : Line) (fs : List Field) (i : ℕ) (f : Field) (n m whole : Seen) → i < length fs → f ≡ get_or fs i f

@@ -1,11 +1,12 @@
 //! How often packets were sent.
 
-ghost use Rattle.std.specs.Prelude.{◌≡◌};
+ghost use Rattle.std.specs.Prelude.{◌≡◌, IfOk, OnOk, OnErr};
+ghost use Rattle.std.specs.FinMap as finite;
 ghost use Rattle.fm_nodes_rounds.specs.Sendings.{once_more, sent_before, unsent, with_first, with_sending};
 
 use fm_base::{ChanName, NoMemory};
+use fm_finmap::Map;
 use std::alloc::Global;
-use std::collections::BTreeMap;
 
 /// How often the first two packets of a channel that aren't acknowledged were sent. It counts to three, since
 /// nothing is lost that was sent twice before.
@@ -68,9 +69,9 @@ impl Sent {
     }
 }
 
-/// How often packets were sent, by their channels.
+/// How often packets were sent, by their channels. Contracts see the finite map of the counts (`sendings_of`).
 pub(crate) struct Sendings {
-    sent: BTreeMap<ChanName, Sent>,
+    sent: Map<ChanName, Sent>,
 }
 
 impl Drop for Sendings {
@@ -80,26 +81,43 @@ impl Drop for Sendings {
 }
 
 impl Sendings {
-    /// Nothing was sent.
-    pub fn new(alloc: Global) -> Sendings {
+    ghost use Rattle.fm_nodes_rounds.specs.Channels.{counts_at, sendings_of};
+
+    /// Nothing was sent. Takes no memory.
+    pub fn new(alloc: Global) -> Sendings
+        ensures { sendings_of result ≡ finite.empty }
+    {
         Sendings {
-            sent: BTreeMap::new(alloc),
+            sent: Map::new(alloc),
+        }
+    }
+
+    // The counts of a channel, whose first packet has this number if nothing was sent.
+    fn counts(&self, channel: &ChanName, number: u64) -> Sent
+        ensures { result ≡ counts_at (finite.get (sendings_of self.now) channel.now) number }
+    {
+        match self.sent.get(channel) {
+            Some(sent) => *sent,
+            None => Sent::new(number),
         }
     }
 
     /// How often the packet was sent before, at most three times; now it's once more. It is the first of its
-    /// channel that isn't acknowledged, or the one behind the first.
+    /// channel that isn't acknowledged, or the one behind the first. After want of memory nothing has changed.
     pub fn send(
         &mut self,
         alloc: Global,
         channel: &ChanName,
         is_first: bool,
         number: u64,
-    ) -> Result<u8, NoMemory> {
-        if let Some(sent) = self.sent.get_mut(channel) {
-            return Ok(sent.send(is_first, number));
-        }
-        let mut sent = Sent::new(number);
+    ) -> Result<u8, NoMemory>
+        ensures before { IfOk result (λ before.
+            before ≡ sent_before (counts_at (finite.get (sendings_of self.old) channel.now) number) is_first number) }
+        ensures counts { OnOk result (sendings_of self.new ≡ finite.insert (sendings_of self.old) channel.now
+            (with_sending (counts_at (finite.get (sendings_of self.old) channel.now) number) is_first number)) }
+        ensures err { OnErr result (sendings_of self.new ≡ sendings_of self.old) }
+    {
+        let mut sent = self.counts(channel, number);
         let before = sent.send(is_first, number);
         self.sent.insert(channel.copy(alloc)?, sent)?;
         Ok(before)

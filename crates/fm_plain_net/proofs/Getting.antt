@@ -3,7 +3,7 @@ use Rattle.std.proofs.Common.{◌≡◌, ℕ, Bool, true, false, cond, not, Opti
 use Rattle.fm_base.specs.Channels.{Message, Chan, Limits, Pop, can_pop, exceeds, first_exceeds, first_message, fits_limits, gives, is_ready}
 use Rattle.fm_chan.specs.declared.message.Got.{Got}
 use Rattle.fm_chan.specs.declared.message.Got.TheVariants as got
-use Rattle.fm_chan.specs.Received.{got_at, got_of, message_in}
+use Rattle.fm_chan.specs.Received.{got_at, got_of}
 
 -- whether the first message exceeds, and the message that came
 abbrev pub IsGot : Got → (over : Bool) → Option Message → Type 0
@@ -11,6 +11,13 @@ IsGot (got.Message message) over o = o ≡ Some message
 IsGot got.Exceeds over o = (over ≡ true) × (o ≡ None)
 IsGot got.Wait over o = ⊥
 IsGot got.End over o = (over ≡ false) × (o ≡ None)
+
+-- the message that came, if one did
+abbrev pub message_in : Got → Option Message
+message_in (got.Message m) = Some m
+message_in got.Exceeds = None
+message_in got.Wait = None
+message_in got.End = None
 
 pub got_message : (g : Got) (over : Bool) (o : Option Message) → IsGot g over o → message_in g ≡ o
 got_message (got.Message message) over o is = sym is

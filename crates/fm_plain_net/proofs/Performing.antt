@@ -13,7 +13,7 @@ use Rattle.fm_finmap.specs.Changes.{adjust}
 use Rattle.fm_finmap.proofs.Adjusts.{adjust-insert}
 use Rattle.fm_finmap.proofs.Inserts.{insert_same}
 use Rattle.fm_chan.specs.Events.{after_send as sent_by}
-use Rattle.fm_chan.specs.Received.{got_at, message_in, waits_at}
+use Rattle.fm_chan.specs.Received.{got_at, waits_at}
 use Rattle.fm_chan.specs.declared.message.Got.{Got}
 use Rattle.fm_chan.specs.declared.message.Got.TheVariants as got
 use Rattle.fm_net.specs.Machine.{Place, Need, Nothing, New, Children, Reply, Onward, Go, reply_with, reply_at, served_at}
@@ -40,7 +40,7 @@ use Rattle.fm_plain_net.specs.declared.ports.Ports.{Ports}
 use Rattle.fm_plain_net.specs.Goes.{CanPerform, Performs, is_served}
 use Rattle.fm_plain_net.specs.Held.{AreKept, AreOnce, Carries, IsKept, MayDrop, MayGoOn, StayBut, Stay}
 use Rattle.fm_run.proofs.Able.{pops_served}
-use Rattle.fm_plain_net.proofs.Getting.{IsGot, got_message, got_tells}
+use Rattle.fm_plain_net.proofs.Getting.{IsGot, got_message, got_tells, message_in}
 
 push_chan : (w : ℕ) (message : Message) (o : Option Chan) → is_some (served_at {Proc = Proc} (Push w message) o) ≡ true → (ch : Chan) × (o ≡ Some ch)
 push_chan w message None e = absurd (cc e)

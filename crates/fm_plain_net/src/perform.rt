@@ -281,7 +281,7 @@ fn next_message(
     ensures waking { Wakes channels.old channels.new }
 {
     match ports.inport(channel) {
-        Some(port) => channels.receive(port, limits),
+        Some(port) => channels.receive(port, &limits),
         None => unreachable!(),
     }
 }

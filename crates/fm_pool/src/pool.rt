@@ -2,7 +2,6 @@
 
 ghost use Rattle.std.specs.Prelude.{◌≡◌, ◌<◌};
 
-use crate::desk::Desk;
 use crate::room::Room;
 use fm_base::NoMemory;
 use fm_workers::{Gate, SharedTable};
@@ -76,9 +75,7 @@ fn shared<T: SharedTable + Send + Drop, G: Gate<T>, R: Threads + Wait + Sync>(
         count,
         &|_, worker: &mut u32| work(rt, gate, alloc, &room, *worker),
     );
-    let Room { desk, changed: _ } = room;
-    let Desk { table, working: _ } = desk.into_inner();
-    table
+    room.into_table()
 }
 
 // What a worker does until it stops.
@@ -94,16 +91,8 @@ fn work<T: SharedTable, G: Gate<T>, R: Wait>(
         let Some(piece) = room.next(rt, alloc, worker, light) else {
             return;
         };
-        match gate.run(alloc, worker, piece) {
-            Ok(done) => {
-                if !room.give(rt, alloc, done) {
-                    return;
-                }
-            }
-            Err(NoMemory) => {
-                room.leave(rt);
-                return;
-            }
+        if !room.bring(rt, alloc, gate.run(alloc, worker, piece)) {
+            return;
         }
     }
 }

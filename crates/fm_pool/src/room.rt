@@ -1,6 +1,7 @@
 //! A desk under a lock, and what tells workers that something has changed.
 
 use crate::desk::{Desk, Next};
+use fm_base::NoMemory;
 use fm_workers::SharedTable;
 use std::alloc::Global;
 use std::sync::{Condvar, Mutex, Wait};
@@ -62,16 +63,26 @@ impl<T: SharedTable> Room<T> {
         unreachable!()
     }
 
-    /// Gives what a piece came to, and wakes the others. False where there is no memory for it.
-    pub fn give<R: Wait>(&self, rt: &R, alloc: Global, done: T::Done) -> bool {
-        let given = self.desk.lock(rt).give(alloc, done);
+    /// Gives what a piece came to, or leaves the piece where there was no memory to compute it, and wakes the others. False
+    /// where the worker is to stop.
+    pub fn bring<R: Wait>(&self, rt: &R, alloc: Global, done: Result<T::Done, NoMemory>) -> bool {
+        let mut desk = self.desk.lock(rt);
+        let given = match done {
+            Ok(done) => desk.give(alloc, done),
+            Err(NoMemory) => {
+                desk.leave();
+                false
+            }
+        };
+        drop(desk);
         self.changed.notify_all();
         given
     }
 
-    /// The worker leaves its piece, and wakes the others.
-    pub fn leave<R: Wait>(&self, rt: &R) {
-        self.desk.lock(rt).leave();
-        self.changed.notify_all();
+    /// The table, when all workers have stopped.
+    pub fn into_table(self) -> T {
+        let Room { desk, changed: _ } = self;
+        let Desk { table, working: _ } = desk.into_inner();
+        table
     }
 }

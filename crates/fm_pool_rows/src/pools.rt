@@ -1,10 +1,12 @@
-//! Pools: a top call in small over workers of every kind, two workers at once, and many pieces.
+//! Pools: a top call in small over workers of every kind, two workers at once, and many pieces, over each pool.
 
 ghost use Rattle.std.specs.Thread.{IsSync};
 
 use crate::table::{Done, Piece, Table};
 use fm_base::NoMemory;
+use fm_hub_pool::HubPool;
 use fm_pool::Pool;
+use fm_steal_pool::StealPool;
 use fm_workers::{Gate, KeepsHistory, Plain, SharedTable, Workers};
 use std::alloc::Global;
 use std::sync::Wait;
@@ -17,6 +19,22 @@ impl<R: Threads + Wait + Sync> Workers<Table> for Pool<Plain, R> {
 
     fn drive(&self, table: Table, count: u32) -> Option<Table> {
         Some(self.play(table, count))
+    }
+}
+
+impl<R: Threads + Wait + Sync> Workers<Table> for StealPool<Plain, R> {
+    ghost crosses = { IsSync R.row };
+
+    fn drive(&self, table: Table, count: u32) -> Option<Table> {
+        Some(self.play(table, count))
+    }
+}
+
+impl<R: Threads + Wait + Sync> Workers<Table> for HubPool<Plain, R> {
+    ghost crosses = { IsSync R.row };
+
+    fn drive(&self, table: Table, count: u32) -> Option<Table> {
+        self.play(table, count)
     }
 }
 
@@ -109,23 +127,24 @@ fn any_workers(rt: HostRuntime) -> Result<(), Fail> {
     Ok(())
 }
 
-#[test]
-fn the_pool(rt: HostRuntime) -> Result<(), Fail> {
-    let alloc = rt.alloc();
-    let pool = Pool {
-        gate: Plain,
-        rt,
-        alloc,
-    };
-    assert_eq!(pool.rt; run(alloc, &pool, 4)?, 12);
-    Ok(())
-}
-
 // Holds the pieces of process 0 until the gate was called for process 1.
 #[derive(Drop)]
 struct Holds {
     called: AtomicU64,
     failed: AtomicU64,
+}
+
+impl Holds {
+    fn new() -> Holds {
+        Holds {
+            called: AtomicU64::new(0),
+            failed: AtomicU64::new(0),
+        }
+    }
+
+    fn has_failed(&self) -> bool {
+        self.failed.load(Ordering::SeqCst) == 1
+    }
 }
 
 impl Gate<Table> for Holds {
@@ -150,59 +169,137 @@ impl Gate<Table> for Holds {
 #[test]
 fn two_workers_at_once(rt: HostRuntime) -> Result<(), Fail> {
     let alloc = rt.alloc();
-    let gate = Holds {
-        called: AtomicU64::new(0),
-        failed: AtomicU64::new(0),
-    };
+    let gate = Holds::new();
     let pool = Pool { gate, rt, alloc };
     let table = pool.play(Table::new(alloc, 2, 3)?, 2);
     assert_eq!(pool.rt; table.entries(), 6);
-    assert_eq!(pool.rt; pool.gate.failed.load(Ordering::SeqCst), 0);
+    assert!(pool.rt; !pool.gate.has_failed());
     Ok(())
 }
 
-// How many entries so many workers make of a table, pieces that aren't worth giving out among them.
-fn played<R: Threads + Wait + Sync>(
-    pool: &Pool<Plain, R>,
-    table: Table,
-    count: u32,
-) -> Result<usize, Fail>
-    requires { IsSync R.row }
+// The worker that took both processes is held by the first, so the other one steals the second.
+#[test]
+fn a_piece_is_stolen(rt: HostRuntime) -> Result<(), Fail> {
+    let alloc = rt.alloc();
+    let gate = Holds::new();
+    let pool = StealPool { gate, rt, alloc };
+    let table = pool.play(Table::new(alloc, 2, 3)?, 2);
+    assert_eq!(pool.rt; table.entries(), 6);
+    assert!(pool.rt; !pool.gate.has_failed());
+    Ok(())
+}
+
+#[test]
+fn two_seats_at_once(rt: HostRuntime) -> Result<(), Fail> {
+    let alloc = rt.alloc();
+    let gate = Holds::new();
+    let pool = HubPool { gate, rt, alloc };
+    let Some(table) = pool.play(Table::new(alloc, 2, 3)?, 2) else {
+        panic!(pool.rt; "no table")
+    };
+    assert_eq!(pool.rt; table.entries(), 6);
+    assert!(pool.rt; !pool.gate.has_failed());
+    Ok(())
+}
+
+// So many runs by so many workers of a table with so many processes, each with so many pieces.
+#[derive(Clone, Copy)]
+struct Row {
+    runs: u32,
+    workers: u32,
+    processes: u32,
+    pieces: u32,
+}
+
+fn make_row(runs: u32, workers: u32, processes: u32, pieces: u32) -> Row {
+    Row {
+        runs,
+        workers,
+        processes,
+        pieces,
+    }
+}
+
+// A few runs of a long table by few and many workers, and many of a short one.
+fn rows(many: u32) -> [Row; 7] {
+    [
+        make_row(2, 1, 50, 20),
+        make_row(2, 2, 50, 20),
+        make_row(2, 8, 50, 20),
+        make_row(2, 64, 50, 20),
+        make_row(many, 2, 5, 4),
+        make_row(many, 8, 3, 2),
+        make_row(many / 30, 64, 3, 2),
+    ]
+}
+
+// Whether each run of a row has an entry for each piece. In every other run no piece is worth giving out.
+fn is_whole<W: Workers<Table>>(alloc: Global, workers: &W, row: &Row) -> Result<bool, NoMemory>
+    requires { W.crosses }
 {
-    Ok(pool.play(table, count).entries())
+    let entries = row.processes.saturating_mul(row.pieces) as usize;
+    'runs: for number in 0..row.runs {
+        let table = Table::of(alloc, row.processes, row.pieces, number % 2 == 1)?;
+        match workers.drive(table, row.workers) {
+            Some(table) => {
+                if table.entries() != entries {
+                    return Ok(false);
+                }
+            }
+            None => return Ok(false),
+        }
+    }
+    Ok(true)
+}
+
+// The workers of the first row in a run of which a piece is lost, if there is one.
+fn lost<W: Workers<Table>>(alloc: Global, workers: &W, many: u32) -> Result<Option<u32>, NoMemory>
+    requires { W.crosses }
+{
+    'rows: for row in rows(many) {
+        if !is_whole(alloc, workers, &row)? {
+            return Ok(Some(row.workers));
+        }
+    }
+    Ok(None)
 }
 
 #[test]
-fn many_pieces(rt: HostRuntime) -> Result<(), Fail> {
+fn runs_under_a_lock(rt: HostRuntime) -> Result<(), Fail> {
     let alloc = rt.alloc();
     let pool = Pool {
         gate: Plain,
         rt,
         alloc,
     };
-    let counts: [u32; 4] = [1, 2, 8, 64];
-    for count in counts {
-        assert_eq!(pool.rt; played(&pool, Table::new(alloc, 50, 20)?, count)?, 1000);
-        assert_eq!(pool.rt;
-            played(&pool, Table::of(alloc, 50, 20, true)?, count)?,
-            1000
-        );
-    }
+    assert_eq!(pool.rt; run(alloc, &pool, 4)?, 12);
+    assert_eq!(pool.rt; lost(alloc, &pool, 1500)?, None);
+    Ok(())
+}
+
+// A lane takes its room when it is made, so there are fewer runs.
+#[test]
+fn runs_with_lanes(rt: HostRuntime) -> Result<(), Fail> {
+    let alloc = rt.alloc();
+    let pool = StealPool {
+        gate: Plain,
+        rt,
+        alloc,
+    };
+    assert_eq!(pool.rt; run(alloc, &pool, 4)?, 12);
+    assert_eq!(pool.rt; lost(alloc, &pool, 300)?, None);
     Ok(())
 }
 
 #[test]
-fn many_runs(rt: HostRuntime) -> Result<(), Fail> {
+fn runs_with_seats(rt: HostRuntime) -> Result<(), Fail> {
     let alloc = rt.alloc();
-    let pool = Pool {
+    let pool = HubPool {
         gate: Plain,
         rt,
         alloc,
     };
-    'runs: for number in 0..1500u32 {
-        let light = number % 3 == 0;
-        assert_eq!(pool.rt; played(&pool, Table::of(alloc, 5, 4, light)?, 2)?, 20);
-        assert_eq!(pool.rt; played(&pool, Table::of(alloc, 3, 2, light)?, 8)?, 6);
-    }
+    assert_eq!(pool.rt; run(alloc, &pool, 4)?, 12);
+    assert_eq!(pool.rt; lost(alloc, &pool, 1000)?, None);
     Ok(())
 }

@@ -15,8 +15,10 @@ use Rattle.fm_finmap.proofs.Inserts.{insert_same}
 use Rattle.fm_net.proofs.Keys.{channel_order}
 use Rattle.fm_discards.proofs.Shedding.{all_shed-nil}
 use Rattle.fm_chan.specs.Events.{after_send_to, after_op, chan_at, is_outport}
-use Rattle.fm_chan.specs.Received.{got_at, message_in, waits_at}
-use Rattle.fm_chan.proofs.Receiving.{exceeds_rest, message_brought, within_first, within_rest}
+use Rattle.fm_chan.specs.declared.message.Got.{Got}
+use Rattle.fm_chan.specs.declared.message.Got.TheVariants as got
+use Rattle.fm_chan.specs.Received.{got_at, got_from, waits_at}
+use Rattle.fm_chan.proofs.Receiving.{end_tells, excess_tells, message_tells, wait_tells}
 use Rattle.fm_net.specs.Machine.{Place, Event, Onward, Reply, reply_at, served_at}
 use Rattle.fm_code.specs.declared.ask.Ask.TheVariants as ask
 use Rattle.fm_code.specs.declared.ask.Operand.{Operand}
@@ -28,7 +30,7 @@ use Rattle.fm_proc_language.specs.Frames.{all_stored, message_from}
 use Rattle.fm_proc_language.specs.Processes.{CodeProc, asks, sends_by, receives_by, probes_by, sent, limits_of, met, came, at_the_end, faulted, probed, holding, message_words, with_status}
 use Rattle.fm_proc_language.specs.Needs.{need_in}
 use Rattle.fm_proc_slots.specs.Helds.{held}
-use Rattle.fm_proc_events.specs.Events.{channel_in, exceeds_at, with_body}
+use Rattle.fm_proc_events.specs.Events.{channel_in, with_body}
 use Rattle.fm_proc_events.specs.Performs.{CanPerform, Performs, reply_to}
 use Rattle.fm_proc_events.specs.Told.{look_of}
 use Rattle.fm_proc_events.proofs.Doing.{bodied, asks_so, can_so}
@@ -269,54 +271,59 @@ module _ (y : CodeProc) (cs : Chans) (slot : ℤ) (items : List Operand) (status
       found : chan_at x cs ≡ Some receive_served.ch
       found = ap (λ v. chan_at v cs) reader_is ∙ receive_served.there
 
-      -- the first message exceeds its operands, and stays
-      excess_stays : exceeds_at (limits_of items) (chan_at x cs) ≡ true → (z : CodeProc) → z ≡ (faulted y (line_of b) Subscript).self → Performs p y cs z [] cs 1
-      excess_stays over z z_is =
-          let c = inport.channel in
-          let ch = receive_served.ch in
+      got_here : (g : Got) → g ≡ got_at (limits_of items) (chan_at x cs) → g ≡ got_from (limits_of items) receive_served.ch
+      got_here g g_is = g_is ∙ ap (got_at (limits_of items)) found
+
+      -- it doesn't wait
+      waits_not : got.Wait ≡ got_at (limits_of items) (chan_at x cs) → ⊥
+      waits_not waits =
           let pop = Pop (limits_of items) in
-          let over_at : exceeds pop ch ≡ true = sym (ap (exceeds_at (limits_of items)) found) ∙ over in
-          let stays : adjust cs c (changed pop) ≡ cs =
-          adjust-insert channel_order cs c (changed pop) ch receive_served.there ∙ ap (insert cs c) (sym (exceeds_rest (limits_of items) ch over_at))
-          ∙ insert_same channel_order cs c ch receive_served.there in
-          receives p true (sym over_at) None (sym (over_gives (limits_of items) ch.queue over_at)) z z_is cs (sym (all_shed-nil (adjust cs c (changed pop)) ∙ stays)) 1 refl
+          let ch = receive_served.ch in
+          cc (sym receive_served.ready ∙ wait_tells (is_ready pop ch) (exceeds pop ch) (gives pop ch) (got_here got.Wait waits))
 
-      module _ (within : exceeds_at (limits_of items) (chan_at x cs) ≡ false) (mid : Chans) (mid_is : mid ≡ after_op x (Pop []) cs) (z : CodeProc) (n : Chans) where
-        fits : exceeds (Pop (limits_of items)) receive_served.ch ≡ false
-        fits = sym (ap (exceeds_at (limits_of items)) found) ∙ within
-
-        -- it is as without limits
-        brought : (o : Option Message) → o ≡ message_in (got_at [] (chan_at x cs)) → o ≡ gives (Pop (limits_of items)) receive_served.ch
-        brought o o_is =
-            o_is ∙ ap (λ v. message_in (got_at [] v)) found ∙ message_brought receive_served.ch receive_served.ready ∙ within_first (limits_of items) receive_served.ch.queue fits
-
+      module _ (mid : Chans) (mid_is : mid ≡ after_op x (Pop (limits_of items)) cs) (z : CodeProc) (n : Chans) where
         mid_so : mid ≡ adjust cs inport.channel (changed (Pop (limits_of items)))
-        mid_so =
-            let c = inport.channel in
-            let ch = receive_served.ch in
-            mid_is ∙ ap (λ v. after_op v (Pop []) cs) reader_is ∙ adjust-insert channel_order cs c (changed (Pop [])) ch receive_served.there
-            ∙ ap (insert cs c) (within_rest (limits_of items) ch (changed (Pop []) ch) fits refl) ∙ sym (adjust-insert channel_order cs c (changed (Pop (limits_of items))) ch receive_served.there)
+        mid_so = mid_is ∙ ap (λ v. after_op v (Pop (limits_of items)) cs) reader_is
 
-        pub gets_message : (message : Message) → Some message ≡ message_in (got_at [] (chan_at x cs)) → (its : List Operand) → its ≡ items
+        -- the first message exceeds its operands, and stays
+        excess_met : got.Exceeds ≡ got_at (limits_of items) (chan_at x cs) → z ≡ (faulted y (line_of b) Subscript).self → n ≡ mid → Performs p y cs z [] n 1
+        excess_met exceeding z_is n_is =
+            let pop = Pop (limits_of items) in
+            let ch = receive_served.ch in
+            let m = adjust cs inport.channel (changed pop) in
+            let over : exceeds pop ch ≡ true = excess_tells (is_ready pop ch) (exceeds pop ch) (gives pop ch) (got_here got.Exceeds exceeding) in
+            receives p true (sym over) None (sym (over_gives (limits_of items) ch.queue over)) z z_is n (n_is ∙ mid_so ∙ sym (all_shed-nil m)) 1 refl
+
+        pub gets_message : (message : Message) → got.Message message ≡ got_at (limits_of items) (chan_at x cs) → (its : List Operand) → its ≡ items
             → (after : Body) → after ≡ with_words b next (with_status (all_stored (held b.frame.words y.slots) its message).0 status (pos 0)).words
             → (slots : Slots) → slots ≡ (with_status (all_stored (held b.frame.words y.slots) its message).0 status (pos 0)).slots
             → (drops : List PortValue) → drops ≡ (all_stored (held b.frame.words y.slots) its message).1
             → z ≡ record y { body = Some after; slots = slots } → n ≡ all_shed drops mid
             → (cost : ℕ) → cost ≡ 1 + message_words message → Performs p y cs z [] n cost
         gets_message message came_so its same after after_is slots slots_are drops drops_are z_is n_is cost cost_is =
-            receives p false (sym fits) (Some message) (brought (Some message) came_so) z
+            let pop = Pop (limits_of items) in
+            let ch = receive_served.ch in
+            let told_so = message_tells (is_ready pop ch) (exceeds pop ch) (gives pop ch) message (got_here (got.Message message) came_so) in
+            receives p false (sym told_so.0) (Some message) told_so.1 z
             (z_is ∙ (λ i. record y { body = Some (after_is i); slots = slots_are i }) ∙ ap (λ v. (came y b next v status message).self) same) n
             (n_is ∙ ap (λ v. all_shed v mid) (drops_are ∙ ap (λ v. (all_stored (held b.frame.words y.slots) v message).1) same) ∙ ap (all_shed (came y b next items status message).drops) mid_so) cost cost_is
 
-        pub meets_end : None ≡ message_in (got_at [] (chan_at x cs)) → z ≡ (at_the_end (with_body y b) b next status at_end).self → n ≡ mid → Performs p y cs z [] n 1
+        pub meets_end : got.End ≡ got_at (limits_of items) (chan_at x cs) → z ≡ (at_the_end (with_body y b) b next status at_end).self → n ≡ mid → Performs p y cs z [] n 1
         meets_end ended z_is n_is =
-            let m = adjust cs inport.channel (changed (Pop (limits_of items))) in
-            receives p false (sym fits) None (brought None ended) z (z_is ∙ ap (λ v. (at_the_end v b next status at_end).self) (as_it_was y b is)) n
+            let pop = Pop (limits_of items) in
+            let ch = receive_served.ch in
+            let m = adjust cs inport.channel (changed pop) in
+            let told_so = end_tells (is_ready pop ch) (exceeds pop ch) (gives pop ch) (got_here got.End ended) in
+            receives p false (sym told_so.0) None told_so.1 z (z_is ∙ ap (λ v. (at_the_end v b next status at_end).self) (as_it_was y b is)) n
             (n_is ∙ mid_so ∙ sym (ap (λ zs. all_shed zs m) (end_drops status at_end) ∙ all_shed-nil m)) 1 (sym (end_cost status at_end))
 
-  pub meets_excess : (p : Place) (x : PortValue) → Some x ≡ in_slot y.slots slot → exceeds_at (limits_of items) (chan_at x cs) ≡ true
-      → (z : CodeProc) → ((b : Body) → y.body ≡ Some b → z ≡ (faulted y (line_of b) Subscript).self) → Performs p y cs z [] cs 1
-  meets_excess p x x_is over z z_is = some_body y (Performs p y cs z [] cs 1) receive_body (λ b is. excess_stays b is p x x_is over z (z_is b is))
+  module _ (p : Place) (x : PortValue) (x_is : Some x ≡ in_slot y.slots slot) where
+    pub never_waits : got.Wait ≡ got_at (limits_of items) (chan_at x cs) → ⊥
+    never_waits waits = some_body y ⊥ receive_body (λ b is. waits_not b is p x x_is waits)
+
+    pub meets_excess : (n : Chans) → n ≡ after_op x (Pop (limits_of items)) cs → got.Exceeds ≡ got_at (limits_of items) (chan_at x cs)
+        → (z : CodeProc) → ((b : Body) → y.body ≡ Some b → z ≡ (faulted y (line_of b) Subscript).self) → Performs p y cs z [] n 1
+    meets_excess n n_is exceeding z z_is = some_body y (Performs p y cs z [] n 1) receive_body (λ b is. excess_met b is p x x_is n n_is z n exceeding (z_is b is) refl)
 
 -- ---- looking
 

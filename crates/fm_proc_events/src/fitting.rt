@@ -1,14 +1,11 @@
 //! Whether a message fits the operands that it is received into.
 
-ghost use Rattle.std.specs.Prelude.{◌≡◌, ℤ, ◌∷◌, [], false, map};
+ghost use Rattle.std.specs.Prelude.{◌≡◌, ℤ, ◌∷◌, [], map};
 ghost use Rattle.fm_base.specs.Channels.{Words, fits_limits};
-ghost use Rattle.fm_chan.specs.Bodies.{chans_of};
-ghost use Rattle.fm_chan.specs.Events.{chan_at, is_outport};
 ghost use Rattle.fm_chan.specs.Items.{plain_item};
 ghost use Rattle.fm_proc_language.specs.Processes.{limit_of, limits_of};
-ghost use Rattle.fm_proc_events.specs.Events.{exceeds_at};
 
-use fm_chan::{Channels, Content, Item, Message, Port, is_within, word_is_within};
+use fm_chan::{Content, Item, Limits, Message, is_within, word_is_within};
 use fm_code::Operand;
 
 /// The most elements that an operand takes, if there is a limit.
@@ -54,23 +51,19 @@ fn items_fit(operands: &[Operand], items: &[Item]) -> bool
     }
 }
 
-/// Whether no item of the message has more elements than its operand.
-fn fits(operands: &[Operand], message: &Message) -> bool
-    ensures { result ≡ fits_limits (limits_of operands.now) message.now }
-{
-    match &message.content {
-        Content::Word(_) => word_fits(operands),
-        Content::Items(items) => items_fit(operands, items.as_slice()),
-    }
+/// Operands as the limits of a receive: each takes no more elements than it has.
+#[derive(Drop)]
+pub(crate) struct OperandLimits<'a> {
+    pub(crate) operands: &'a [Operand],
 }
 
-/// Whether an item of the oldest message of a port's channel has more elements than its operand. Takes no memory.
-pub(crate) fn exceeds(channels: &Channels, port: &Port, operands: &[Operand]) -> bool
-    requires { is_outport port.now ≡ false }
-    ensures { result ≡ exceeds_at (limits_of operands.now) (chan_at port.now (chans_of channels.now)) }
-{
-    match channels.first(port) {
-        Some(message) => !fits(operands, message),
-        None => false,
+impl Limits for OperandLimits<'_> {
+    ghost most = { λ limits. limits_of limits.operands.now };
+
+    fn fits(&self, message: &Message) -> bool {
+        match &message.content {
+            Content::Word(_) => word_fits(self.operands),
+            Content::Items(items) => items_fit(self.operands, items.as_slice()),
+        }
     }
 }

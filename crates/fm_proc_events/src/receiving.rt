@@ -1,13 +1,13 @@
 //! A message is received, or the end of its channel is met.
 
-ghost use Rattle.std.specs.Prelude.{◌≡◌, ◌+◌, [], false, pos, Some, IfErr, IfOk, IfSome, OnErr, OnOk};
+ghost use Rattle.std.specs.Prelude.{◌≡◌, ◌+◌, [], true, false, pos, Some, IfErr, IfOk, OnErr, OnOk};
 ghost use Rattle.fm_base.specs.declared.fault.Fault.TheVariants.{Subscript};
 ghost use Rattle.fm_base.specs.declared.port.PortValue.{PortValue};
 ghost use Rattle.fm_base.specs.Channels.{Pop, channel_of};
 ghost use Rattle.fm_finmap.specs.Changes.{adjust};
 ghost use Rattle.fm_chan.specs.Bodies.{chans_of};
 ghost use Rattle.fm_chan.specs.Events.{after_op, chan_at, is_outport, put_first};
-ghost use Rattle.fm_chan.specs.Received.{got_at, message_in};
+ghost use Rattle.fm_chan.specs.Received.{brings, got_at};
 ghost use Rattle.fm_chan.specs.Rooms.{HasRoom};
 ghost use Rattle.fm_chan.specs.Woken.{WakesAll};
 ghost use Rattle.fm_code.specs.declared.ask.Ask.TheVariants as ask;
@@ -18,33 +18,34 @@ ghost use Rattle.fm_proc_language.specs.Frames.{all_stored};
 ghost use Rattle.fm_proc_language.specs.Processes.{at_the_end, faulted, limits_of, message_words, with_status};
 ghost use Rattle.fm_proc_language.specs.Slots.{in_slot};
 ghost use Rattle.fm_proc_slots.specs.Helds.{held};
-ghost use Rattle.fm_proc_events.specs.Events.{exceeds_at, with_body};
+ghost use Rattle.fm_proc_events.specs.Events.{with_body};
 ghost use Rattle.fm_proc_events.specs.Performs.{CanPerform, Performs};
 ghost use Rattle.fm_proc_events.specs.Phases.{proc_of};
 ghost use Rattle.fm_proc_events.specs.Told.{look_of};
 
-use crate::fitting::exceeds;
+use crate::fitting::OperandLimits;
 use crate::going::{put_and_set_address, set_address};
 use crate::process::{Phase, Process};
 use crate::sending::message_cost;
 use crate::shedding::shed;
 use fm_base::{Fault, NoMemory, Path, Seq};
-use fm_chan::{Channels, Message, Port};
+use fm_chan::{Channels, Got, Message, Port};
 use fm_code::{Body, Operand};
 use fm_machine_calls::line_of;
 use fm_proc_slots::{Slots, set_word, store_all};
 use std::alloc::Global;
 use std::mem::replace;
 
-/// The oldest message of a port's channel, or none at its end.
-fn next_message(channels: &mut Channels, port: &Port) -> Option<Message>
+/// What a receive into operands gets of a port's channel. A message leaves it that has no more elements for an item than its operand.
+fn next_message(channels: &mut Channels, port: &Port, operands: &Seq<Operand>) -> Got
     requires { is_outport port.now ≡ false }
-    ensures message { result ≡ message_in (got_at [] (chan_at port.now (chans_of channels.old))) }
-    ensures channels { chans_of channels.new ≡ after_op port.now (Pop []) (chans_of channels.old) }
-    ensures room { IfSome result (λ message. HasRoom channels.new (channel_of port.now)) }
+    ensures got { result ≡ got_at (limits_of operands.now) (chan_at port.now (chans_of channels.old)) }
+    ensures channels { chans_of channels.new ≡ after_op port.now (Pop (limits_of operands.now)) (chans_of channels.old) }
+    ensures room { brings result ≡ true → HasRoom channels.new (channel_of port.now) }
     ensures waking { WakesAll channels.old channels.new }
 {
-    channels.receive(port, &[]).into_message()
+    let operands = operands.as_slice();
+    channels.receive(port, &OperandLimits { operands })
 }
 
 /// A message goes back to the channel of the port in a slot.
@@ -140,54 +141,6 @@ fn meet_excess(process: &mut Process)
     };
 }
 
-/// Receives a message that fits by the port in a slot, or meets the end of its channel. The cost. After want of memory the process
-/// and the channels are as they were: the message goes back to where it was.
-fn take_message(
-    alloc: Global,
-    path: &Path,
-    process: &mut Process,
-    channels: &mut Channels,
-    slot: i64,
-    items: Seq<Operand>,
-    status: Option<u32>,
-    at_end: Option<u32>,
-    next: u32,
-) -> Result<u64, NoMemory>
-    requires look { look_of (proc_of process.old) ≡ Asks (ask.Receive slot items status at_end next) }
-    requires can { CanPerform (proc_of process.old) (chans_of channels.old) }
-    requires within { (x : PortValue) → Some x ≡ in_slot (proc_of process.old).slots slot → exceeds_at (limits_of items) (chan_at x (chans_of channels.old)) ≡ false }
-    ensures performs { IfOk result (λ cost. Performs path.now (proc_of process.old) (chans_of channels.old) (proc_of process.new) [] (chans_of channels.new) cost) }
-    ensures stays { OnErr result (proc_of process.new ≡ proc_of process.old) }
-    ensures channels { OnErr result (chans_of channels.new ≡ chans_of channels.old) }
-    ensures waking { OnOk result (WakesAll channels.old channels.new) }
-{
-    let got = match process.slots.port(slot) {
-        Some(port) => next_message(channels, port),
-        None => unreachable!(),
-    };
-    let Some(message) = got else {
-        let Some(body) = replace(&mut process.body, None) else {
-            unreachable!()
-        };
-        meet_end(process, body, status, at_end, next);
-        return Ok(1);
-    };
-    let Some(body) = &mut process.body else {
-        unreachable!()
-    };
-    let slots = &mut process.slots;
-    match store_message(alloc, body, slots, items.as_slice(), status, message, next) {
-        Ok(Stored { cost, drops }) => {
-            shed(channels, drops);
-            Ok(cost)
-        }
-        Err((message, error)) => {
-            put_back_at(channels, &process.slots, slot, message);
-            Err(error)
-        }
-    }
-}
-
 /// Receives a message by the port in a slot, or meets the end of its channel. Where the message has more elements for an item than
 /// its operand, it stays and is a fault. The cost. After want of memory the process and the channels are as they were: the message
 /// goes back to where it was.
@@ -209,15 +162,37 @@ pub fn receive(
     ensures channels { OnErr result (chans_of channels.new ≡ chans_of channels.old) }
     ensures waking { OnOk result (WakesAll channels.old channels.new) }
 {
-    let exceeding = match process.slots.port(slot) {
-        Some(port) => exceeds(channels, port, items.as_slice()),
+    let got = match process.slots.port(slot) {
+        Some(port) => next_message(channels, port, &items),
         None => unreachable!(),
     };
-    if exceeding {
-        meet_excess(process);
-        return Ok(1);
+    let message = match got {
+        Got::Message(message) => message,
+        Got::Exceeds => {
+            meet_excess(process);
+            return Ok(1);
+        }
+        Got::End => {
+            let Some(body) = replace(&mut process.body, None) else {
+                unreachable!()
+            };
+            meet_end(process, body, status, at_end, next);
+            return Ok(1);
+        }
+        Got::Wait => unreachable!(),
+    };
+    let Some(body) = &mut process.body else {
+        unreachable!()
+    };
+    let slots = &mut process.slots;
+    match store_message(alloc, body, slots, items.as_slice(), status, message, next) {
+        Ok(Stored { cost, drops }) => {
+            shed(channels, drops);
+            Ok(cost)
+        }
+        Err((message, error)) => {
+            put_back_at(channels, &process.slots, slot, message);
+            Err(error)
+        }
     }
-    take_message(
-        alloc, path, process, channels, slot, items, status, at_end, next,
-    )
 }

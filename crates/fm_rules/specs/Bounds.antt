@@ -1,7 +1,7 @@
 -- Bounds of arrays, and the extents of PROCESSORS.
 -- Source: ANSI X3.9-1978, sections 5.1.1 (dimension declarators) and 5.2.3 (size of an array); the Fortran M report for
 -- PROCESSORS. The greatest number of elements is this profile's.
-use Rattle.std.specs.Prelude.{ℕ, ◌+◌, ℤ, pos, min, length, int_lt, Bool, false, is_some, Option, Some, None, List, [], ◌∷◌, map}
+use Rattle.std.specs.Prelude.{ℕ, ◌+◌, ℤ, pos, length, int_lt, Bool, false, is_some, Option, Some, None, List, [], ◌∷◌, map}
 use Rattle.std.specs.List.{list_any}
 use Rattle.fm_values.specs.Places.{Bounds, extent, size}
 use Rattle.fm_tree.specs.Tree.{Tree}
@@ -58,14 +58,10 @@ abbrev pub count : Option Bounds → ℕ
 count None = 0
 count (Some bs) = size bs
 
--- the number, or one more than the greatest number of elements where it is greater
-abbrev pub held : ℕ → ℕ
-held n = min n 65537
-
 -- the elements in a dimension
 abbrev pub node_count : Dimension → ℕ
 node_count None = 0
-node_count (Some b) = held (extent b)
+node_count (Some b) = extent b
 
 -- what a list of dimensions is as an array
 abbrev pub shape_by : List Dimension → Shape
@@ -73,7 +69,7 @@ shape_by ds = record {
   dimensions = length ds;
   known = is_some (all_known ds);
   inverted = list_any is_inverted ds;
-  elements = held (count (all_known ds));
+  elements = count (all_known ds);
 }
 
 abbrev pub shape_of : ByName Known → (place : ℕ) → List Bound → Shape
@@ -83,11 +79,11 @@ abbrev pub machine_shape : ByName Known → (place : ℕ) → List Tree → Shap
 machine_shape known place extents = shape_by (map (machine_dimension known place) extents)
 
 -- the elements, and so the words, of what is declared with bounds: 1 where there are no bounds, 0 where they are not known or
--- one is under its lower, 65,537 where there are more than 65,536
+-- one is under its lower
 abbrev pub elements : ByName Known → (place : ℕ) → List Bound → ℕ
-elements known place bounds = held (count (bounds_of known place bounds))
+elements known place bounds = count (bounds_of known place bounds)
 
--- the extents of the first PROCESSORS; one that is not known counts 0, one over 65,536 counts 65,537
+-- the extents of the first PROCESSORS; one that is not known counts 0
 abbrev pub extents_or : ByName Known → (place : ℕ) → List Tree → List ℕ → List ℕ
 extents_or known place [] others = others
 extents_or known place (e ∷ es) others = map (λ x. node_count (machine_dimension known place x)) (e ∷ es)

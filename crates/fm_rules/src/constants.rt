@@ -12,8 +12,8 @@ pub struct Shape {
     pub known: bool,
     /// Whether some upper bound is under its lower.
     pub inverted: bool,
-    /// How many elements: 1 where it is no array, 0 where a bound is no constant or under its lower, and 65,537 where
-    /// there are more than 65,536.
+    /// How many elements: 1 where it is no array, 0 where a bound is no constant or under its lower. In memory any number
+    /// over 65,536 stands as 65,537.
     pub elements: u32,
 }
 

@@ -1,6 +1,7 @@
 //! Who can step, and in which order they are served.
 
-ghost use Rattle.std.specs.Prelude.{◌≡◌, ◌<◌, ◌≤◌, ◌++◌, ◌∷◌, ◌==◌, ◌&&◌, ◌||◌, ℕ, not, false, [], length, take, slice_index_or, OnErr, OnOk};
+ghost use Rattle.std.specs.Prelude.{◌≡◌, ◌<◌, ◌≤◌, ◌++◌, ◌∷◌, ◌==◌, ◌&&◌, ◌||◌, ℕ, suc, not, false, [], drop, length, take, slice_index_or, OnErr, OnOk};
+ghost use Rattle.std.specs.VecDeque.{deque_capacity, deque_len};
 ghost use Rattle.fm_run.specs.Orders.{Among, AreMarked, EachOnce, IsPlaceOf, chosen, others_in};
 
 use fm_base::NoMemory;
@@ -72,6 +73,19 @@ fn place_of(numbers: &VecDeque<u32>, number: u32) -> Option<usize>
     None
 }
 
+// What stands at a place goes. It's the first one of who is served next, and nothing is moved up then.
+fn take_out(numbers: &mut VecDeque<u32>, place: usize)
+    requires { place < length numbers.old.items }
+    ensures items { numbers.new.items ≡ take place numbers.old.items ++ drop (suc place) numbers.old.items }
+    ensures room { deque_len numbers.new < deque_capacity numbers.new }
+{
+    if place == 0 {
+        numbers.pop_front();
+    } else {
+        numbers.remove(place);
+    }
+}
+
 impl Queue {
     /// Nobody can step. Takes no memory.
     pub fn new(alloc: Global) -> Queue
@@ -110,9 +124,7 @@ impl Queue {
     {
         unmark(&mut self.marks, number);
         match place_of(&self.numbers, number) {
-            Some(place) => {
-                self.numbers.remove(place);
-            }
+            Some(place) => take_out(&mut self.numbers, place),
             None => {}
         }
     }
@@ -126,7 +138,7 @@ impl Queue {
     {
         match place_of(&self.numbers, number) {
             Some(place) => {
-                self.numbers.remove(place);
+                take_out(&mut self.numbers, place);
                 self.numbers.push_back_reserved(number);
             }
             None => unreachable!(),

@@ -4,7 +4,7 @@ ghost use Rattle.std.specs.Prelude.{◌≡◌, ◌<◌};
 
 use crate::crew::{Worker, crew};
 use crate::turns::work;
-use fm_pool::{Desk, Room};
+use fm_pool::Room;
 use fm_workers::{Gate, SharedTable};
 use std::alloc::Global;
 use std::sync::Wait;
@@ -66,7 +66,5 @@ fn shared<T: SharedTable + Send + Drop, G: Gate<T>, R: Threads + Wait + Sync>(
         count,
         &|_, worker: &mut Worker<T::Piece>| work(rt, gate, alloc, &room, worker),
     );
-    let Room { desk, changed: _ } = room;
-    let Desk { table, working: _ } = desk.into_inner();
-    table
+    room.into_table()
 }

@@ -1,7 +1,6 @@
 //! What a worker does in its turns of the lock, and between them.
 
 use crate::crew::Worker;
-use fm_base::NoMemory;
 use fm_pool::{Desk, Next, Room};
 use fm_workers::{Gate, SharedTable};
 use std::alloc::Global;
@@ -98,16 +97,8 @@ pub fn work<T: SharedTable + Drop, G: Gate<T>, R: Wait>(
         let Some(piece) = next(rt, alloc, room, worker, light) else {
             return;
         };
-        match gate.run(alloc, worker.number, piece) {
-            Ok(done) => {
-                if !room.give(rt, alloc, done) {
-                    return;
-                }
-            }
-            Err(NoMemory) => {
-                room.leave(rt);
-                return;
-            }
+        if !room.bring(rt, alloc, gate.run(alloc, worker.number, piece)) {
+            return;
         }
     }
 }

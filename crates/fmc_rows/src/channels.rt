@@ -51,7 +51,8 @@ fn wait(
 
 fn receive(rt: &impl Abort, channels: &mut Channels, port: &Port) -> Got {
     assert!(rt; !port.is_outport());
-    channels.receive(port, &[])
+    let none: &[Option<u32>] = &[];
+    channels.receive(port, &none)
 }
 
 fn message(alloc: Global, item: Item) -> Result<Message, NoMemory> {

@@ -2,7 +2,7 @@ use Rattle.std.proofs.Common.{◌≡◌, ◌+◌, ◌*◌, ◌++◌, [], take, d
 use Rattle.fm_tree.specs.PortFields.{fields_count, kind_count}
 use Rattle.fm_tree.specs.PortReading.{kind_of}
 use Rattle.fm_rules.specs.SizedFields.{sizes_of}
-use Rattle.fm_names_constants.proofs.Fields.{normals}
+use Rattle.fm_names_constants.proofs.Fields.{kept_normals}
 use Rattle.fm_names_constants.proofs.port_types.+normal_port_type.Given as goal
 
 abbrev pub decreases-normal_port_type : goal.decreases-normal_port_type
@@ -16,4 +16,4 @@ decreases-normal_kind l = 2 * kind_count (kind_of l.kind.now)
 
 abbrev pub invariant-normal_port_type-fields : goal.invariant-normal_port_type-fields
 invariant-normal_port_type-fields l =
-    l.normal.items ++ normals l.known l.place (sizes_of (take l.index l.fields)) (drop l.index l.fields) ≡ normals l.known l.place [] l.fields
+    l.normal.items ++ kept_normals l.known l.place (sizes_of (take l.index l.fields)) (drop l.index l.fields) ≡ kept_normals l.known l.place [] l.fields

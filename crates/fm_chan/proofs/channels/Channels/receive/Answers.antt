@@ -12,23 +12,23 @@ use Rattle.fm_chan.proofs.channels.Channels.receive.Goals as goal
 
 pub returns-clause-got : goal.returns-clause-got
 unfolding chans_of
-returns-clause-got c = c.receive.ensures.got ∙ ap (λ q. got_at c.args.limits.now (map.get (chans_in c.args.self.now.bodies) q)) c.channel.ensures
+returns-clause-got g c = c.receive.ensures.got ∙ ap (λ q. got_at (g.L.Limits.most c.args.limits.now) (map.get (chans_in c.args.self.now.bodies) q)) c.channel.ensures
 
 pub returns-clause-channels : goal.returns-clause-channels
 unfolding chans_of
-returns-clause-channels c = c.receive.ensures.channels ∙ ap (λ q. adjust (chans_in c.args.self.now.bodies) q (changed (Pop c.args.limits.now))) c.channel.ensures
+returns-clause-channels g c = c.receive.ensures.channels ∙ ap (λ q. adjust (chans_in c.args.self.now.bodies) q (changed (Pop (g.L.Limits.most c.args.limits.now)))) c.channel.ensures
 
 pub returns-clause-unchanged : goal.returns-clause-unchanged
 unfolding chans_of
-returns-clause-unchanged c = c.receive.ensures.unchanged
+returns-clause-unchanged g c = c.receive.ensures.unchanged
 
 pub returns-clause-room : goal.returns-clause-room
 unfolding HasRoom
-returns-clause-room c = c.receive.ensures.room
+returns-clause-room g c = c.receive.ensures.room
 
 pub returns-clause-waking : goal.returns-clause-waking
-returns-clause-waking c = none_woken IsReadyAt _ _ c.receive.ensures.readers refl
+returns-clause-waking g c = none_woken IsReadyAt _ _ c.receive.ensures.readers refl
 
 pub returns-clause-taken : goal.returns-clause-taken
 unfolding HasRoom
-returns-clause-taken c = λ came. subst (HasRoomIn c.receive.new.bodies) c.channel.ensures (c.receive.ensures.taken came)
+returns-clause-taken g c = λ came. subst (HasRoomIn c.receive.new.bodies) c.channel.ensures (c.receive.ensures.taken came)

@@ -1,0 +1,4 @@
+pub mod Sending
+pub mod Named
+pub mod Losing
+pub mod Staying

@@ -1,0 +1,11 @@
+pub mod WordLaws
+pub mod PartLaws
+pub mod LineLaws
+pub mod Exact
+pub mod Images
+pub mod Loop
+pub mod WordLoops
+pub mod Written
+pub mod Fronts
+pub mod Begun
+pub mod MalformedLaws

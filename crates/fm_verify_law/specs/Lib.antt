@@ -1,0 +1,4 @@
+pub mod Shapes
+pub mod Typed
+pub mod Codes
+pub mod Sample
