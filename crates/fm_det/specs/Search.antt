@@ -1,5 +1,5 @@
 -- What is looked through for the least place.
-use Rattle.std.specs.Prelude.{ℕ, ◌+◌, Bool, false, if◌then◌else◌, nat_eq, nat_lt, Option, Some, None, List, [], ◌∷◌, ◌++◌, slice_get, slice_index_or}
+use Rattle.std.specs.Prelude.{ℕ, ◌+◌, Bool, false, if◌then◌else◌, Option, List, [], ◌∷◌, ◌++◌, slice_get, slice_index_or}
 use Rattle.fm_base.specs.declared.name.Line.{Line}
 use Rattle.fm_base.specs.declared.rule.Refusal.{Refusal}
 use Rattle.fm_base.specs.declared.rule.Rule.TheVariants.{E45}
@@ -9,13 +9,10 @@ use Rattle.fm_tree.specs.declared.program_unit.Unit.{Unit}
 use Rattle.fm_symbols.specs.declared.context.Scope.{Scope}
 use Rattle.fm_rules.specs.declared.calls.Call.{Call}
 use Rattle.fm_rules.specs.Race.{is_racy}
+use Rattle.fm_calls.specs.Components.{same_name}
+use Rattle.fm_calls.specs.Least.{lower_if}
 
--- both in one component
-abbrev pub same_name : Option ℕ → Option ℕ → Bool
-same_name None b = false
-same_name (Some a) None = false
-same_name (Some a) (Some b) = nat_eq a b
-
+-- the call leads back to its unit
 abbrev pub is_back : List ℕ → ℕ → Call → Bool
 is_back names unit call = same_name (slice_get names unit) (slice_get names call.target)
 
@@ -28,14 +25,6 @@ back_calls names unit (call ∷ calls) = when (is_back names unit call) (place c
 abbrev pub all_back_calls : List ℕ → ℕ → List (List Call) → List Refusal
 all_back_calls names unit [] = []
 all_back_calls names unit (calls ∷ rest) = back_calls names unit calls ++ all_back_calls names (unit + 1) rest
-
--- the least line so far and another one
-abbrev pub lower : Option Line → Line → Option Line
-lower None line = Some line
-lower (Some best) line = Some (if nat_lt line.0 best.0 then line else best)
-
-abbrev pub lower_if : Bool → Option Line → Line → Option Line
-lower_if test best line = if test then lower best line else best
 
 -- of the racy entries of a unit
 abbrev pub racy_in : Option Scope → Option Line → List Entry → Option Line

@@ -1,11 +1,12 @@
 //! Races.
 
-ghost use Rattle.std.specs.Prelude.{◌≡◌, false, None, slice_get, slice_index_or, IfOk};
+ghost use Rattle.std.specs.Prelude.{◌≡◌, None, slice_get, IfOk};
 ghost use Rattle.fm_rules.specs.Race.{are_several, is_array_symbol, is_racy, is_whole_array, names_array, IsRaceVerdict};
-ghost use Rattle.fm_det.specs.Search.{lower, lower_if, racy_from, racy_in, racy_in_unit};
+ghost use Rattle.fm_calls.specs.Least.{lower_if};
+ghost use Rattle.fm_det.specs.Search.{racy_from, racy_in, racy_in_unit};
 
-use crate::calls::{all_calls, graph_of};
 use fm_base::{Line, Name, NoMemory};
+use fm_calls::{all_calls, flag_at, graph_of, lower_if};
 use fm_graph::reached;
 use fm_rules::main_of;
 use fm_symbols::{Context, Symbol};
@@ -68,22 +69,6 @@ fn is_racy(context: &Context, unit: usize, stmt: &Stmt) -> bool
     }
 }
 
-fn lower(best: Option<Line>, line: Line) -> Option<Line>
-    ensures { result ≡ lower best line }
-{
-    match best {
-        None => Some(line),
-        Some(best) => Some(if line.0 < best.0 { line } else { best }),
-    }
-}
-
-/// The least line so far and another one, if it counts.
-pub fn lower_if(test: bool, best: Option<Line>, line: Line) -> Option<Line>
-    ensures { result ≡ lower_if test best line }
-{
-    if test { lower(best, line) } else { best }
-}
-
 fn racy_in(context: &Context, unit: usize, best: Option<Line>, entries: &[Entry]) -> Option<Line>
     ensures { result ≡ racy_in (slice_get context.now.scopes unit) best entries.now }
 {
@@ -107,16 +92,6 @@ fn racy_in_unit(
         racy_in(context, number, best, unit.body.as_slice())
     } else {
         best
-    }
-}
-
-/// The flag of a unit; false where there is none.
-pub fn flag_at(flags: &[bool], unit: usize) -> bool
-    ensures { result ≡ slice_index_or flags.now unit false }
-{
-    match flags.get(unit) {
-        Some(flag) => *flag,
-        None => false,
     }
 }
 

@@ -4,28 +4,15 @@ ghost use Rattle.std.specs.Prelude.{◌≡◌, None, IfOk};
 ghost use Rattle.fm_base.specs.declared.rule.Rule.TheVariants.{E45};
 ghost use Rattle.fm_base.specs.Verdict.{IsVerdict, least_from, place, when};
 ghost use Rattle.fm_rules.specs.Recursion.{IsRecursion};
-ghost use Rattle.fm_det.specs.Search.{all_back_calls, back_calls, is_back, same_name};
+ghost use Rattle.fm_det.specs.Search.{all_back_calls, back_calls, is_back};
 
-use crate::calls::{all_calls, graph_of};
 use fm_base::{NoMemory, Refusal, Rule, Seq, keep_earlier};
+use fm_calls::{all_calls, graph_of, same_name};
 use fm_graph::components;
 use fm_rules::Call;
 use fm_symbols::Context;
 use fm_tree::Units;
 use std::alloc::Global;
-
-/// Whether both are there and the same.
-pub fn same_name(first: Option<usize>, second: Option<usize>) -> bool
-    ensures { result ≡ same_name first second }
-{
-    match first {
-        None => false,
-        Some(first) => match second {
-            None => false,
-            Some(second) => first == second,
-        },
-    }
-}
 
 /// Whether a call leads back to its unit: both are in one component.
 fn is_back(names: &[usize], unit: usize, call: Call) -> bool

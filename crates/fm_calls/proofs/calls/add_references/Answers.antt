@@ -2,7 +2,7 @@ use Rattle.std.proofs.Common.{◌∙◌, ◌++◌, ℕ, Option, List, get_or, re
 use Rattle.std.specs.List.{slice_get}
 use Rattle.fm_rules.specs.Calls.{call_by, referring}
 use Rattle.fm_rules.proofs.Lists.{joined_more, looked_up}
-use Rattle.fm_det.proofs.calls.add_references.Goals as goal
+use Rattle.fm_calls.proofs.calls.add_references.Goals as goal
 
 pub places-preserved : goal.places-preserved
 places-preserved c =
