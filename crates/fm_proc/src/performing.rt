@@ -10,11 +10,12 @@ ghost use Rattle.fm_proc_events.specs.Told.{look_of};
 
 use crate::beginning::begin;
 use crate::ending::end;
+use crate::letting::let_go;
 use fm_base::{NoMemory, Path};
 use fm_chan::Channels;
 use fm_code::Ask;
 use fm_machine_instr::Work;
-use fm_proc_events::{Process, fail, let_go, make_channel, make_merger, probe, receive, send};
+use fm_proc_events::{Process, fail, make_channel, make_merger, probe, receive, send};
 use std::alloc::Global;
 
 /// What an event leaves to be done: the children to put at their places. And its cost.

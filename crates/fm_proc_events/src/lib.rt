@@ -1,4 +1,4 @@
-//! One process of stack code: what it does next, and its events at channels.
+//! One process of stack code, and its events at channels.
 //!
 //! Contracts say that each is what `code_language` of `fm_proc_language` says, for every process, however its words and slots stand.
 #![tactic(auto)]
@@ -6,24 +6,20 @@
 mod failing;
 mod fitting;
 mod going;
-mod letting;
 mod making;
 mod probing;
 mod process;
 mod receiving;
 mod sending;
 mod shedding;
-mod telling;
 mod units;
 
 pub use failing::fail;
 pub use going::set_address;
-pub use letting::let_go;
 pub use making::{make_channel, make_merger};
 pub use probing::probe;
 pub use process::{Kid, Phase, Process};
 pub use receiving::receive;
 pub use sending::send;
 pub use shedding::{shed, vacate};
-pub use telling::next_look;
 pub use units::{formals_at, loops_at, ports_at};

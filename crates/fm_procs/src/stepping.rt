@@ -30,8 +30,8 @@ use fm_code::Ask;
 use fm_machine_calls::Look;
 use fm_machine_instr::Work;
 use fm_net::{child_path, number_behind};
-use fm_proc::{Advanced, StepEnd, advance, perform};
-use fm_proc_events::{Process, next_look};
+use fm_proc::{Advanced, StepEnd, advance, next_look, perform};
+use fm_proc_events::Process;
 use std::alloc::Global;
 use std::sync::Arc;
 

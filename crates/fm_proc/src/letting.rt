@@ -9,18 +9,17 @@ ghost use Rattle.fm_proc_events.specs.Performs.{CanPerform, Performs};
 ghost use Rattle.fm_proc_events.specs.Phases.{proc_of};
 ghost use Rattle.fm_proc_events.specs.Told.{look_of};
 
-use crate::process::Process;
-use crate::shedding::{shed, vacate};
 use fm_base::{NoMemory, Path, Seq};
 use fm_chan::Channels;
 use fm_machine::let_go as let_go_of;
 use fm_machine_instr::Work;
+use fm_proc_events::{Process, shed, vacate};
 use fm_proc_slots::Slots;
 use std::alloc::Global;
 
 /// Does the next statement, after which these ports are let go. The cost. After want of memory the process and the channels are as
 /// they were.
-pub fn let_go(
+pub(crate) fn let_go(
     alloc: Global,
     work: &mut Work,
     path: &Path,
