@@ -6,7 +6,7 @@
 For each text it counts the instructions of `check` at 100,000 and at 1,000,000 bytes by valgrind's callgrind,
 which repeats to the digit on one machine, and takes the peak memory at 1,000,000 bytes by GNU time. It prints
 both counts, their ratio (10 for work that grows as the length does, at most 13), and the peak in bytes a byte
-of the source (at most 300). The status is 1 where one is over its bound or an answer is another than wanted.
+of the source (at most 150). The status is 1 where one is over its bound or an answer is another than wanted.
 BINARY is the built program, by default crates/fmc_cli/out/fmc_cli; TEXT is a name of TEXTS below, by default all.
 """
 import itertools
@@ -19,7 +19,7 @@ import tempfile
 HERE = os.path.dirname(os.path.abspath(__file__))
 COMMAND = "check"
 SMALL, LARGE = 100000, 1000000
-MOST_RATIO, MOST_MEMORY = 13, 300
+MOST_RATIO, MOST_MEMORY = 13, 150
 
 COLUMNS = 66
 STATEMENT = 20 * COLUMNS  # the columns of a statement with all its continuation lines
@@ -112,6 +112,38 @@ def ports(size):
     return unit("PROGRAM P") + "".join(repeated((process(k) for k in itertools.count(1)), size - 200))
 
 
+def types(size):
+    """Each unit has ports of ports of ports, as deep as a statement holds, which are moved."""
+    depth = (STATEMENT - 20) // 8
+    deep = "INPORT(" * depth + "INTEGER" + ")" * depth + "A,B"
+    units = (unit("PROCESS Q%d" % k, deep, "MOVEPORT(FROM=A,TO=B)") for k in itertools.count(1))
+    return unit("PROGRAM P") + "".join(repeated(units, size - 200))
+
+
+def continued(size):
+    """Each statement has 19 continuation lines, and an operator in every second column."""
+    sums = (line("I=" + "I+" * (STATEMENT // 2 - 2) + str(k % 10)) for k in itertools.count())
+    return line("PROGRAM P") + "".join(repeated(sums, size - 200)) + line("END")
+
+
+def elements(size):
+    """Each unit has as many words as there may be, nearly all in one array."""
+    units = (unit("SUBROUTINE S%d(I)" % k, "INTEGER A(65535)", "A(I)=A(1)+I") for k in itertools.count(1))
+    return unit("PROGRAM P") + "".join(repeated(units, size - 200))
+
+
+def statements(size):
+    """Short statements, each with a label: at 1,000,000 bytes nearly all labels that there are."""
+    count = (size - 100) // len("10000 I=1\n")
+    return line("PROGRAM P") + "".join(line("I=1", k + 1) for k in range(count)) + line("END")
+
+
+def constants(size):
+    """Each PARAMETER is told by the one before it."""
+    chain = (line("PARAMETER(N%d=N%d+0)" % (k, k - 1)) for k in itertools.count(1))
+    return line("PROGRAM P") + line("PARAMETER(N0=1)") + "".join(repeated(chain, size - 200)) + line("END")
+
+
 DETERMINISTIC = b"deterministic\n"
 
 # The name of a text, how it is made, and what `check` writes of it.
@@ -123,6 +155,11 @@ TEXTS = {
     "calls": (calls, DETERMINISTIC),
     "nested": (nested, DETERMINISTIC),
     "ports": (ports, DETERMINISTIC),
+    "types": (types, DETERMINISTIC),
+    "continued": (continued, DETERMINISTIC),
+    "elements": (elements, DETERMINISTIC),
+    "statements": (statements, DETERMINISTIC),
+    "constants": (constants, DETERMINISTIC),
     "names-untyped": (lambda size: names(size, declared=False), b"line 2: E31 no type\n"),
     "branches-open": (lambda size: branches(size, closed=False), b"line 2: E21 unmatched block\n"),
     "labels-missing": (lambda size: labels(size, there=False), b"line 2: E23 label missing\n"),

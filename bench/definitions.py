@@ -6,8 +6,9 @@
 Of FOLDER, by default of this repository: each file of definitions, crates/*/specs/*.antt, stands in docs/DEFINITIONS.md
 as CRATE/specs/FILE, FILE, .., and no other does; what a row of a table there says that a file defines stands in it;
 each boundary of docs/ARCHITECTURE.md, a row `A, B to C, D`, is in crates.txt; each call in a row of docs/PROMISES.md is
-a function there, and each clause in it is one of the row's calls, or a word of a file of definitions; and each crate
-that a page names is one.
+a function there, and each clause in it is one of the row's calls, or a word of a file of definitions, and so of the
+section of docs/DEFINITIONS.md on what each call promises; there stands each call that a crate lets others make, is lent
+something for writing, and may answer want of memory; and each crate that a page names is one.
 Prints what is wrong, and has status 1 then.
 """
 import glob
@@ -22,6 +23,11 @@ NAME = re.compile(r"\bfm(?:c(?:_[a-z]+)?|_[a-z_]*[a-z])\b")
 WORD = re.compile(r"`([^`]+)`")
 CALL = re.compile(r"^ *(?:pub(?:\(crate\))? )?fn (\w+)|^ *ensures (\w+) \{", re.M)
 SMALL = re.compile(r"[a-z]\w*$")
+SECTION = re.compile(r"^## What each call promises.*?(?=^## )", re.M | re.S)
+USED = re.compile(r"^pub use (?:\w+::)*(?:\{([^}]*)\}|(\w+));", re.M)
+OWNER = re.compile(r"^(pub trait|impl(?:<.*?>+)?) ([\w<>:, ]+ for )?(\w+)")
+HEAD = re.compile(r"^( *)(pub )?fn (\w+)")
+WANT = re.compile(r"-> .*(?:NoMemory|AllocFailed|ReadFail)\b")
 
 
 def read(path):
@@ -111,10 +117,37 @@ def wrong_promises(folder, page):
                 yield f"PROMISES: {', '.join(calls)} has no clause {word}"
 
 
+def calls_of(folder, crate):
+    """The calls of a crate that others may make, each with its head up to its answer."""
+    shown = {word for two in USED.findall(read(f"{folder}/crates/{crate}/src/lib.rt")) for word in re.findall(r"\w+", "".join(two))}
+    for path in sorted(glob.glob(f"{folder}/crates/{crate}/src/*.rt")):
+        lines, owner, plain = read(path).split("\n"), None, True
+        for place, line in enumerate(lines):
+            if OWNER.match(line):
+                kind, trait, owner = OWNER.match(line).groups()
+                plain = not trait and kind != "pub trait"
+            head = HEAD.match(line)
+            if head and (owner if head.group(1) else head.group(3)) in shown and (head.group(2) or head.group(1) and not plain):
+                stop = next(k for k in range(place, len(lines)) if lines[k].startswith(head.group(1) + ")") or ")" in lines[place])
+                yield head.group(3), " ".join(lines[place:stop + 1])
+
+
+def unpromised(folder, below, section):
+    """The calls that are lent something for writing and may answer want of memory, and aren't in the section."""
+    words = set(re.findall(r"\w+", " ".join(WORD.findall(section))))
+    for crate in below:
+        if os.path.exists(f"{folder}/crates/{crate}/src/lib.rt"):
+            for name, head in calls_of(folder, crate):
+                if "&mut " in head and WANT.search(head) and name not in words:
+                    yield f"DEFINITIONS has no promise on memory of {crate}::{name}"
+
+
 def main():
     folder = sys.argv[1] if len(sys.argv) > 1 else TOP
     below = crates(folder)
-    wrong = [*wrong_files(folder, read(f"{folder}/docs/DEFINITIONS.md")),
+    page = read(f"{folder}/docs/DEFINITIONS.md")
+    section = "".join(SECTION.findall(page))
+    wrong = [*wrong_files(folder, SECTION.sub("", page)), *wrong_promises(folder, section), *unpromised(folder, below, section),
              *wrong_boundaries(below, read(f"{folder}/docs/ARCHITECTURE.md")), *wrong_crates(folder, below),
              *wrong_promises(folder, read(f"{folder}/docs/PROMISES.md"))]
     print("\n".join(wrong) or "the pages name what stands in the crates")

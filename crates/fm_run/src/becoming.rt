@@ -37,7 +37,7 @@ fn take_woken<N: Net>(net: &mut N, spare: Vec<u32>) -> Result<Vec<u32>, NoMemory
     Ok(all)
 }
 
-fn count_at(counts: &[usize], number: u32) -> usize
+fn count_at(counts: &[u32], number: u32) -> u32
     ensures { result ≡ slice_index_or counts.now number 0 }
 {
     match counts.get(number as usize) {
@@ -47,7 +47,7 @@ fn count_at(counts: &[usize], number: u32) -> usize
 }
 
 /// Keeps the count of a process.
-pub(crate) fn keep_count(counts: &mut [usize], number: u32, count: usize)
+pub(crate) fn keep_count(counts: &mut [u32], number: u32, count: u32)
     ensures this { number < length counts.old → slice_index_or counts.new number 0 ≡ count }
     ensures others { (n : ℕ) → n ≢ number → slice_index_or counts.new n 0 ≡ slice_index_or counts.old n 0 }
 {
@@ -57,14 +57,24 @@ pub(crate) fn keep_count(counts: &mut [usize], number: u32, count: usize)
     }
 }
 
+// A count that is kept. No process has as many children as would be too many.
+fn as_count(known: usize) -> Result<u32, NoMemory>
+    ensures { IfOk result (λ count. count ≡ known) }
+{
+    match u32::try_from(known) {
+        Ok(count) => Ok(count),
+        Err(_) => Err(NoMemory),
+    }
+}
+
 // Whether the process of a number doesn't wait for a child that hasn't ended. The children that have ended,
 // from the first on, are counted, and aren't looked at again.
-fn awaits_nobody<N: Net>(net: &N, ended: &mut [usize], number: u32) -> Result<bool, NoMemory>
+fn awaits_nobody<N: Net>(net: &N, ended: &mut [u32], number: u32) -> Result<bool, NoMemory>
     ensures { IfOk result (λ r. (p : declared.Program) → N.IsSound p net.now → can_at p (N.state p net.now) (N.order net.now) number ≡ true → r ≡ true) }
 {
     let before = count_at(ended, number);
-    let Awaited { ended: now, waits } = net.awaits(number, before)?;
-    keep_count(ended, number, now);
+    let Awaited { ended: now, waits } = net.awaits(number, before as usize)?;
+    keep_count(ended, number, as_count(now)?);
     Ok(!waits)
 }
 
@@ -72,7 +82,7 @@ fn awaits_nobody<N: Net>(net: &N, ended: &mut [usize], number: u32) -> Result<bo
 fn parent_to_ask<N: Net>(
     net: &N,
     parents: &[u32],
-    ended: &mut [usize],
+    ended: &mut [u32],
     number: u32,
 ) -> Result<Option<u32>, NoMemory>
     ensures { IfOk result (λ r. (p : declared.Program) (q : Place) (n : ℕ) → N.IsSound p net.now → slice_get (N.order net.now) number ≡ Some q → ended_at (get (N.state p net.now).procs q) ≡ true
@@ -121,7 +131,7 @@ pub(crate) fn candidates<N: Net>(
     spare: Vec<u32>,
     net: &mut N,
     parents: &[u32],
-    ended: &mut [usize],
+    ended: &mut [u32],
     number: u32,
     before: usize,
 ) -> Result<Vec<u32>, NoMemory>

@@ -1,6 +1,6 @@
 //! What a run shows, gathered process after process: the parts that are the same for every net.
 
-ghost use Rattle.std.specs.Prelude.{◌≡◌, ◌++◌, ◌∷◌, [], map, option_map, IfOk, OnOk};
+ghost use Rattle.std.specs.Prelude.{◌≡◌, ◌++◌, ◌∷◌, [], map, option_map, IfOk, OnErr, OnOk};
 ghost use Rattle.std.specs.FinMap.{entries};
 ghost use Rattle.fm_finmap.specs.Map.{map_of};
 ghost use Rattle.fm_mean.specs.declared.outcome.At.TheVariants as at;
@@ -78,14 +78,15 @@ pub fn join_of(child: Option<Path>) -> Option<At>
     }
 }
 
-/// Gives an outport its holder. Of two holders of an outport the first counts.
+/// Gives an outport its holder. Of two holders of an outport the first counts. After want of memory nothing has changed.
 pub fn put_outport(
     alloc: Global,
     all: &mut Map<Outport, Path>,
     path: &Path,
     outport: Outport,
 ) -> Result<(), NoMemory>
-    ensures { OnOk result (map_of outport_cmp all.new ≡ with_holder (map_of outport_cmp all.old) outport path.now) }
+    ensures holder { OnOk result (map_of outport_cmp all.new ≡ with_holder (map_of outport_cmp all.old) outport path.now) }
+    ensures err { OnErr result (all.new ≡ all.old) }
 {
     if all.contains_key(&outport) {
         return Ok(());

@@ -8,6 +8,9 @@ use fm_base::NoMemory;
 use std::alloc::Global;
 use std::collections::VecDeque;
 
+/// How much room of a queue is so much that not all of it is kept.
+const LARGE: usize = 65_536;
+
 /// The numbers of those that can step, in the order in which they are served, and a mark for each process
 /// that is among them.
 #[derive(Drop)]
@@ -86,6 +89,16 @@ fn take_out(numbers: &mut VecDeque<u32>, place: usize)
     }
 }
 
+// Half of the room goes where three quarters of it are empty, and it is much.
+fn fit(numbers: &mut VecDeque<u32>)
+    ensures { numbers.new.items ≡ numbers.old.items }
+{
+    let room = numbers.capacity();
+    if LARGE <= room && numbers.len() < room / 4 {
+        numbers.shrink_to(room / 2);
+    }
+}
+
 impl Queue {
     /// Nobody can step. Takes no memory.
     pub fn new(alloc: Global) -> Queue
@@ -124,7 +137,10 @@ impl Queue {
     {
         unmark(&mut self.marks, number);
         match place_of(&self.numbers, number) {
-            Some(place) => take_out(&mut self.numbers, place),
+            Some(place) => {
+                take_out(&mut self.numbers, place);
+                fit(&mut self.numbers);
+            }
             None => {}
         }
     }
@@ -153,10 +169,11 @@ impl Queue {
         self.numbers.truncate(count);
     }
 
-    /// There are so many processes, and who is new isn't in the queue.
+    /// There are so many processes, and who is new isn't in the queue. After want of memory nothing has changed.
     pub fn grow(&mut self, count: usize) -> Result<(), NoMemory>
         ensures numbers { self.new.numbers.items ≡ self.old.numbers.items }
         ensures marks { OnOk result ((before : ℕ) → before ≤ count → ((n : ℕ) → Among n self.old.numbers.items → n < before) → AreMarked before self.old.marks.items self.old.numbers.items → AreMarked count self.new.marks.items self.new.numbers.items) }
+        ensures stays { OnErr result (self.new.marks.items ≡ self.old.marks.items) }
     {
         self.marks.resize(count, false)?;
         Ok(())

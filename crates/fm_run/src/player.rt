@@ -36,6 +36,9 @@ const JOINED: Kind = Kind {
     joins: true,
 };
 
+/// How many numbers are so few that their room is kept.
+const SMALL: usize = 4_096;
+
 /// A run between two pieces.
 #[derive(Drop)]
 pub struct Player<N> {
@@ -44,13 +47,22 @@ pub struct Player<N> {
     /// For each process the number of the one that started it, and for main its own.
     pub parents: Vec<u32>,
     /// For each how many of the children that it waits for are known to have ended, from the first on.
-    pub ended: Vec<usize>,
+    pub ended: Vec<u32>,
     /// Those that can step.
     pub able: Queue,
     /// The cost in turns.
     pub used: u64,
     // room for the numbers of those that are asked behind a piece
     spare: Vec<u32>,
+}
+
+// The room of a list is kept for the next one, unless it is large.
+fn room_of(alloc: Global, numbers: Vec<u32>) -> Vec<u32> {
+    if numbers.len() <= SMALL {
+        numbers
+    } else {
+        Vec::new(alloc)
+    }
 }
 
 fn both(used: u64, cost: u64) -> Result<u64, NoMemory>
@@ -237,7 +249,7 @@ impl<N: Net> Player<N> {
             number,
             asked.as_slice(),
         )?;
-        self.spare = asked;
+        self.spare = room_of(alloc, asked);
         settle_own(&mut self.net, program, &mut self.able, number)
     }
 

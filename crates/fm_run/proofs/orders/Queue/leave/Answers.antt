@@ -11,13 +11,13 @@ pub returns-in-Some-clause-numbers : goal.returns-in-Some-clause-numbers
 returns-in-Some-clause-numbers c =
     let items = c.args.self.now.numbers.items in
     let at = subst (IsPlaceOf items c.args.number) c.in-Some.is c.place_of.ensures in
-    c.take_out.ensures.items ∙ removed items c.in-Some.place c.args.number at c.requires
+    (c.fit.ensures ∙ c.take_out.ensures.items) ∙ removed items c.in-Some.place c.args.number at c.requires
 
 pub returns-in-Some-clause-marks : goal.returns-in-Some-clause-marks
 returns-in-Some-clause-marks c = λ count before.
     let items = c.args.self.now.numbers.items in
     let at = subst (IsPlaceOf items c.args.number) c.in-Some.is c.place_of.ensures in
-    subst (λ (ns : List ℕ). AreMarked count c.unmark.new.marks.items ns) (sym (c.take_out.ensures.items ∙ removed items c.in-Some.place c.args.number at c.requires))
+    subst (λ (ns : List ℕ). AreMarked count c.unmark.new.marks.items ns) (sym ((c.fit.ensures ∙ c.take_out.ensures.items) ∙ removed items c.in-Some.place c.args.number at c.requires))
     (left_marked count c.args.self.now.marks.items c.unmark.new.marks.items items c.args.number before c.unmark.ensures.length c.unmark.ensures.marked)
 
 pub returns-in-None-clause-numbers : goal.returns-in-None-clause-numbers
