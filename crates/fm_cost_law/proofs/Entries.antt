@@ -41,8 +41,8 @@ use Rattle.fm_rules.specs.UnitTitles as titles
 use Rattle.fm_rules.specs.Units.{units_of}
 use Rattle.fm_rules.specs.declared.constants.Known.{Known}
 use Rattle.fm_rules.specs.declared.program.Program.{Program}
-use Rattle.fm_front.specs.Program.{IsCheckedOf}
-use Rattle.fm_front.specs.Verdict.{AreStatementsOf, IsBrokenCard, IsBrokenForm, IsBrokenLater}
+use Rattle.fm_verdict.specs.Program.{IsCheckedOf}
+use Rattle.fm_verdict.specs.Verdict.{AreStatementsOf, IsBrokenCard, IsBrokenForm, IsBrokenLater}
 use Rattle.fm_net.specs.Typed.{AllIn}
 use Rattle.fm_mean.specs.Names.{ProgramUnit, same_name, unit_at}
 use Rattle.fm_mean.proofs.FirstEntries.{new_there, or_then}

@@ -7,7 +7,7 @@ ghost use Rattle.std.specs.FinMap.{get};
 ghost use Rattle.fm_sched.specs.Schedule.{IsLegal, Throughout, play, used};
 ghost use Rattle.fm_net.specs.Machine.{Place, State};
 ghost use Rattle.fm_rules.specs.declared.program.Program.{Program};
-ghost use Rattle.fm_front.specs.Program.{IsCheckedOf};
+ghost use Rattle.fm_verdict.specs.Program.{IsCheckedOf};
 ghost use Rattle.fm_mean.specs.Actions.{action_of};
 ghost use Rattle.fm_mean.specs.Owed.{owed};
 ghost use Rattle.fm_mean.specs.Process.{Proc};

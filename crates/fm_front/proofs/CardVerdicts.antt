@@ -14,7 +14,8 @@ use Rattle.fm_stmt.specs.Checked.{IsStatementOf}
 use Rattle.fm_tree.specs.declared.program_unit.Placed.{Placed}
 use Rattle.fm_rules.specs.Program.{AreShaped}
 use Rattle.fm_front.proofs.Phases.{refused_first, then_next}
-use Rattle.fm_front.specs.Verdict.{AreStatementsOf, IsBroken, IsBrokenCard, IsBrokenForm, IsBrokenLater, IsVerdictOn, HasRead}
+use Rattle.fm_verdict.specs.Verdict.{AreStatementsOf, IsBroken, IsBrokenCard, IsBrokenForm, IsBrokenLater, IsVerdictOn}
+use Rattle.fm_front.specs.Reading.{HasRead}
 
 split : (cs : List Card) (c : Card) (q : Refusal) → IsBrokenCard (cs ++ c ∷ []) q → Either (IsBrokenCard cs) (card.IsBroken c) q
 split [] c q (inl b) = inr b

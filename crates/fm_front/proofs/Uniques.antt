@@ -22,8 +22,8 @@ use Rattle.fm_rules.specs.Broken.{IsBrokenStatement}
 use Rattle.fm_rules.specs.Program.{IsChecked}
 use Rattle.fm_front.proofs.CardVerdicts.{later_next}
 use Rattle.fm_front.proofs.OnePrograms as programs
-use Rattle.fm_front.specs.Verdict.{AreStatementsOf, IsBroken, IsBrokenForm, IsBrokenLater, IsVerdictOn}
-use Rattle.fm_front.specs.Program.{IsCheckedOf}
+use Rattle.fm_verdict.specs.Verdict.{AreStatementsOf, IsBroken, IsBrokenForm, IsBrokenLater, IsVerdictOn}
+use Rattle.fm_verdict.specs.Program.{IsCheckedOf}
 use Rattle.fm_front.specs.Laws.{OneVerdict, OneProgram, ProgramIsClean, ProgramOrRefusal}
 
 pub one_verdict : OneVerdict

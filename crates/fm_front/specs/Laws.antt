@@ -4,8 +4,8 @@ use Rattle.std.specs.Prelude.{◌≡◌, ℕ, Option, None, List}
 use Rattle.fm_base.specs.declared.rule.Refusal.{Refusal}
 use Rattle.fm_base.specs.Verdict.{IsLeast}
 use Rattle.fm_rules.specs.declared.program.Program.{Program}
-use Rattle.fm_front.specs.Verdict.{IsBroken, IsVerdictOn}
-use Rattle.fm_front.specs.Program.{IsCheckedOf}
+use Rattle.fm_verdict.specs.Verdict.{IsBroken, IsVerdictOn}
+use Rattle.fm_verdict.specs.Program.{IsCheckedOf}
 
 -- two verdicts on a source are one
 abbrev pub OneVerdict : Type 0

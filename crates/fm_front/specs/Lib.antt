@@ -1,3 +1,2 @@
-pub mod Verdict
-pub mod Program
+pub mod Reading
 pub mod Laws

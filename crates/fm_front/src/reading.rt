@@ -4,7 +4,8 @@ ghost use Rattle.std.specs.Prelude.{◌≤◌, ◌∷◌, ◌++◌, [], length, 
 ghost use Rattle.fm_base.specs.Verdict.{IsClean, IsRefusal};
 ghost use Rattle.fm_cards.specs.Cards.{cards_of};
 ghost use Rattle.fm_cards.specs.declared.card.Card.{Card};
-ghost use Rattle.fm_front.specs.Verdict.{AreStatementsOf, HasRead, IsBrokenForm};
+ghost use Rattle.fm_front.specs.Reading.{HasRead};
+ghost use Rattle.fm_verdict.specs.Verdict.{AreStatementsOf, IsBrokenForm};
 ghost use Rattle.fm_rules.specs.Program.{AreShaped};
 
 use fm_base::{CheckFail, NoMemory, Refusal, keep_earlier};

@@ -5,8 +5,8 @@ ghost use Rattle.fm_base.specs.Verdict.{IsClean, IsRefusal};
 ghost use Rattle.fm_cards.specs.Cards.{cards_of};
 ghost use Rattle.fm_rules.specs.Program.{AreShaped};
 ghost use Rattle.fm_front.specs.Laws.{OneProgram, OneVerdict, ProgramIsClean, ProgramOrRefusal};
-ghost use Rattle.fm_front.specs.Program.{IsCheckedOf};
-ghost use Rattle.fm_front.specs.Verdict.{AreStatementsOf, IsBroken, IsBrokenForm};
+ghost use Rattle.fm_verdict.specs.Program.{IsCheckedOf};
+ghost use Rattle.fm_verdict.specs.Verdict.{AreStatementsOf, IsBroken, IsBrokenForm};
 
 use crate::checking::check;
 use crate::reading::statements;

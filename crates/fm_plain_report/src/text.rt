@@ -2,7 +2,7 @@
 
 ghost use Rattle.std.specs.Prelude.{◌≡◌, ◌≤◌, length, IfOk, IfErr};
 ghost use Rattle.fm_base.specs.Verdict.{IsRefusal};
-ghost use Rattle.fm_front.specs.Verdict.{IsBroken};
+ghost use Rattle.fm_verdict.specs.Verdict.{IsBroken};
 ghost use Rattle.fm_plain_report.specs.Text.{IsTextOf, ending_text};
 
 use fm_base::{CheckFail, NoMemory};

@@ -34,8 +34,8 @@ use Rattle.fm_flow_law.specs.Flow.{IsFlowSafe, IsFlowVerdict}
 use Rattle.fm_flow_law.proofs.Promise.{safe_comes_to_its_end}
 use Rattle.fm_rules.specs.declared.program.Program.{Program}
 use Rattle.fm_rules.specs.Program.{IsChecked}
-use Rattle.fm_front.specs.Program.{IsCheckedOf}
-use Rattle.fm_front.specs.Verdict.{IsBroken, IsBrokenForm, AreStatementsOf}
+use Rattle.fm_verdict.specs.Program.{IsCheckedOf}
+use Rattle.fm_verdict.specs.Verdict.{IsBroken, IsBrokenForm, AreStatementsOf}
 use Rattle.fm_run.specs.Orders.{places_of}
 use Rattle.fm_run.specs.Runs.{EndsSo, Follows, IsRun}
 use Rattle.fm_run.specs.declared.run.Ending.{Ending}

@@ -17,7 +17,7 @@ use Rattle.fm_mean.specs.Steps.{first, step}
 use Rattle.fm_replay_law.specs.Entries.{AreSteps}
 use Rattle.fm_replay_law.proofs.OneList.{front_of, its_steps, one_list}
 use Rattle.fm_report.specs.Report.{report_text}
-use Rattle.fm_front.specs.Program.{IsCheckedOf}
+use Rattle.fm_verdict.specs.Program.{IsCheckedOf}
 use Rattle.fm_front.specs.Laws.{OneProgram, OneVerdict, ProgramOrRefusal}
 use Rattle.fm_trace.specs.Texts.{IsFirstMalformed, IsTraceText, history_of}
 use Rattle.fm_trace.specs.declared.trace.Trace.{Trace}

@@ -31,7 +31,7 @@ use Rattle.fm_table.proofs.Tables.{entry_at}
 use Rattle.fm_trace.specs.Texts.{IsEntry, IsFirstMalformed, IsTraceText, IsTraceable, each_time, entries_of, history_of, trace_of_history, trace_text}
 use Rattle.fm_trace.specs.declared.trace.Run as trace_run
 use Rattle.fm_trace.specs.declared.trace.Trace.{Trace}
-use Rattle.fm_front.specs.Program.{IsCheckedOf}
+use Rattle.fm_verdict.specs.Program.{IsCheckedOf}
 use Rattle.fm_base.specs.declared.rule.Refusal.{Refusal}
 use Rattle.fm_base.specs.Rules.{refusal_text}
 use Rattle.fm_trace.proofs.HistoryLaws.{history_again}

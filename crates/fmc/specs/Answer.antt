@@ -28,8 +28,8 @@ use Rattle.fm_rules.specs.Race.{IsRaceVerdict}
 use Rattle.fm_rules.specs.declared.program.Program.{Program}
 use Rattle.fm_rules.specs.Program.{IsChecked}
 use Rattle.fm_flow_law.specs.Flow.{IsFlowSafe, IsFlowVerdict}
-use Rattle.fm_front.specs.Verdict.{IsBroken, AreStatementsOf}
-use Rattle.fm_front.specs.Program.{IsCheckedOf}
+use Rattle.fm_verdict.specs.Verdict.{IsBroken, AreStatementsOf}
+use Rattle.fm_verdict.specs.Program.{IsCheckedOf}
 use Rattle.fm_run.specs.Runs.{HaveSteps, IsFrontWithin, Follows}
 use Rattle.fm_table.specs.Fair.{IsFair}
 use Rattle.fm_trace.specs.Texts.{IsFirstMalformed, IsTraceText, trace_of_history, trace_text}

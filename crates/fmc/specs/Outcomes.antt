@@ -12,7 +12,7 @@ use Rattle.fm_mean.specs.declared.outcome.Outcome.{Outcome}
 use Rattle.fm_mean.specs.Process.{Proc}
 use Rattle.fm_mean.specs.Steps.{step, first}
 use Rattle.fm_rules.specs.declared.program.Program.{Program}
-use Rattle.fm_front.specs.Verdict.{IsBroken}
+use Rattle.fm_verdict.specs.Verdict.{IsBroken}
 use Rattle.fmc.specs.declared.answer.Exit.{Exit}
 use Rattle.fmc.specs.declared.answer.Exit.TheVariants.{Done, Faulted, Deadlocked}
 

@@ -12,7 +12,7 @@ use Rattle.fm_mean.specs.Outcome.{outcome_of}
 use Rattle.fm_mean.specs.Steps.{language, step, first}
 use Rattle.fm_replay_law.specs.Entries.{AreSteps}
 use Rattle.fm_report.specs.Report.{report_text, spent_text}
-use Rattle.fm_front.specs.Program.{IsCheckedOf}
+use Rattle.fm_verdict.specs.Program.{IsCheckedOf}
 use Rattle.fm_trace.specs.Texts.{IsFirstMalformed, IsTraceText, history_of}
 use Rattle.fm_trace.specs.declared.trace.Trace.{Trace}
 use Rattle.fm_table.specs.Told.{IsKept, Told, cost_of as told_cost, stand_of, told_at}

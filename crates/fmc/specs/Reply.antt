@@ -9,7 +9,7 @@ use Rattle.fm_run.specs.Orders.{places_of}
 use Rattle.fm_rules.specs.declared.program.Program.{Program}
 use Rattle.fm_mean.specs.Determinism.{IsDeterministic}
 use Rattle.fm_flow_law.specs.Flow.{IsFlowVerdict}
-use Rattle.fm_front.specs.Program.{IsCheckedOf}
+use Rattle.fm_verdict.specs.Program.{IsCheckedOf}
 use Rattle.fm_run.specs.Runs.{Follows, IsRun}
 use Rattle.fm_run.specs.declared.run.Run as run
 use Rattle.fm_run.specs.declared.run.Ending.{Ending}

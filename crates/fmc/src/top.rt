@@ -7,7 +7,7 @@ ghost use Rattle.fm_base.specs.Verdict.{IsRefusal};
 ghost use Rattle.fm_io.specs.Causes.{Rose};
 ghost use Rattle.fm_io.specs.Streams.{WritesFront};
 ghost use Rattle.fm_front.specs.Laws.{OneVerdict};
-ghost use Rattle.fm_front.specs.Verdict.{IsBroken};
+ghost use Rattle.fm_verdict.specs.Verdict.{IsBroken};
 ghost use Rattle.fm_words.specs.Words.{command_of};
 ghost use Rattle.fm_words.specs.declared.command.Command.{Command};
 ghost use Rattle.fm_words.specs.declared.command.Command.TheVariants as command;

@@ -1,5 +1,5 @@
 use Rattle.std.proofs.Common.{take}
-use Rattle.fm_front.specs.Verdict.{HasRead}
+use Rattle.fm_front.specs.Reading.{HasRead}
 use Rattle.fm_front.proofs.reading.read_cards.Given as goal
 
 abbrev pub invariant-loop-card : goal.invariant-loop-card

@@ -1,8 +1,8 @@
 use Rattle.std.proofs.Common.{ℕ, List, length, ap, sym, subst, ◌∙◌, arith}
 use Rattle.std.proofs.lemmas.Bool.{ltb-false, ltb-true}
 use Rattle.fm_base.specs.Verdict.{IsRefusal}
-use Rattle.fm_front.specs.Program.{IsCheckedOf}
-use Rattle.fm_front.specs.Verdict.{IsBroken}
+use Rattle.fm_verdict.specs.Program.{IsCheckedOf}
+use Rattle.fm_verdict.specs.Verdict.{IsBroken}
 use Rattle.fmc.specs.Outcomes.{source_limit}
 use Rattle.fmc.proofs.AnswerLaws.{both_ok}
 use Rattle.fmc.proofs.ReplayLaws.{refused_by_replay, replied, too_long_by_replay}

@@ -1,6 +1,6 @@
 use Rattle.std.proofs.Common.{subst}
 use Rattle.fm_base.specs.Verdict.{IsRefusal}
-use Rattle.fm_front.specs.Verdict.{IsBroken}
+use Rattle.fm_verdict.specs.Verdict.{IsBroken}
 use Rattle.fmc.proofs.AnswerLaws.{both_ok, refused_by_trace}
 use Rattle.fmc.proofs.response.try_trace.Goals as goal
 

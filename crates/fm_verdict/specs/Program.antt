@@ -5,7 +5,7 @@ use Rattle.fm_cards.specs.Cards.{cards_of}
 use Rattle.fm_tree.specs.declared.program_unit.Placed.{Placed}
 use Rattle.fm_rules.specs.declared.program.Program.{Program}
 use Rattle.fm_rules.specs.Program.{IsChecked}
-use Rattle.fm_front.specs.Verdict.{AreStatementsOf, IsVerdictOn}
+use Rattle.fm_verdict.specs.Verdict.{AreStatementsOf, IsVerdictOn}
 
 -- the program of the statements of a source that breaks no rule, with its units and names
 pub record IsCheckedOf (source : List ℕ) (p : Program) : Type 0 where

@@ -1,6 +1,6 @@
 -- The statements of a source, and the least rule that the source breaks.
 -- Source: this profile.
-use Rattle.std.specs.Prelude.{◌≡◌, ℕ, Option, None, List, [], ◌∷◌}
+use Rattle.std.specs.Prelude.{ℕ, Option, List, [], ◌∷◌}
 use Rattle.fm_base.specs.declared.rule.Refusal.{Refusal}
 use Rattle.fm_base.specs.Verdict.{Either, IsVerdict}
 use Rattle.fm_cards.specs.Broken as cards
@@ -38,8 +38,3 @@ IsBroken source = Then (IsBrokenForm source) (IsBrokenLater source)
 -- the verdict on a source: the least rule that is broken, or none
 abbrev pub IsVerdictOn : List ℕ → Option Refusal → Type 0
 IsVerdictOn source v = IsVerdict (IsBroken source) v
-
--- what is known of cards that were read: their statements, where no rule is broken, and the verdict on them
-pub record HasRead (cs : List Card) (ps : List Placed) (best : Option Refusal) : Type 0 where
-  pub read : best ≡ None → AreStatementsOf cs ps
-  pub verdict : IsVerdict (IsBrokenCard cs) best
