@@ -17,7 +17,7 @@ import re
 import sys
 
 TOP = os.path.dirname(os.path.dirname(os.path.abspath(__file__)))
-FILES = re.compile(r"\b(fm_\w+|fmc)/specs/([A-Z]\w*(?:, [A-Z]\w*)*)")
+FILES = re.compile(r"\b(fm_\w+|fmc(?:_\w+)?)/specs/([A-Z]\w*(?:, [A-Z]\w*)*)")
 CRATE = re.compile(r"\bfm_[a-z_]*[a-z]\b")
 NAME = re.compile(r"\bfm(?:c(?:_[a-z]+)?|_[a-z_]*[a-z])\b")
 WORD = re.compile(r"`([^`]+)`")

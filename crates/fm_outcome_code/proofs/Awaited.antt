@@ -6,7 +6,7 @@ use Rattle.fm_net.specs.Machine.{Place, Procs, child}
 use Rattle.fm_proc_language.specs.Processes.{CodeProc}
 use Rattle.fm_procs.specs.Kept.{AreChildren}
 use Rattle.fm_procs.specs.Waiting as stacks
-use Rattle.fm_proc_simulation.specs.Shown.{awaited, ended_at}
+use Rattle.fm_outcome_code.specs.Shown.{awaited, ended_at}
 
 pub same_ended : (o : Option CodeProc) → stacks.ended_at o ≡ ended_at o
 same_ended None = refl

@@ -24,7 +24,7 @@ use Rattle.fm_code.specs.declared.body.Body.{Body}
 use Rattle.fm_proc_language.specs.Needs.{need_in}
 use Rattle.fm_proc_language.specs.Processes.{CodeProc, Phase, Running, Joining, Ended, Faulted, asks_by, has_ended, held_by, is_ended}
 use Rattle.fm_proc_language.specs.Slots.{Slots}
-use Rattle.fm_proc_simulation.specs.Shown.{fault_at, fault_in, holder_path, holdings_at, line_in, lines_at, wait_at, waits_by}
+use Rattle.fm_outcome_code.specs.Shown.{fault_at, fault_in, holder_path, holdings_at, line_in, lines_at, wait_at, waits_by}
 use Rattle.fm_procs.specs.declared.entries.Entries.{Entries}
 use Rattle.fm_procs.specs.declared.entries.Entry.{Entry}
 use Rattle.fm_procs.specs.Kept.{AreKept, HasFamily, IsTold}

@@ -22,7 +22,7 @@ use Rattle.fm_procs.specs.declared.entries.Entry.{Entry}
 use Rattle.fm_procs.specs.Kept.{IsTold}
 use Rattle.fm_procs.specs.Readings.{proc_in}
 use Rattle.fm_procs.specs.Waiting.{inport_in}
-use Rattle.fm_proc_simulation.specs.Shown.{line_in, wait_at, waits_by}
+use Rattle.fm_outcome_code.specs.Shown.{line_in, wait_at, waits_by}
 use Rattle.fm_outcome_code.specs.Waits.{joined_by, received_by, told_by}
 
 module _ (m : Procs CodeProc) (q : Place) (y : CodeProc) (b : Body) where

@@ -5,7 +5,7 @@ use Rattle.std.specs.Prelude.{reverse, slice_get}
 use Rattle.fm_rules.specs.declared.program.Program.{Program}
 use Rattle.fm_code.specs.declared.body.Frame.{Frame}
 use Rattle.fm_proc_language.specs.Slots.{Slots}
-use Rattle.fm_proc_simulation.specs.Shown.{frame_shown, own_variables}
+use Rattle.fm_outcome_code.specs.Shown.{frame_shown, own_variables}
 use Rattle.fm_outcome_code.specs.Variables.{own_frame}
 
 -- the first of a list that has a last one

@@ -21,8 +21,8 @@ use Rattle.fm_procs.specs.Pieces.{IsNewAlong, IsNewAt}
 use Rattle.fm_procs.specs.Readings.{code_step}
 use Rattle.fm_run.specs.declared.net.Piece.{Piece}
 use Rattle.fm_run.specs.Pieces as run
-use Rattle.fm_proc_simulation.specs.Corresponds.{Corresponds, IsLive}
-use Rattle.fm_proc_simulation.proofs.Asking.{needs_alike}
+use Rattle.fm_outcome_code.specs.Corresponds.{Corresponds, IsLive}
+use Rattle.fm_outcome_code.proofs.Asking.{needs_alike}
 use Rattle.fm_outcome_code.proofs.Standing.{back_alike, legal_alike, legal_part, local_at_alike, nobody_alike, price_alike, stands_after, starts_alike, waits_alike}
 
 module _ (p : Program) (s : State Proc) (t : State CodeProc) (stands : StandsFor (Corresponds p) (IsLive p) t s) (q : Place) where

@@ -19,10 +19,10 @@ use Rattle.fm_procs.specs.Readings.{order_of, state_of}
 use Rattle.fm_run.specs.declared.net.Piece.{Piece}
 use Rattle.fm_run.specs.Pieces as run
 use Rattle.fm_net.specs.Owned.{main_alone}
-use Rattle.fm_proc_simulation.specs.Corresponds.{Corresponds, IsLive}
-use Rattle.fm_proc_simulation.specs.Shown.{first_process}
-use Rattle.fm_proc_simulation.proofs.Alike.{machines_alike}
-use Rattle.fm_proc_simulation.proofs.First.{first_alike}
+use Rattle.fm_outcome_code.specs.Corresponds.{Corresponds, IsLive}
+use Rattle.fm_outcome_code.specs.Shown.{first_process}
+use Rattle.fm_outcome_code.proofs.Alike.{machines_alike}
+use Rattle.fm_outcome_code.proofs.FirstAlike.{first_alike}
 use Rattle.fm_mean.specs.Steps.{first_proc}
 use Rattle.fm_outcome_code.specs.Played.{played}
 use Rattle.fm_outcome_code.specs.Sound.{IsSound}

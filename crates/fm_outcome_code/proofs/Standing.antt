@@ -16,9 +16,9 @@ use Rattle.fm_procs.specs.Readings.{code_step}
 use Rattle.fm_procs.specs.Waiting as code_waiting
 use Rattle.fm_run.specs.Orders as run_orders
 use Rattle.fm_run.specs.Pieces as run
-use Rattle.fm_proc_simulation.specs.Corresponds.{Corresponds, IsLive}
-use Rattle.fm_proc_simulation.proofs.Alike.{correspondence, machines_alike}
-use Rattle.fm_proc_simulation.proofs.Asking.{local_alike}
+use Rattle.fm_outcome_code.specs.Corresponds.{Corresponds, IsLive}
+use Rattle.fm_outcome_code.proofs.Alike.{correspondence, machines_alike}
+use Rattle.fm_outcome_code.proofs.Asking.{local_alike}
 
 -- fewer steps of one actor are legal where more are
 pub legal_part : {S A : Type 0} (step : Step S A) (s : S) (q : A) (n k : ℕ) → k ≤ n → IsLegal step s (replicate n q) → IsLegal step s (replicate k q)

@@ -18,8 +18,8 @@ use Rattle.fm_proc_language.specs.Processes.{CodeProc}
 use Rattle.fm_procs.specs.Waiting as code
 use Rattle.fm_procs.specs.Waiting.{channel_needed, channel_waited}
 use Rattle.fm_run.specs.Noted as run
-use Rattle.fm_proc_simulation.specs.Corresponds.{Corresponds, IsLive}
-use Rattle.fm_proc_simulation.proofs.Asking.{needs_alike}
+use Rattle.fm_outcome_code.specs.Corresponds.{Corresponds, IsLive}
+use Rattle.fm_outcome_code.proofs.Asking.{needs_alike}
 
 module _ (p : Program) (s : State Proc) (t : State CodeProc) (stands : StandsFor (Corresponds p) (IsLive p) t s) (q : Place) (x : Proc) (is : get s.procs q ≡ Some x) (y : CodeProc) (same : Corresponds p y x) where
   one_need : need_of y ≡ mean.need_of p x

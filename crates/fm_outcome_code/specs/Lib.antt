@@ -5,3 +5,9 @@ pub mod Waits
 pub mod Variables
 pub mod Holding
 pub mod Given
+pub mod Corresponds
+pub mod Here
+pub mod Shown
+pub mod SlotWords
+pub mod Joining
+pub mod Matching

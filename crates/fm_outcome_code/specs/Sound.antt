@@ -9,7 +9,7 @@ use Rattle.fm_rules.specs.declared.program.Program.{Program}
 use Rattle.fm_procs.specs.declared.code_procs.CodeProcs.{CodeProcs}
 use Rattle.fm_procs.specs.Kept.{AreKept}
 use Rattle.fm_procs.specs.Readings.{order_of, state_of}
-use Rattle.fm_proc_simulation.specs.Corresponds.{Corresponds, IsLive}
+use Rattle.fm_outcome_code.specs.Corresponds.{Corresponds, IsLive}
 use Rattle.fm_outcome_code.specs.Played.{played}
 
 -- what each process does next is told; each piece is of a process; and processes and channels stand for those of the state of the

@@ -11,7 +11,7 @@ use Rattle.fm_machine_calls.specs.declared.looking.Look.TheVariants as look
 use Rattle.fm_proc_language.specs.Slots.{Slots, in_slot}
 use Rattle.fm_proc_language.specs.Processes.{CodeProc, Phase, Running, Joining, Ended, Faulted}
 use Rattle.fm_procs.specs.Waiting.{inport_in, is_join}
-use Rattle.fm_proc_simulation.specs.Shown.{awaited}
+use Rattle.fm_outcome_code.specs.Shown.{awaited}
 
 -- a message of the channel of an inport
 abbrev pub received_by : Slots → Ask → Option At

@@ -9,7 +9,7 @@ ghost use Rattle.fm_code.specs.Statements.{new_frame};
 ghost use Rattle.fm_proc_events.specs.Phases.{proc_of};
 ghost use Rattle.fm_procs.specs.Kept.{AreKept, IsTold};
 ghost use Rattle.fm_procs.specs.Readings.{order_of, proc_in, state_of};
-ghost use Rattle.fm_proc_simulation.specs.Shown.{first_process};
+ghost use Rattle.fm_outcome_code.specs.Shown.{first_process};
 
 use fm_base::{Machine, NoMemory, Path, Seq};
 use fm_code::{Body, Code, Frame, Pile, Unit};

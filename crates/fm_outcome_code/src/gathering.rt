@@ -7,7 +7,7 @@ ghost use Rattle.fm_finmap.specs.Rows.{place_at};
 ghost use Rattle.fm_proc_events.specs.Phases.{phase_of};
 ghost use Rattle.fm_procs.specs.Kept.{AreKept, HasFamily, IsTold};
 ghost use Rattle.fm_procs.specs.Readings.{order_of, proc_in, procs_of, state_of};
-ghost use Rattle.fm_proc_simulation.specs.Shown.{lines_at, fault_at, fault_in, wait_at, outcome_by};
+ghost use Rattle.fm_outcome_code.specs.Shown.{lines_at, fault_at, fault_in, wait_at, outcome_by};
 
 use crate::holders::holders_of;
 use crate::rows::{Part, in_path_order};

@@ -9,7 +9,7 @@ ghost use Rattle.fm_proc_language.specs.Slots.{port_in};
 ghost use Rattle.fm_proc_language.specs.Processes.{body_words, held};
 ghost use Rattle.fm_proc_events.specs.Phases.{proc_of};
 ghost use Rattle.fm_procs.specs.Readings.{proc_in, procs_of, state_of};
-ghost use Rattle.fm_proc_simulation.specs.Shown.{holder_path, holders_by, holdings, holdings_at};
+ghost use Rattle.fm_outcome_code.specs.Shown.{holder_path, holders_by, holdings, holdings_at};
 ghost use Rattle.fm_run.specs.Gathered.{with_held, with_holders};
 ghost use Rattle.fm_outcome_code.specs.Holding.{outport_in, words_held};
 

@@ -1,8 +1,9 @@
 //! The net that the runner plays (`fm_run::Net`), over stack code: the code of a program is generated once, and its processes run it.
 //!
 //! Contracts see the state of the meaning to which the pieces lead (`played`). Processes and channels of stack code stand for those
-//! of that state (`IsSound`): by the laws of `fm_proc_simulation` a piece of stack code is a piece of the meaning, who can step there can step
-//! here, and both show the same.
+//! of that state (`IsSound`): processes of stack code do what those of the meaning do and show
+//! the same (`machines_are_alike`, `processes_are_alike`), so a piece of stack code is a piece of the meaning, and who can step
+//! there can step here.
 //!
 //! What a run of stack code shows.
 //!
@@ -14,8 +15,10 @@ mod compiled;
 mod first;
 mod gathering;
 mod holders;
+mod laws;
 mod rows;
 mod variables;
 mod waits;
 
 pub use compiled::Compiled;
+pub use laws::{machines_are_alike, processes_are_alike};

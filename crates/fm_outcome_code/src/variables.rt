@@ -9,7 +9,7 @@ ghost use Rattle.fm_mean.specs.Outcome.{shown_by, shown_variables};
 ghost use Rattle.fm_gen_relation.specs.Standing.{item_in, port_by, values_in};
 ghost use Rattle.fm_proc_language.specs.Slots.{no_port, port_in};
 ghost use Rattle.fm_proc_events.specs.Phases.{proc_of};
-ghost use Rattle.fm_proc_simulation.specs.Shown.{body_shown, frame_shown, shown_all};
+ghost use Rattle.fm_outcome_code.specs.Shown.{body_shown, frame_shown, shown_all};
 ghost use Rattle.fm_outcome_code.specs.Variables.{own_frame};
 
 use fm_base::{ChanName, NoMemory, Path, Seq};

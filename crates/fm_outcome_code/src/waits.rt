@@ -8,7 +8,7 @@ ghost use Rattle.fm_proc_language.specs.Slots.{in_slot};
 ghost use Rattle.fm_procs.specs.Kept.{AreChildren, HasFamily, IsTold};
 ghost use Rattle.fm_procs.specs.Readings.{order_of, proc_in, procs_of};
 ghost use Rattle.fm_procs.specs.Waiting.{inport_in};
-ghost use Rattle.fm_proc_simulation.specs.Shown.{awaited, line_in, wait_at};
+ghost use Rattle.fm_outcome_code.specs.Shown.{awaited, line_in, wait_at};
 ghost use Rattle.fm_outcome_code.specs.Waits.{received_by, joined_by, asked_by, told_by};
 
 use fm_base::{Line, NoMemory, Path};

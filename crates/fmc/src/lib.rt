@@ -1,8 +1,10 @@
 //! Checks and runs Fortran M programs. The call of the program is `fmc`, whose runs are played by workers of the caller's;
-//! `play_choices` runs a source under a schedule of the caller's.
+//! `play_choices` runs a source under a schedule of the caller's. `words` and `exit_of_call` are what each program does that makes
+//! this call.
 #![tactic(auto)]
 
 mod answer;
+mod call;
 mod laws;
 mod listing;
 mod playing;
@@ -12,5 +14,6 @@ mod response;
 mod top;
 
 pub use answer::{Exit, Ran};
+pub use call::{exit_of_call, words};
 pub use laws::replay_has_one_answer;
 pub use top::{fmc, one_verdict, play_choices, replay_tells_the_run};

@@ -6,7 +6,7 @@ use fm_io::{StdSink, StdSource};
 use fm_pool::Pool;
 use fm_team::Team;
 use fm_workers::Plain;
-use fmc_call::{exit_of, words};
+use fmc::{exit_of_call, words};
 use std::process::ExitCode;
 
 fn main(rt: HostRuntime) -> ExitCode {
@@ -18,6 +18,6 @@ fn main(rt: HostRuntime) -> ExitCode {
     let team = Team {
         pool: Pool { gate, rt, alloc },
     };
-    let exit = exit_of(alloc, words, &mut source, &mut sink, &team);
+    let exit = exit_of_call(alloc, words, &mut source, &mut sink, &team);
     ExitCode::from(exit.status())
 }

@@ -7,7 +7,7 @@ use crate::team::HubTeam;
 use fm_hub_pool::HubPool;
 use fm_io::{StdSink, StdSource};
 use fm_workers::Plain;
-use fmc_call::{exit_of, words};
+use fmc::{exit_of_call, words};
 use std::process::ExitCode;
 
 fn main(rt: HostRuntime) -> ExitCode {
@@ -19,6 +19,6 @@ fn main(rt: HostRuntime) -> ExitCode {
     let team = HubTeam {
         pool: HubPool { gate, rt, alloc },
     };
-    let exit = exit_of(alloc, words, &mut source, &mut sink, &team);
+    let exit = exit_of_call(alloc, words, &mut source, &mut sink, &team);
     ExitCode::from(exit.status())
 }

@@ -32,6 +32,8 @@ mod schedules;
 #[cfg(test)]
 mod traces;
 #[cfg(test)]
+mod tree_run;
+#[cfg(test)]
 mod trees;
 #[cfg(test)]
 mod words;

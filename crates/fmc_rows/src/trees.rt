@@ -3,8 +3,8 @@
 ghost use Rattle.std.specs.Prelude.{◌≤◌};
 
 use crate::answers::answer;
+use crate::tree_run::tree_text;
 use crate::{examples, language, programs};
-use fm_plain_report::tree_text;
 use fmc::Exit;
 use std::alloc::Global;
 use std::test::Fail;

@@ -1,4 +1,4 @@
-use Rattle.fm_outcome_code.proofs.Beginning.{process_made}
+use Rattle.fm_outcome_code.proofs.FirstProcess.{process_made}
 use Rattle.fm_outcome_code.proofs.first.first_process.Goals as goal
 
 pub returns : goal.returns

@@ -7,7 +7,7 @@ use Rattle.fm_proc_language.specs.Processes.{CodeProc}
 use Rattle.fm_procs.specs.Readings.{order_of, proc_in}
 use Rattle.fm_procs.proofs.Families.{families_but, runs_alone}
 use Rattle.fm_procs.proofs.Maps.{told_but, told_own}
-use Rattle.fm_outcome_code.proofs.Entries.{all_families}
+use Rattle.fm_outcome_code.proofs.KeptByPath.{all_families}
 use Rattle.fm_outcome_code.proofs.first.first_stacks.Goals as goal
 
 pub push-requires : goal.push-requires

@@ -6,7 +6,7 @@ use Rattle.fm_net.specs.Machine.{Place}
 use Rattle.fm_proc_language.specs.Processes.{CodeProc}
 use Rattle.fm_procs.specs.declared.entries.Entry.{Entry}
 use Rattle.fm_procs.specs.Readings.{proc_in, procs_of}
-use Rattle.fm_proc_simulation.specs.Shown.{lines_at, fault_at, wait_at}
+use Rattle.fm_outcome_code.specs.Shown.{lines_at, fault_at, wait_at}
 use Rattle.fm_outcome_code.specs.declared.rows.Part.TheVariants as part
 use Rattle.fm_outcome_code.proofs.Listed.{entries_all, entries_more, entries_of, flat_more, no_fault, no_lines, no_wait, row_listed}
 use Rattle.fm_outcome_code.proofs.gathering.gather.Goals as goal

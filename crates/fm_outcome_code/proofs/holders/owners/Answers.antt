@@ -8,7 +8,7 @@ use Rattle.fm_mean.specs.Outports.{outport_cmp}
 use Rattle.fm_proc_language.specs.Processes.{CodeProc}
 use Rattle.fm_procs.specs.declared.entries.Entry.{Entry}
 use Rattle.fm_procs.specs.Readings.{proc_in, procs_of}
-use Rattle.fm_proc_simulation.specs.Shown.{holdings, holdings_at}
+use Rattle.fm_outcome_code.specs.Shown.{holdings, holdings_at}
 use Rattle.fm_run.specs.Gathered.{Owners, with_holders}
 use Rattle.fm_run.proofs.Holding.{from_none, with_both}
 use Rattle.fm_outcome_code.specs.declared.rows.Part.TheVariants as part

@@ -1,7 +1,7 @@
 use Rattle.std.proofs.Common.{ap, sym, ◌∙◌}
 use Rattle.std.proofs.lemmas.Result.{IfOk-weaker}
 use Rattle.fm_code.specs.declared.body.Frame.{Frame}
-use Rattle.fm_proc_simulation.specs.Shown.{body_shown, frame_shown}
+use Rattle.fm_outcome_code.specs.Shown.{body_shown, frame_shown}
 use Rattle.fm_outcome_code.proofs.Own.{own_shown}
 use Rattle.fm_outcome_code.proofs.variables.shown_in.Goals as goal
 

@@ -3,7 +3,7 @@ use Rattle.std.proofs.lemmas.Result.{IfOk-weaker}
 use Rattle.fm_net.specs.Machine.{child}
 use Rattle.std.specs.FinMap.{get}
 use Rattle.fm_procs.specs.Readings.{order_of, procs_of}
-use Rattle.fm_proc_simulation.specs.Shown.{awaited}
+use Rattle.fm_outcome_code.specs.Shown.{awaited}
 use Rattle.fm_outcome_code.proofs.Awaited.{awaited_here, awaited_more, child_number, same_ended}
 use Rattle.fm_outcome_code.proofs.waits.awaited.Goals as goal
 

@@ -2,7 +2,7 @@ use Rattle.std.proofs.Common.{◌≡◌, ◌+◌, ◌-◌, ℕ}
 use Rattle.fm_net.specs.Machine.{Place}
 use Rattle.fm_procs.specs.Kept.{AreChildren}
 use Rattle.fm_procs.specs.Readings.{order_of, procs_of}
-use Rattle.fm_proc_simulation.specs.Shown.{awaited}
+use Rattle.fm_outcome_code.specs.Shown.{awaited}
 use Rattle.fm_outcome_code.proofs.waits.awaited.Given as goal
 
 abbrev pub invariant-children : goal.invariant-children

@@ -1,7 +1,7 @@
 use Rattle.std.proofs.Common.{ap, refl, sym, ◌∙◌}
 use Rattle.fm_proc_events.specs.declared.process.Process.{Process}
 use Rattle.fm_procs.specs.Readings.{procs_of}
-use Rattle.fm_proc_simulation.specs.Shown.{line_in}
+use Rattle.fm_outcome_code.specs.Shown.{line_in}
 use Rattle.fm_outcome_code.proofs.Needed.{wait_more, wait_none}
 use Rattle.fm_outcome_code.proofs.waits.push_wait.Goals as goal
 

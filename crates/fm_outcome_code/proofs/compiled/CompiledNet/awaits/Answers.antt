@@ -6,7 +6,7 @@ use Rattle.fm_run.proofs.Able.{some_there}
 use Rattle.fm_run.proofs.Playing.{known_place}
 use Rattle.fm_procs.specs.Readings.{order_of, state_of}
 use Rattle.fm_outcome_code.specs.Played.{played}
-use Rattle.fm_outcome_code.proofs.Entries.{standing}
+use Rattle.fm_outcome_code.proofs.KeptByPath.{standing}
 use Rattle.fm_outcome_code.proofs.Awaiting.{all_counted_on}
 use Rattle.fm_outcome_code.proofs.Standing.{steps_alike}
 use Rattle.fm_outcome_code.proofs.compiled.CompiledNet.awaits.Goals as goal

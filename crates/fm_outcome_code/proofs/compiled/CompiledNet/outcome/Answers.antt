@@ -2,7 +2,7 @@ use Rattle.std.proofs.Common.{◌≡◌, subst}
 use Rattle.std.specs.Prelude.{IfOk}
 use Rattle.fm_mean.specs.declared.outcome.Outcome.{Outcome}
 use Rattle.fm_procs.specs.Readings.{order_of, state_of}
-use Rattle.fm_proc_simulation.proofs.Shows.{shows_alike}
+use Rattle.fm_outcome_code.proofs.Shows.{shows_alike}
 use Rattle.fm_outcome_code.specs.Played.{played}
 use Rattle.fm_outcome_code.proofs.compiled.CompiledNet.outcome.Goals as goal
 
