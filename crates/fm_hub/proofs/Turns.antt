@@ -1,24 +1,25 @@
 -- Each step of a seat keeps the rule.
-use Rattle.std.proofs.Common.{◌≡◌, ◌≢◌, ◌⊎◌, ℕ, zero, suc, ◌+◌, ◌*◌, ◌%◌, ◌^◌, ◌<◌, ◌≤◌, List, [], ◌∷◌, ◌++◌, length, map, get_or, set, drop, take, leb, cond, true, false, Bool, sym, refl, ap, ◌∙◌, subst, subst₂, inl, inr, ⊎_elim, append_assoc, length-append, length-set, All, Option, Some, None, slice_get, slice_index, bit_or, arith, is_some, Result, Ok, Err, IfOk, OnErr, length-take, take_all, take-append-drop, true≢false}
+use Rattle.std.proofs.Common.{◌≡◌, ◌≢◌, ◌⊎◌, ℕ, zero, suc, ◌+◌, ◌*◌, ◌%◌, ◌^◌, ◌<◌, ◌≤◌, List, [], ◌∷◌, ◌++◌, length, map, get_or, set, drop, leb, cond, true, false, Bool, sym, refl, ap, ◌∙◌, subst, subst₂, inl, inr, ⊎_elim, length-append, length-set, All, Option, Some, None, slice_get, slice_index, bit_or, arith, is_some, Result, Ok, Err, IfOk, OnErr, length-take, length-drop, take_all, take-append-drop, true≢false}
 use Rattle.std.specs.List.{enumerate_from}
 use Rattle.std.specs.List.Sorted.{IsStrictlyIncreasing}
 use mathlib.Core.Option.{Option as Maybe, some, none, some-injective, some-ne-none}
 use mathlib.Core.List.{IsPrefix}
 use lib.ListN.{get_elem?}
 use Rattle.std.proofs.lemmas.List.Elements.{All-append, All-weaker, All-nil}
-use Rattle.std.proofs.lemmas.List.{map-append, take-append-le}
+use Rattle.std.proofs.lemmas.List.{map-append, take-append-le, drop-append-le}
 use Rattle.std.proofs.lemmas.Bool.Decides.{nat_tests}
-use Rattle.atomic_table.specs.Table.{State, Me, Act, keeps, takes, gives, Step, step, Valid, stepped, homes_after, carried_after, Allows, Splits, Joins, rest, opening, Final, Seen}
-use Rattle.atomic_table.proofs.Lists.{at_set, at_snoc, set_here, set_else}
+use Rattle.atomic_table.specs.Table.{State, Act, keeps, takes, gives, Step, step, Valid, homes_after, carried_after, Allows, Splits, Joins, rest, opening, Final, Seen}
+use Rattle.atomic_table.proofs.Lists.{at_set, set_here}
 use Rattle.fm_base.specs.declared.schedule.Turn.{Turn}
 use Rattle.fm_hub.specs.declared.view.SeatView.{SeatView}
 use Rattle.fm_workers.specs.declared.shared.Given.{Given}
 use Rattle.fm_workers.specs.declared.shared.Given.TheVariants.{Played, Stranger, Over}
-use Rattle.fm_workers.specs.Histories.{entry, IsGiven}
+use Rattle.fm_workers.specs.Histories.{entry, HasGrown, IsGiven}
 use Rattle.fm_hub.specs.Histories.{start_in, Began}
-use Rattle.fm_hub.specs.Rules.{view, newcomer, tried, holding, freed, longer, shorter, joined, untold, Fits, HoldsAt, IsFree, IsTaken, SeatRule, Seated, Wins, Tries, Frees, Compares}
+use Rattle.fm_hub.specs.Hubs.{HasMade}
+use Rattle.fm_hub.specs.Rules.{view, newcomer, tried, holding, added_since, freed, longer, shorter, joined, untold, Fits, HoldsAt, IsFree, IsTaken, SeatRule, Seated, Tries, Frees, Compares}
 use Rattle.fm_hub.proofs.Prefixes.{prefix_self, prefix_trans, prefix_shorter, prefix_length, prefix_get}
-use Rattle.fm_hub.proofs.Places.{increasing-append, enumerate_rises, enumerate_starts, enumerate_stands, or_even, or_odd}
+use Rattle.fm_hub.proofs.Places.{increasing-append, enumerate_rises, enumerate_starts, enumerate_stands, enumerate_more, or_even, or_odd}
 
 abbrev Each : (ℕ → SeatView → Type 0) → List SeatView → Type 0
 Each F views = (id : ℕ) (v : SeatView) → get_elem? views id ≡ some v → F id v
@@ -132,10 +133,15 @@ began_more held log more b = let n : ℕ = length (start_in held) in let e = ap 
 pub began_here : (log : List Turn) → Began (Some log) log
 began_here log = (refl, take_all (length log) log (omega arith))
 
+-- a history that has grown begins as it did
+pub began_grown : (held : Option (List Turn)) (old new : List Turn) → Began held old → HasGrown old new → Began held new
+began_grown held old new b is = ⊎_elim (λ (same : new ≡ old). subst (Began held) (sym same) b)
+    (λ (more : (t : Turn) × (new ≡ old ++ t ∷ [])). subst (Began held) (sym more.1) (began_more held old (more.0 ∷ []) b)) is
+
 -- a history that is given to begins as it did
 pub began_given : (held : Option (List Turn)) (g : Given) (process : ℕ) (old new : List Turn) → Began held old → IsGiven g process old new → Began held new
-began_given held Played process old new b is = ⊎_elim (λ (same : new ≡ old). subst (Began held) (sym same) b)
-    (λ (more : (steps : ℕ) × (new ≡ old ++ entry process steps ∷ [])). subst (Began held) (sym more.1) (began_more held old (entry process more.0 ∷ []) b)) is
+began_given held Played process old new b is = began_grown held old new b
+    (⊎_elim (λ (same : new ≡ old). inl same) (λ (more : (steps : ℕ) × (new ≡ old ++ entry process steps ∷ [])). inr (entry process more.0, more.1)) is)
 began_given held Stranger process old new b is = subst (Began held) (sym is) b
 began_given held Over process old new b is = subst (Began held) (sym is) b
 
@@ -143,6 +149,36 @@ pub began_after : {D : Type 0} (held : Option (List Turn)) (r : Result Given D) 
     → IfOk r (λ g. IsGiven g process old new) → OnErr r (new ≡ old) → Began held new
 began_after held (Ok g) process old new b given unchanged = began_given held g process old new b given
 began_after held (Err e) process old new b given unchanged = subst (Began held) (sym unchanged) b
+
+-- whatever a table answers where it may make a piece by itself, its history has grown by one entry at most
+grown_after : {A D : Type 0} (r : Result A D) (old new : List Turn) → IfOk r (λ _. HasGrown old new) → OnErr r (new ≡ old) → HasGrown old new
+grown_after (Ok a) old new grown unchanged = grown
+grown_after (Err e) old new grown unchanged = inl unchanged
+
+pub began_light : {A D : Type 0} (held : Option (List Turn)) (r : Result A D) (old new : List Turn) → Began held old
+    → IfOk r (λ _. HasGrown old new) → OnErr r (new ≡ old) → Began held new
+began_light held r old new b grown unchanged = began_grown held old new b (grown_after r old new grown unchanged)
+
+-- an entry that comes to the history is the last that was made
+made_more : (held : Option (List Turn)) (old : List Turn) (t : Turn) → Began held old
+    → added_since (start_in held) (old ++ t ∷ []) ≡ added_since (start_in held) old ++ (length old, t) ∷ []
+made_more held old t b =
+    let start : List Turn = start_in held in
+    let n : ℕ = length start in
+    let e = ap length b.1 in let l = length-take n old in let d = length-drop n old in
+    let le : n ≤ length old = omega arith in
+    let place : n + length (drop n old) ≡ length old = omega arith in
+    ap (enumerate_from n) (drop-append-le n old (t ∷ []) le)
+    ∙ (enumerate_more n (drop n old) t ∙ ap (λ k. enumerate_from n (drop n old) ++ (k, t) ∷ []) place)
+
+made_grown : (held : Option (List Turn)) (old new : List Turn) → Began held old → HasGrown old new
+    → HasMade old (added_since (start_in held) old) (added_since (start_in held) new)
+made_grown held old new b is = ⊎_elim (λ (same : new ≡ old). inl (ap (added_since (start_in held)) same))
+    (λ (more : (t : Turn) × (new ≡ old ++ t ∷ [])). inr (more.0, ap (added_since (start_in held)) more.1 ∙ made_more held old more.0 b)) is
+
+pub made_light : {A D : Type 0} (held : Option (List Turn)) (r : Result A D) (old new : List Turn) → Began held old
+    → IfOk r (λ _. HasGrown old new) → OnErr r (new ≡ old) → HasMade old (added_since (start_in held) old) (added_since (start_in held) new)
+made_light held r old new b grown unchanged = made_grown held old new b (grown_after r old new grown unchanged)
 
 module _ {T : Type 0} (history_of : T → List Turn) where
   pub begins : (t : T) (n : ℕ) → n ≡ 2 * length (history_of t) → (SeatRule history_of) record { words = n ∷ []; homes = some (Some t) ∷ []; views = newcomer (history_of t) ∷ [] }

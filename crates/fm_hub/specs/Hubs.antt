@@ -1,6 +1,6 @@
 -- What a clause says of a hub and of the places of its seats.
 -- Source: this profile.
-use Rattle.std.specs.Prelude.{◌≡◌, ℕ, ◌+◌, ◌*◌, ◌%◌, ◌++◌, List, Option, length}
+use Rattle.std.specs.Prelude.{◌≡◌, ◌⊎◌, ℕ, ◌+◌, ◌*◌, ◌%◌, List, [], ◌∷◌, ◌++◌, Option, length}
 use mathlib.Core.List.{IsPrefix}
 use Rattle.atomic_table.specs.declared.shared.Seat.{Seat}
 use Rattle.fm_base.specs.declared.schedule.Turn.{Turn}
@@ -18,6 +18,10 @@ module _ {T : Type 0} where
   -- what the seat at this place has seen and made
   abbrev pub view_at : Seat (Option T) SeatView → SeatView
   view_at place = place.me.0
+
+  -- what the seat at this place has made of this history since it won the turn, each entry with its place
+  abbrev pub made_at : Seat (Option T) SeatView → List Turn → List (ℕ × Turn)
+  made_at place log = added_since (start_in (view_at place).held) log
 
   -- the seat is one of this hub
   abbrev pub IsSeatOf : Hub T → HubSeat T → Type 0
@@ -45,6 +49,10 @@ IsReleased old new log = (new.seen ≡ log) × (new.mine ≡ old.mine ++ added_s
 abbrev pub IsJoined : SeatView → SeatView → SeatView → Type 0
 IsJoined old other new =
     IsPrefix old.seen new.seen × IsPrefix other.seen new.seen × (new.mine ≡ old.mine) × (new.tries ≡ old.tries)
+
+-- at most one pair has come to what a seat has made: an entry, at the place that ended this history
+abbrev pub HasMade : List Turn → List (ℕ × Turn) → List (ℕ × Turn) → Type 0
+HasMade log old new = (new ≡ old) ⊎ ((t : Turn) × (new ≡ old ++ (length log, t) ∷ []))
 
 -- the word of a history that some seat has, and that begins with what was seen
 abbrev pub IsBusy : List Turn → ℕ → Type 0

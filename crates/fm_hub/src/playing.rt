@@ -1,7 +1,8 @@
 //! What a seat that has the turn does to the table: what the table does, and nothing else.
 
-ghost use Rattle.std.specs.Prelude.{◌≡◌, IfOk, IfErr, OnErr};
-ghost use Rattle.fm_workers.specs.Histories.{IsGiven};
+ghost use Rattle.std.specs.Prelude.{◌≡◌, false, IfOk, IfErr, OnErr};
+ghost use Rattle.fm_workers.specs.Histories.{HasGrown, IsGiven};
+ghost use Rattle.fm_hub.specs.Hubs.{HasMade, made_at};
 
 use crate::handles::Held;
 use fm_base::NoMemory;
@@ -26,6 +27,19 @@ impl<T: SharedTable> Held<T> {
         ensures back { IfErr result (λ e. e.0 ≡ done) }
     {
         self.table.give(alloc, done)
+    }
+
+    /// As the table's. What it makes is made by the seat that has the turn: it comes behind all that this one has made,
+    /// at the place that ends the history.
+    pub fn turn_light(&mut self, alloc: Global, worker: u32) -> Result<bool, NoMemory>
+        ensures same { self.new.place ≡ self.old.place }
+        ensures grown { IfOk result (λ _. HasGrown (T.history_of self.old.table) (T.history_of self.new.table)) }
+        ensures none { IfOk result (λ r. r ≡ false → T.history_of self.new.table ≡ T.history_of self.old.table) }
+        ensures unchanged { OnErr result (T.history_of self.new.table ≡ T.history_of self.old.table) }
+        ensures made { HasMade (T.history_of self.old.table)
+            (made_at self.old.place (T.history_of self.old.table)) (made_at self.new.place (T.history_of self.new.table)) }
+    {
+        self.table.turn_light(alloc, worker)
     }
 
     /// As the table's.

@@ -1,4 +1,3 @@
-use Rattle.std.proofs.Common.{◌≡◌}
 use Rattle.std.specs.Slots.{slots_items}
 use Rattle.fm_hub.proofs.Turns.{closes, closes_odd}
 use Rattle.fm_hub.proofs.handles.Hub.close.Goals as goal

@@ -1,4 +1,4 @@
-use Rattle.std.proofs.Common.{◌≡◌, ◌<◌, ◌∙◌, arith}
+use Rattle.std.proofs.Common.{◌∙◌, arith}
 use Rattle.fm_hub.proofs.Turns.{tries_at, tried_even}
 use Rattle.fm_hub.proofs.handles.Hub.hold.Goals as goal
 

@@ -1,4 +1,4 @@
-use Rattle.std.proofs.Common.{◌≡◌, ◌<◌, ◌∙◌, ap, arith}
+use Rattle.std.proofs.Common.{◌∙◌, ap, arith}
 use Rattle.fm_hub.specs.Rules.{Seated}
 use Rattle.fm_hub.proofs.Turns.{joins, compares_at}
 use Rattle.fm_hub.proofs.handles.Hub.join.Goals as goal

@@ -1,4 +1,4 @@
-use Rattle.std.proofs.Common.{◌≡◌, ◌∙◌, ◌++◌, ◌∷◌, [], Some, ap}
+use Rattle.std.proofs.Common.{◌∙◌, ◌++◌, ◌∷◌, [], Some, ap}
 use Rattle.fm_hub.proofs.Turns.{opens}
 use Rattle.fm_hub.proofs.handles.Hub.new.Goals as goal
 

@@ -1,6 +1,5 @@
-use Rattle.std.proofs.Common.{◌≡◌, ◌<◌, ◌*◌, ◌∷◌, ◌++◌, [], length, Some, ◌∙◌, ap, arith, List, ℕ, Option}
+use Rattle.std.proofs.Common.{◌*◌, ◌∷◌, ◌++◌, Some, ◌∙◌, ap, arith, List, ℕ, Option}
 use Rattle.atomic_table.specs.Table.{rest}
-use Rattle.fm_base.specs.declared.schedule.Turn.{Turn}
 use Rattle.fm_hub.specs.Histories.{start_in}
 use Rattle.fm_hub.specs.Rules.{Seated, added_since}
 use Rattle.fm_hub.proofs.Turns.{frees_at}

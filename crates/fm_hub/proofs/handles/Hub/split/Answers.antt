@@ -1,4 +1,4 @@
-use Rattle.std.proofs.Common.{◌≡◌, ◌<◌, arith}
+use Rattle.std.proofs.Common.{arith}
 use Rattle.fm_hub.proofs.Turns.{splits}
 use Rattle.fm_hub.proofs.handles.Hub.split.Goals as goal
 
