@@ -1,27 +1,63 @@
 //! What a worker does in its turn.
 
-ghost use Rattle.std.specs.Prelude.{◌≡◌, MatchResult};
-ghost use Rattle.fm_workers.specs.Histories.{HasPlayed};
+ghost use Rattle.std.specs.Prelude.{◌≡◌, false, IfOk, MatchResult, OnErr};
+ghost use Rattle.fm_workers.specs.Histories.{HasGrown, HasPlayed};
+ghost use Rattle.fm_pool.specs.Desks.{IsPassed};
+ghost use Rattle.fm_pool.specs.declared.desk.Next.TheVariants.{Stops};
 
 use fm_base::NoMemory;
 use fm_hub::Held;
+use fm_pool::Next;
 use fm_workers::{Phase, SharedTable};
 use std::alloc::Global;
 use std::sync::atomic::{AtomicU64, Ordering};
 
-// What a worker does next.
-pub enum Next<P> {
-    // It computes a piece.
-    Runs(P),
-    // It lets others have the turn, and tries again.
-    Waits,
-    // It has nothing more to do.
-    Stops,
+/// What the worker does next. It stops where the table has ended, where no piece is ready and none is out with a worker, and
+/// where it finds no memory; and it waits only where a piece is out with another one. `working` counts those that are out.
+/// Nothing is played but what the table makes by itself, which it is asked for where `light` says so.
+pub fn taken<T: SharedTable>(
+    alloc: Global,
+    held: &mut Held<T>,
+    working: &AtomicU64,
+    worker: u32,
+    light: bool,
+) -> Next<T::Piece>
+    ensures place { held.new.place ≡ held.old.place }
+    ensures history { IsPassed result (T.history_of held.old.table) (T.history_of held.new.table) }
+{
+    match held.phase() {
+        Phase::Going => {}
+        Phase::Ended | Phase::Spent => return Next::Stops,
+    }
+    match made(alloc, held, worker, light) {
+        Ok(true) => Next::Goes,
+        Ok(false) => taken_out(alloc, held, working, worker),
+        Err(NoMemory) => stopped(held),
+    }
 }
 
-// What the worker does next. It stops where the table has ended, where no piece is ready and none is out with a worker, and
-// where it finds no memory; and it waits only where a piece is out with another one. `working` counts those that are out.
-pub fn taken<T: SharedTable>(
+// Has the table make a piece by itself, if it is to be asked. False where it made none.
+#[tactic(auto, using(fm_workers::proofs::HistoryLaws::plays_nothing))]
+fn made<T: SharedTable>(
+    alloc: Global,
+    held: &mut Held<T>,
+    worker: u32,
+    light: bool,
+) -> Result<bool, NoMemory>
+    ensures place { held.new.place ≡ held.old.place }
+    ensures grown { IfOk result (λ _. HasGrown (T.history_of held.old.table) (T.history_of held.new.table)) }
+    ensures none { IfOk result (λ r. r ≡ false → T.history_of held.new.table ≡ T.history_of held.old.table) }
+    ensures unchanged { OnErr result (T.history_of held.new.table ≡ T.history_of held.old.table) }
+{
+    if light {
+        held.turn_light(alloc, worker)
+    } else {
+        Ok(false)
+    }
+}
+
+// What the worker does next where the table makes no piece by itself.
+fn taken_out<T: SharedTable>(
     alloc: Global,
     held: &mut Held<T>,
     working: &AtomicU64,
@@ -29,11 +65,8 @@ pub fn taken<T: SharedTable>(
 ) -> Next<T::Piece>
     ensures place { held.new.place ≡ held.old.place }
     ensures history { T.history_of held.new.table ≡ T.history_of held.old.table }
+    ensures passed { IsPassed result (T.history_of held.old.table) (T.history_of held.new.table) }
 {
-    match held.phase() {
-        Phase::Going => {}
-        Phase::Ended | Phase::Spent => return Next::Stops,
-    }
     match held.take(alloc, worker) {
         Ok(Some(piece)) => {
             working.fetch_add(1, Ordering::SeqCst);
@@ -46,12 +79,22 @@ pub fn taken<T: SharedTable>(
                 Next::Waits
             }
         }
-        Err(NoMemory) => Next::Stops,
+        Err(NoMemory) => stopped(held),
     }
 }
 
-// Gives what a piece came to, of which the table plays one entry of its process or nothing. Where there is no memory for
-// it, or was none to compute it, all pieces that are out are made ready again, and the answer is false.
+// There is no memory: all pieces that are out are made ready again, and the worker stops.
+fn stopped<T: SharedTable>(held: &mut Held<T>) -> Next<T::Piece>
+    ensures place { held.new.place ≡ held.old.place }
+    ensures history { T.history_of held.new.table ≡ T.history_of held.old.table }
+    ensures stops { result ≡ Stops }
+{
+    held.recall();
+    Next::Stops
+}
+
+/// Gives what a piece came to, of which the table plays one entry of its process or nothing. Where there is no memory for
+/// it, or was none to compute it, all pieces that are out are made ready again, and the answer is false.
 #[tactic(auto, using(fm_workers::proofs::HistoryLaws::plays_at_most_once))]
 pub fn given<T: SharedTable>(
     alloc: Global,

@@ -2,20 +2,24 @@
 
 ghost use Rattle.fm_hub.specs.Hubs.{IsAt, IsSeatOf};
 
-use crate::desk::{Next, given, taken};
+use crate::desk::{given, taken};
 use fm_hub::{Held, Hub, HubSeat};
+use fm_pool::Next;
 use fm_workers::{Gate, KeepsHistory, SharedTable};
 use std::alloc::Global;
 use std::sync::Wait;
 use std::sync::atomic::AtomicU64;
 use std::thread;
 
-// A worker.
+// How many pieces a table makes by itself before others get the turn.
+const MOST_AT_ONCE: u32 = 64;
+
+/// A worker.
 #[derive(Drop)]
 pub struct Worker<T> {
-    // Its number.
+    /// Its number.
     pub number: u32,
-    // Its seat.
+    /// Its seat.
     pub seat: HubSeat<T>,
 }
 
@@ -36,7 +40,49 @@ fn turn<T: KeepsHistory + Drop, R: Wait>(rt: &R, hub: &Hub<T>, mut seat: HubSeat
     unreachable!()
 }
 
-// What a worker does until it stops.
+// Lets others have the turn, and takes it again.
+fn next_turn<T: KeepsHistory + Drop, R: Wait>(rt: &R, hub: &Hub<T>, held: Held<T>) -> Held<T>
+    requires { IsAt hub.now held.place }
+    ensures { IsAt hub.now result.place }
+{
+    let seat = hub.release(held);
+    thread::yield_now();
+    turn(rt, hub, seat)
+}
+
+// The next piece, when there is one, and the seat that gave the turn back. None where the worker is to stop. Where `light`
+// says so, the table makes those pieces by itself that aren't worth giving out.
+fn next_piece<T: SharedTable + Drop, R: Wait>(
+    rt: &R,
+    alloc: Global,
+    hub: &Hub<T>,
+    working: &AtomicU64,
+    worker: u32,
+    mut held: Held<T>,
+    light: bool,
+) -> (HubSeat<T>, Option<T::Piece>)
+    requires { IsAt hub.now held.place }
+    ensures { IsSeatOf hub.now result.0 }
+{
+    let mut made = 0u32;
+    'turns: for _ in rt.forever() {
+        match taken(alloc, &mut held, working, worker, light) {
+            Next::Runs(piece) => return (hub.release(held), Some(piece)),
+            Next::Goes => {
+                made = made.saturating_add(1);
+                if made >= MOST_AT_ONCE {
+                    made = 0;
+                    held = next_turn(rt, hub, held);
+                }
+            }
+            Next::Waits => held = next_turn(rt, hub, held),
+            Next::Stops => return (hub.release(held), None),
+        }
+    }
+    unreachable!()
+}
+
+/// What a worker does until it stops.
 pub fn work<T: SharedTable + Drop, G: Gate<T>, R: Wait>(
     rt: &R,
     gate: &G,
@@ -48,27 +94,18 @@ pub fn work<T: SharedTable + Drop, G: Gate<T>, R: Wait>(
     requires { IsSeatOf hub.now worker.seat }
 {
     let Worker { number, seat } = worker;
+    let light = gate.is_plain();
     let mut held = turn(rt, hub, seat);
     'pieces: for _ in rt.forever() {
-        match taken(alloc, &mut held, working, number) {
-            Next::Runs(piece) => {
-                let seat = hub.release(held);
-                let done = gate.run(alloc, number, piece);
-                held = turn(rt, hub, seat);
-                if !given(alloc, &mut held, working, done) {
-                    hub.release(held);
-                    return;
-                }
-            }
-            Next::Waits => {
-                let seat = hub.release(held);
-                thread::yield_now();
-                held = turn(rt, hub, seat);
-            }
-            Next::Stops => {
-                hub.release(held);
-                return;
-            }
+        let (seat, next) = next_piece(rt, alloc, hub, working, number, held, light);
+        let Some(piece) = next else {
+            return;
+        };
+        let done = gate.run(alloc, number, piece);
+        held = turn(rt, hub, seat);
+        if !given(alloc, &mut held, working, done) {
+            hub.release(held);
+            return;
         }
     }
     unreachable!()
