@@ -3,7 +3,7 @@
 ghost use Rattle.std.specs.Thread.{IsSync};
 
 use crate::table::{Done, Piece, Table};
-use fm_base::NoMemory;
+use fm_base::{NoMemory, Turn};
 use fm_hub_pool::HubPool;
 use fm_pool::Pool;
 use fm_steal_pool::StealPool;
@@ -301,5 +301,49 @@ fn runs_with_seats(rt: HostRuntime) -> Result<(), Fail> {
     };
     assert_eq!(pool.rt; run(alloc, &pool, 4)?, 12);
     assert_eq!(pool.rt; lost(alloc, &pool, 1000)?, None);
+    Ok(())
+}
+
+// A table of three processes, two of which aren't worth giving out.
+fn mixed(alloc: Global) -> Result<Table, NoMemory> {
+    let mut table = Table::of(alloc, 3, 100, true)?;
+    if let Some(entry) = table.entries.get_mut(1) {
+        entry.light = false;
+    }
+    Ok(table)
+}
+
+// The number of the first entry that two histories differ in, if there is one.
+fn first_other(ours: &[Turn], theirs: &[Turn]) -> Option<usize> {
+    if ours.len() != theirs.len() {
+        return Some(ours.len());
+    }
+    'turns: for (number, (our, their)) in ours.iter().zip(theirs.iter()).enumerate() {
+        if our.number != their.number || our.steps != their.steps {
+            return Some(number);
+        }
+    }
+    None
+}
+
+// One worker with a seat makes the entries that one makes under a lock: those of pieces that the table makes by itself,
+// and those of pieces that are given out.
+#[test]
+fn one_seat_plays_as_a_lock(rt: HostRuntime) -> Result<(), Fail> {
+    let alloc = rt.alloc();
+    let lock = Pool {
+        gate: Plain,
+        rt,
+        alloc,
+    };
+    let locked = lock.play(mixed(alloc)?, 1);
+    assert_eq!(lock.rt; locked.entries(), 300);
+    let Pool { gate, rt, alloc } = lock;
+    let seats = HubPool { gate, rt, alloc };
+    let Some(seated) = seats.play(mixed(alloc)?, 1) else {
+        panic!(seats.rt; "no table")
+    };
+    let (ours, theirs) = (seated.turns.as_slice(), locked.turns.as_slice());
+    assert_eq!(seats.rt; first_other(ours, theirs), None);
     Ok(())
 }
