@@ -30,8 +30,6 @@ mod rules;
 #[cfg(test)]
 mod schedules;
 #[cfg(test)]
-mod seats;
-#[cfg(test)]
 mod traces;
 #[cfg(test)]
 mod tree_run;

@@ -104,8 +104,7 @@ struct Exchanges {
     alloc: Global,
 }
 
-/// The table of a program of two steps.
-pub fn least_table(alloc: Global) -> Result<Option<Table>, NoMemory> {
+fn least_table(alloc: Global) -> Result<Option<Table>, NoMemory> {
     let setup = Setup {
         turns: 10_000_000,
         slice: 1_000,
