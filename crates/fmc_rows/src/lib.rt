@@ -30,6 +30,8 @@ mod rules;
 #[cfg(test)]
 mod schedules;
 #[cfg(test)]
+mod seats;
+#[cfg(test)]
 mod traces;
 #[cfg(test)]
 mod tree_run;

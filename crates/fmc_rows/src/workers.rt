@@ -104,7 +104,8 @@ struct Exchanges {
     alloc: Global,
 }
 
-fn least_table(alloc: Global) -> Result<Option<Table>, NoMemory> {
+/// The table of a program of two steps.
+pub fn least_table(alloc: Global) -> Result<Option<Table>, NoMemory> {
     let setup = Setup {
         turns: 10_000_000,
         slice: 1_000,

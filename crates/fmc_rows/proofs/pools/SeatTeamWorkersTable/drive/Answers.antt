@@ -1,0 +1,9 @@
+use denote.Param.Send.{arg_send, param_send}
+use Rattle.fmc_rows.proofs.pools.SeatTeamWorkersTable.drive.Goals as goal
+use Rattle.fm_team.proofs.Crosses.{table_send, piece_send}
+
+pub play-requires-send-T : goal.play-requires-send-T
+play-requires-send-T g c κs within = search (param_send, arg_send, table_send)
+
+pub play-requires-send-T-Piece : goal.play-requires-send-T-Piece
+play-requires-send-T-Piece g c κs within = search (param_send, arg_send, piece_send)
