@@ -1,0 +1,4 @@
+mod Kept
+pub mod Procs
+pub mod Family
+mod Starting
