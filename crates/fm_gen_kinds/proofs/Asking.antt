@@ -44,7 +44,7 @@ use Rattle.fm_gen_kinds.proofs.Places.{var_leaves}
 use Rattle.fm_gen_kinds.proofs.Arguments.{targets_leave}
 use Rattle.fm_gen_kinds.proofs.Control.{sorted as of_sort}
 use Rattle.fm_gen_kinds.proofs.Calling.{taken_over}
-use Rattle.fm_gen_kinds.proofs.Walks.{closes}
+use Rattle.fm_gen_kinds.proofs.Walks.{IsApart, closes}
 
 self : (m : ℕ) → (m == m) ≡ true
 self m = eq-eqb m m refl
@@ -104,9 +104,9 @@ module _ (p : Program) (u : ProgramUnit) (sound : IsSoundUnit u) (ts : List Port
 
   -- two places, one after the other, and what is done at them
   two_ends : (at : ℕ) (a b : Var) (q r : FieldKind) → sort_of u a.name ≡ Some q → sort_of u b.name ≡ Some r → VarFits u a → VarFits u b → (i : Instr) (f : Sort → Sort → Effect) (to : List ℕ)
-      → ((c : ℕ) (ms : Kinds) → effect ss me n c i ms ≡ at_two all ms f) → f (sort_by ts q) (sort_by ts r) ≡ Over to 0 → AllIn Good to → (ks : Kinds) → only_results ks ≡ true
+      → ((c : ℕ) (ms : Kinds) → effect ss me n c i ms ≡ at_two all ms f) → f (sort_by ts q) (sort_by ts r) ≡ Over to 0 → AllIn Good to → IsApart i → (ks : Kinds) → only_results ks ≡ true
       → refs_in_var now a + refs_in_var now b ≤ results_in ks → AreCounted p u (in_var a) → AreCounted p u (in_var b) → Ends at (two_code p u a b i) ks
-  two_ends at a b q r first second fits more i f to does leads good ks only done h g =
+  two_ends at a b q r first second fits more i f to does leads good apart ks only done h g =
       let k = refs_in_var now a in
       let x = sorted_leaves a q first fits 0 ks (omega (arith, done)) h in
       let y = sorted_leaves b r second more k (Word (Some x.among) ∷ ks) (omega (arith, done)) g in
@@ -114,16 +114,16 @@ module _ (p : Program) (u : ProgramUnit) (sound : IsSoundUnit u) (ts : List Port
       subst (λ (c : List Instr). Ends at c ks) (append_assoc (var_code p u a 0) (var_code p u b k) (i ∷ []))
       (closes Good ss me n at (var_code p u a 0 ++ var_code p u b k) i ks ms to
       (then_more all n (var_code p u a 0) (var_code p u b k) ks (Word (Some x.among) ∷ ks) ms x.leaves y.leaves)
-      (λ c. does c ms ∙ at_two_is all f x.among y.among (sort_by ts q) (sort_by ts r) ks x.of y.of only ∙ leads) good)
+      (λ c. does c ms ∙ at_two_is all f x.among y.among (sort_by ts q) (sort_by ts r) ks x.of y.of only ∙ leads) good apart)
 
   pub channel_ends : (at : ℕ) (in_first : Bool) (i o : Var) (t : PortFields) (next : ℕ) → sort_of u i.name ≡ Some (In t) → sort_of u o.name ≡ Some (Out t) → VarFits u i → VarFits u o → Good next → (ks : Kinds) → only_results ks ≡ true
       → refs_in_var now i + refs_in_var now o ≤ results_in ks → AreCounted p u (in_var i) → AreCounted p u (in_var o) → Ends at (channel_code p u in_first i o next) ks
   channel_ends at true i o t next first second fits more good ks only done h g =
       two_ends at i o (In t) (Out t) first second fits more (instr.Meet (meet.Channel next)) (λ a b. if_in a (λ type. over (next ∷ []) (same_sort b (sort.Out type)))) (next ∷ []) (λ c ms. refl)
-      (ap (over (next ∷ [])) (self (number_in ts t))) (good, tt) ks only done h g
+      (ap (over (next ∷ [])) (self (number_in ts t))) (good, tt) (record { join = refl; begin = refl }) ks only done h g
   channel_ends at false i o t next first second fits more good ks only done h g =
       two_ends at o i (Out t) (In t) second first more fits (instr.Meet (meet.ChannelFrom next)) (λ b a. if_in a (λ type. over (next ∷ []) (same_sort b (sort.Out type)))) (next ∷ []) (λ c ms. refl)
-      (ap (over (next ∷ [])) (self (number_in ts t))) (good, tt) ks only (omega (arith, done)) g h
+      (ap (over (next ∷ [])) (self (number_in ts t))) (good, tt) (record { join = refl; begin = refl }) ks only (omega (arith, done)) g h
 
   -- ports of one kind and type
   moves : (q : FieldKind) (next : ℕ) → is_port_sort (Some (sort_by ts q)) ≡ true → over (next ∷ []) (same_sort (sort_by ts q) (sort_by ts q) && is_port_sort (Some (sort_by ts q))) ≡ Over (next ∷ []) 0
@@ -135,18 +135,18 @@ module _ (p : Program) (u : ProgramUnit) (sound : IsSoundUnit u) (ts : List Port
   pub move_ends : (at : ℕ) (from into : Var) (q : FieldKind) (next : ℕ) → sort_of u from.name ≡ Some q → sort_of u into.name ≡ Some q → is_port_sort (Some (sort_by ts q)) ≡ true → VarFits u from → VarFits u into → Good next → (ks : Kinds)
       → only_results ks ≡ true → refs_in_var now from + refs_in_var now into ≤ results_in ks → AreCounted p u (in_var from) → AreCounted p u (in_var into) → Ends at (two_code p u from into (instr.Meet (meet.MovePort next))) ks
   move_ends at from into q next first second port fits more good ks only done h g =
-      two_ends at from into q q first second fits more (instr.Meet (meet.MovePort next)) (λ a b. over (next ∷ []) (same_sort a b && is_port_sort (Some a))) (next ∷ []) (λ c ms. refl) (moves q next port) (good, tt) ks only done h g
+      two_ends at from into q q first second fits more (instr.Meet (meet.MovePort next)) (λ a b. over (next ∷ []) (same_sort a b && is_port_sort (Some a))) (next ∷ []) (λ c ms. refl) (moves q next port) (good, tt) (record { join = refl; begin = refl }) ks only done h g
 
   pub probe_ends : (at : ℕ) (q empty : Var) (t : PortFields) (r : FieldKind) (next : ℕ) → sort_of u q.name ≡ Some (In t) → sort_of u empty.name ≡ Some r → is_word (sort_by ts r) ≡ true → VarFits u q → VarFits u empty → Good next → (ks : Kinds)
       → only_results ks ≡ true → refs_in_var now q + refs_in_var now empty ≤ results_in ks → AreCounted p u (in_var q) → AreCounted p u (in_var empty) → Ends at (two_code p u q empty (instr.Meet (meet.Probe next))) ks
   probe_ends at q empty t r next first second holds fits more good ks only done h g =
-      two_ends at q empty (In t) r first second fits more (instr.Meet (meet.Probe next)) (λ a b. if_in a (λ type. over (next ∷ []) (is_word b))) (next ∷ []) (λ c ms. refl) (ap (over (next ∷ [])) holds) (good, tt) ks only done h g
+      two_ends at q empty (In t) r first second fits more (instr.Meet (meet.Probe next)) (λ a b. if_in a (λ type. over (next ∷ []) (is_word b))) (next ∷ []) (λ c ms. refl) (ap (over (next ∷ [])) holds) (good, tt) (record { join = refl; begin = refl }) ks only done h g
 
   pub close_ends : (at : ℕ) (q : Var) (t : PortFields) (next : ℕ) → sort_of u q.name ≡ Some (Out t) → VarFits u q → Good next → (ks : Kinds) → only_results ks ≡ true → refs_in_var now q ≤ results_in ks → AreCounted p u (in_var q) → Ends at (close_code p u q next) ks
   close_ends at q t next is fits good ks only done h =
       let x = sorted_leaves q (Out t) is fits 0 ks (omega (arith, done)) h in
       closes Good ss me n at (var_code p u q 0) (instr.Meet (meet.EndChannel next)) ks (Word (Some x.among) ∷ ks) (next ∷ []) x.leaves
-      (λ c. at_port_is all (λ s. if_out s (λ type. Over (next ∷ []) 0)) x.among (sort.Out (number_in ts t)) ks x.of only) (good, tt)
+      (λ c. at_port_is all (λ s. if_out s (λ type. Over (next ∷ []) 0)) x.among (sort.Out (number_in ts t)) ks x.of only) (good, tt) (record { join = refl; begin = refl })
 
   -- ---- mergers
 
@@ -182,4 +182,4 @@ module _ (p : Program) (u : ProgramUnit) (sound : IsSoundUnit u) (ts : List Port
       (λ c. ap does (taken_over (reverse y.operands) under refl)
       ∙ at_port_is all (λ s. if_in s (λ type. over to (all_outports all type (reverse (reverse y.operands))))) x.among (sort.In m) ks x.of only
       ∙ ap (over to) all_so)
-      (good, tt))
+      (good, tt) (record { join = refl; begin = refl }))

@@ -45,7 +45,7 @@ use Rattle.fm_gen_kinds.proofs.Cells.{same_variable}
 use Rattle.fm_gen_kinds.proofs.Expressions.{Kinds, cs}
 use Rattle.fm_gen_kinds.proofs.Arguments.{arguments_leave}
 use Rattle.fm_gen_kinds.proofs.Seats.{refs_in_place, seat_leaves}
-use Rattle.fm_gen_kinds.proofs.Walks.{closes}
+use Rattle.fm_gen_kinds.proofs.Walks.{end_apart, closes}
 
 -- ---- operands on a list of results
 
@@ -210,7 +210,7 @@ module _ (p : Program) (u : ProgramUnit) (sound : IsSoundUnit u) (n : ℕ) (Good
   call_ends at k callee is kind l next ks only done h of full good =
       let x = arguments_leave p u sound ts n l 0 ks (omega (arith, done)) h in
       closes Good ss me n at (arguments_code p u l 0) (instr.End (end.Call k next)) ks (operands_over (reverse x.operands) ks) (next ∷ []) x.leaves
-      (λ b. ap (λ c. cond c (Over (next ∷ []) 0) Ill) (calls_so k callee is is_subroutine (ap (λ (q : UnitKind). is_subroutine (heading_by q)) kind) l x.operands ks only x.are of full)) (good, tt)
+      (λ b. ap (λ c. cond c (Over (next ∷ []) 0) Ill) (calls_so k callee is is_subroutine (ap (λ (q : UnitKind). is_subroutine (heading_by q)) kind) l x.operands ks only x.are of full)) (good, tt) (end_apart (end.Call k next))
 
   pub start_ends : (at k : ℕ) (callee : ProgramUnit) → unit_at p k ≡ Some callee → kind_of callee ≡ unit_kind.Process → (part : Option CallPart) (next : ℕ) (ks : Kinds) → only_results ks ≡ true
       → refs_in_all now (trees_from (arguments_in part)) + refs_in_place now (where_in part) ≤ results_in ks → AreCounted p u (applied_each (trees_from (arguments_in part))) → AreCounted p u (in_place (where_in part))
@@ -225,4 +225,4 @@ module _ (p : Program) (u : ProgramUnit) (sound : IsSoundUnit u) (n : ℕ) (Good
       subst (λ (c : List Instr). Ends at c ks) (append_assoc (arguments_code p u l 0) seat (last ∷ []))
       (closes Good ss me n at (arguments_code p u l 0 ++ seat) last ks ms (next ∷ [])
       (then_more all n (arguments_code p u l 0) seat ks ms ms x.leaves (seat_leaves p u sound ts n (where_in part) (refs_in_all now l) ms more g))
-      (λ b. ap (λ c. cond c (Over (next ∷ []) 0) Ill) (calls_so k callee is is_process (ap (λ (q : UnitKind). is_process (heading_by q)) kind) l x.operands ks only x.are of full)) (good, tt))
+      (λ b. ap (λ c. cond c (Over (next ∷ []) 0) Ill) (calls_so k callee is is_process (ap (λ (q : UnitKind). is_process (heading_by q)) kind) l x.operands ks only x.are of full)) (good, tt) (end_apart (end.Start k next)))

@@ -46,12 +46,12 @@ use Rattle.fm_gen_statements.specs.Statements.{goto, holds_word, variable_meant,
 use Rattle.fm_gen_kinds.specs.Along.{then_on, straight, along, LeavesWord}
 use Rattle.fm_gen_kinds.specs.Counted.{IsCounted, AreCounted, VariableFits}
 use Rattle.fm_gen_kinds.specs.Units.{heading_by, shape_by}
-use Rattle.fm_gen_kinds.specs.Walks.{behind, Next, StepsWell, Walks}
+use Rattle.fm_gen_kinds.specs.Walks.{behind, Elsewhere, Next, StepsWell, Joined, Steps, Walks}
 use Rattle.fm_gen_kinds.proofs.Straight.{some_list, then_one, then_more}
 use Rattle.fm_gen_kinds.proofs.Expressions.{Kinds, cs, words_some, part_words, first_part, element_part, expression_leaves}
 use Rattle.fm_gen_kinds.proofs.Places.{elements, located_leaves}
 use Rattle.fm_gen_kinds.proofs.Arguments.{whole_part}
-use Rattle.fm_gen_kinds.proofs.Walks.{some_behind, straight_then, ends_at, closes}
+use Rattle.fm_gen_kinds.proofs.Walks.{IsApart, end_apart, some_behind, straight_then, ends_at, closes}
 
 -- a name of a sort is that of a variable of the sort
 pub sorted : (u : ProgramUnit) (name : List ℕ) (r : FieldKind) → sort_of u name ≡ Some r → (w : ℕ × Variable) × (variable_of u name ≡ Some w) × (reading.kind_of w.1.kind ≡ r)
@@ -91,13 +91,13 @@ module _ (p : Program) (u : ProgramUnit) (sound : IsSoundUnit u) (ts : List Port
   over to b = cond b (Over to 0) Ill
 
   pub goto_ends : (at to : ℕ) (ks : Kinds) → only_results ks ≡ true → Good to → Ends at (goto to ∷ []) ks
-  goto_ends at to ks only good = ends_at Good ss me n at (goto to) ks (to ∷ []) (ap (over (to ∷ [])) only) (good, tt)
+  goto_ends at to ks only good = ends_at Good ss me n at (goto to) ks (to ∷ []) (ap (over (to ∷ [])) only) (good, tt) (end_apart (end.Goto to))
 
   pub test_ends : (at : ℕ) (t : Tree) (holding failing : ℕ) (ks : Kinds) → only_results ks ≡ true → refs_in now t ≤ results_in ks → AreCounted p u (applied t) → Good holding → Good failing
       → Ends at (test_code p u t holding failing) ks
   test_ends at t holding failing ks only done h first second =
       let x = expression_leaves p u sound ts n t 0 ks (omega (arith, done)) h in
-      closes Good ss me n at (expression_code p u t 0) (instr.End (end.Test holding failing)) ks (Word x.told ∷ ks) (holding ∷ failing ∷ []) x.leaves (λ b. ap (over (holding ∷ failing ∷ [])) only) (first, (second, tt))
+      closes Good ss me n at (expression_code p u t 0) (instr.End (end.Test holding failing)) ks (Word x.told ∷ ks) (holding ∷ failing ∷ []) x.leaves (λ b. ap (over (holding ∷ failing ∷ [])) only) (first, (second, tt)) (end_apart (end.Test holding failing))
 
   -- ---- returns, and blocks
 
@@ -116,29 +116,31 @@ module _ (p : Program) (u : ProgramUnit) (sound : IsSoundUnit u) (ts : List Port
       part_words p u sound ts n v.0 v.1 (single v.1.first) at (ap (λ (x : ℕ × Variable). is_word x.1.kind) same ∙ holds) (first_part p u sound ts n v.0 v.1 at)
 
   pub return_ends : (at : ℕ) (q : UnitKind) → kind_of u ≡ q → (ks : Kinds) → only_results ks ≡ true → Ends at (return_code u q) ks
-  return_ends at unit_kind.Program is ks only = ends_at Good ss me n at (instr.Meet meet.Stop) ks [] (ap (over []) only) tt
-  return_ends at unit_kind.Process is ks only = ends_at Good ss me n at (instr.Meet meet.Stop) ks [] (ap (over []) only) tt
+  return_ends at unit_kind.Program is ks only = ends_at Good ss me n at (instr.Meet meet.Stop) ks [] (ap (over []) only) tt (record { join = refl; begin = refl })
+  return_ends at unit_kind.Process is ks only = ends_at Good ss me n at (instr.Meet meet.Stop) ks [] (ap (over []) only) tt (record { join = refl; begin = refl })
   return_ends at unit_kind.Subroutine is ks only =
-      ends_at Good ss me n at (instr.End end.Return) ks [] (ap (λ (q : UnitKind). over [] (is_subroutine (heading_by q) && only_results ks)) is ∙ ap (over []) only) tt
+      ends_at Good ss me n at (instr.End end.Return) ks [] (ap (λ (q : UnitKind). over [] (is_subroutine (heading_by q) && only_results ks)) is ∙ ap (over []) only) tt (end_apart end.Return)
   return_ends at unit_kind.Function is ks only =
       let x : HasResult unit_kind.Function u = subst (λ (q : UnitKind). HasResult q u) is sound.result in
       ends_at Good ss me n at (instr.End (end.ReturnValue (result_word u))) ks []
       (ap (λ (q : UnitKind). over [] (is_function (heading_by q) && (are_words all (single (result_word u)) && only_results ks))) is
       ∙ ap (λ b. over [] (b && only_results ks)) (first_words_there (result_variable u) result_at x.0 x.1 x.2)
       ∙ ap (over []) only)
-      tt
+      tt (end_apart (end.ReturnValue (result_word u)))
 
   pub stop_ends : (at : ℕ) (ks : Kinds) → only_results ks ≡ true → Ends at (instr.Meet meet.Stop ∷ []) ks
-  stop_ends at ks only = ends_at Good ss me n at (instr.Meet meet.Stop) ks [] (ap (over []) only) tt
+  stop_ends at ks only = ends_at Good ss me n at (instr.Meet meet.Stop) ks [] (ap (over []) only) tt (record { join = refl; begin = refl })
 
   pub block_ends : (here next : ℕ) (ks : Kinds) → only_results ks ≡ true → Good next → Ends here (block_code here next) ks
   block_ends here next ks only good =
       let join = instr.Meet (meet.Join next) in
       let to = suc here ∷ [] in
       let begins : effect ss me n here (instr.Meet (meet.Begin (suc here))) ks ≡ Over to 0 =
-      ap (λ b. over to (b && (suc here == suc here))) only ∙ ap (over to) (eq-eqb (suc here) (suc here) refl) in
-      subst (λ (x : Effect). StepsWell Good here (join ∷ []) x × Walks Good ss me n (suc here) (join ∷ []) (behind x) []) (sym begins)
-      (Next refl (λ none. absurd cc), ends_at Good ss me n (suc here) join [] (next ∷ []) refl (good, tt))
+      ap (λ b. over to (b && (suc here == suc here))) only ∙ ap (over to) (eq-eqb (suc here) (suc here) refl) in (
+        refl,
+        subst (λ (x : Effect). StepsWell Good here (join ∷ []) x × Joined (instr.Meet (meet.Begin (suc here))) (join ∷ []) × Steps Good ss me n (suc here) (join ∷ []) (behind x) []) (sym begins)
+            (Next refl (λ none. absurd cc), refl, (Elsewhere (good, tt) refl, refl, refl)),
+      )
 
   -- ---- loops
 
@@ -155,7 +157,7 @@ module _ (p : Program) (u : ProgramUnit) (sound : IsSoundUnit u) (ts : List Port
   again_ends at number name body behind ks only low is first second =
       let l : Loop = record { number = number; word = loop_word u name } in
       closes Good ss me n at (loop_code u number name ∷ []) (instr.End (end.Again body behind)) ks (LoopOf l ∷ ks) (body ∷ behind ∷ [])
-      (ap (λ o. then_on o (λ ms. some_list ms)) (loop_leaves number name ks low is)) (λ b. ap (over (body ∷ behind ∷ [])) only) (first, (second, tt))
+      (ap (λ o. then_on o (λ ms. some_list ms)) (loop_leaves number name ks low is)) (λ b. ap (over (body ∷ behind ∷ [])) only) (first, (second, tt)) (end_apart (end.Again body behind))
 
   abbrev pub refs_in_step : Option Tree → ℕ
   refs_in_step None = 0
@@ -182,7 +184,7 @@ module _ (p : Program) (u : ProgramUnit) (sound : IsSoundUnit u) (ts : List Port
       (then_more all n (expression_code p u h.to a) (step_code p u h.step (a + b)) (Word x.told ∷ ks) (Word y.told ∷ Word x.told ∷ ks) ms y.leaves z.leaves) in
       straight_then Good ss me n at (at + length bounds) bounds (loop_code u number h.variable ∷ instr.End (end.Enter body behind) ∷ []) ks ms [] refl leaves (λ none. absurd cc)
       (closes Good ss me n (at + length bounds) (loop_code u number h.variable ∷ []) (instr.End (end.Enter body behind)) ms (LoopOf l ∷ ms) (body ∷ behind ∷ [])
-      (ap (λ o. then_on o (λ ms. some_list ms)) (loop_leaves number h.variable ms low is)) (λ b. ap (over (body ∷ behind ∷ [])) only) (first, (second, tt)))
+      (ap (λ o. then_on o (λ ms. some_list ms)) (loop_leaves number h.variable ms low is)) (λ b. ap (over (body ∷ behind ∷ [])) only) (first, (second, tt)) (end_apart (end.Enter body behind)))
 
   -- ---- printing
 
@@ -243,7 +245,7 @@ module _ (p : Program) (u : ProgramUnit) (sound : IsSoundUnit u) (ts : List Port
 
   pub print_ends : (at : ℕ) (is : List Item) (next : ℕ) (ks : Kinds) → only_results ks ≡ true → refs_in_items is ≤ results_in ks → AreCounted p u (flat_map in_item is) → Good next → Ends at (print_code p u is next) ks
   print_ends at is next ks only done h good =
-      closes Good ss me n at (items_code p u is 0) (instr.End (end.Print next)) ks ks (next ∷ []) (items_leave is 0 ks (omega (arith, done)) h) (λ b. ap (over (next ∷ [])) only) (good, tt)
+      closes Good ss me n at (items_code p u is 0) (instr.End (end.Print next)) ks ks (next ∷ []) (items_leave is 0 ks (omega (arith, done)) h) (λ b. ap (over (next ∷ [])) only) (good, tt) (end_apart (end.Print next))
 
   -- ---- assignment
 
@@ -267,6 +269,19 @@ module _ (p : Program) (u : ProgramUnit) (sound : IsSoundUnit u) (ts : List Port
   stores_at w at (kind.In t) is holds next b r ks only = absurd cc
   stores_at w at (kind.Out t) is holds next b r ks only = absurd cc
 
+  store_apart : (v : Variable) (next : ℕ) → IsApart (first_store (Some v) next)
+  store_apart v next = go (holds_word v)
+    where
+      go : (b : Bool) → IsApart (cond b (instr.End (end.Store v.first next)) (goto next))
+      go true = end_apart (end.Store v.first next)
+      go false = end_apart (end.Goto next)
+
+  element_apart : (q : Kind) (next : ℕ) → IsApart (element_store q next)
+  element_apart kind.Integer next = end_apart (end.StoreAt next)
+  element_apart kind.Logical next = end_apart (end.StoreAt next)
+  element_apart (kind.In t) next = end_apart (end.Goto next)
+  element_apart (kind.Out t) next = end_apart (end.Goto next)
+
   word_located : (q : Kind) (first : ℕ) → is_word q ≡ true → locate_code q first ≡ locate first ∷ []
   word_located kind.Integer first e = refl
   word_located kind.Logical first e = refl
@@ -278,7 +293,7 @@ module _ (p : Program) (u : ProgramUnit) (sound : IsSoundUnit u) (ts : List Port
       → refs_in_all now l + refs_in now t ≤ results_in ks → AreCounted p u (applied_each l) → AreCounted p u (applied t) → Good next → Ends at (assigned_code p u (Some w) l (expression_code p u t (refs_in_all now l)) next) ks
   assigned_ends at w here holds NoTrees t next ks only fits done subscripts h good =
       let x = expression_leaves p u sound ts n t 0 ks (omega (arith, done)) h in
-      closes Good ss me n at (expression_code p u t 0) (first_store (Some w.1) next) ks (Word x.told ∷ ks) (next ∷ []) x.leaves (λ b. stores w here holds next b x.told ks only) (good, tt)
+      closes Good ss me n at (expression_code p u t 0) (first_store (Some w.1) next) ks (Word x.told ∷ ks) (next ∷ []) x.leaves (λ b. stores w here holds next b x.told ks only) (good, tt) (store_apart w.1 next)
   assigned_ends at w here holds (More e l) t next ks only fits done subscripts h good =
       let k = refs_in_all now (More e l) in
       let place = expressions_code p u (More e l) 0 in
@@ -292,4 +307,4 @@ module _ (p : Program) (u : ProgramUnit) (sound : IsSoundUnit u) (ts : List Port
       subst (λ (c : List Instr). Ends at c ks)
       (append_assoc place located (value ++ last ∷ []) ∙ ap (λ (c : List Instr). place ++ (place_code w.1 (trees_count (More e l)) c ++ (value ++ last ∷ []))) (sym (word_located w.1.kind w.1.first holds)))
       (straight_then Good ss me n at (at + length (place ++ located)) (place ++ located) (value ++ last ∷ []) ks ms [] refl front (some_behind value (last ∷ []) (λ none. absurd cc))
-      (closes Good ss me n (at + length (place ++ located)) value last ms (Word x.told ∷ ms) (next ∷ []) x.leaves (λ b. stores_at w here w.1.kind refl holds next b x.told ks only) (good, tt)))
+      (closes Good ss me n (at + length (place ++ located)) value last ms (Word x.told ∷ ms) (next ∷ []) x.leaves (λ b. stores_at w here w.1.kind refl holds next b x.told ks only) (good, tt) (element_apart w.1.kind next)))

@@ -1,6 +1,6 @@
 -- The references of an entry, and then its statement, are walked through; so is the code of a unit, from its first entry to the
 -- last.
-use Rattle.std.proofs.Common.{◌≡◌, ℕ, zero, suc, ◌+◌, ◌-◌, ◌<◌, ◌≤◌, true, cond, ◌&&◌, ◌==◌, Option, Some, None, List, [], ◌∷◌, ◌++◌, length, map, reverse, refl, sym, ap, subst, ◌∙◌, arith, append_assoc, length-append}
+use Rattle.std.proofs.Common.{◌≡◌, ℕ, zero, suc, ◌+◌, ◌-◌, ◌<◌, ◌≤◌, true, false, cond, ◌&&◌, ◌==◌, Option, Some, None, List, [], ◌∷◌, ◌++◌, length, map, reverse, refl, sym, ap, subst, ◌∙◌, arith, append_assoc, length-append}
 use Rattle.std.specs.Prelude.{slice_get}
 use Rattle.std.proofs.lemmas.Bool.{eq-eqb}
 use Rattle.std.proofs.lemmas.Option.{slice_get_within}
@@ -27,6 +27,7 @@ use Rattle.fm_code_kinds.specs.Bodies.{coded}
 use Rattle.fm_code_kinds.specs.Shapes.{is_function}
 use Rattle.fm_code_kinds.specs.Effects.{Effect, Over, Ill, only_results, results_in, operands_on, operands_over, calls_fit, effect}
 use Rattle.fm_code_kinds.specs.Kinded.{IsAt, Kinded, results}
+use Rattle.fm_code_kinds.specs.Leading.{is_join, JoinsStand}
 use Rattle.fm_gen_relation.specs.Sound.{IsSoundUnit, IsFull}
 use Rattle.fm_gen_operands.specs.Places.{arguments_code}
 use Rattle.fm_gen_statements.specs.Statements.{statement_code, reference_operands, reference_end, refer}
@@ -38,12 +39,17 @@ use Rattle.fm_gen.proofs.UnitLaws.{entries_length, standing, entry_there}
 use Rattle.fm_gen_kinds.specs.Counted.{AreCounted}
 use Rattle.fm_gen_kinds.specs.Types.{types_of}
 use Rattle.fm_gen_kinds.specs.Units.{heading_by, shape_by, shapes_of}
-use Rattle.fm_gen_kinds.specs.Walks.{behind, IsNotEmpty, Next, StepsWell, Walks, walked}
+use Rattle.fm_gen_kinds.specs.Walks.{behind, IsNotEmpty, Next, StepsWell, Joined, Steps, Walks, walked}
 use Rattle.fm_gen_kinds.proofs.Straight.{operands_results}
 use Rattle.fm_gen_kinds.proofs.Expressions.{Kinds, cs}
 use Rattle.fm_gen_kinds.proofs.Arguments.{arguments_leave}
 use Rattle.fm_gen_kinds.proofs.Calling.{calls_so}
+use Rattle.fm_gen_kinds.proofs.Joins.{got_behind, first_front, joins_by}
 use Rattle.fm_gen_kinds.proofs.Walks.{some_behind, walks_then, straight_then, walked_end, kinded_by}
+
+not_empty : (is : List Instr) → 0 < length is → IsNotEmpty is
+not_empty [] less = absurd (omega (arith, less))
+not_empty (i ∷ is) less = λ none. absurd cc
 
 only_all : (j : ℕ) → only_results (results j) ≡ true
 only_all zero = refl
@@ -120,9 +126,11 @@ module _ (p : Program) (u : ProgramUnit) (sound : IsSoundUnit u) (n : ℕ) where
       let long = length-append ops (last ∷ []) in
       let there : b ≡ suc a = omega (arith, at, ap length code, long) in
       subst (λ (c : List Instr). Goes here c (results j) ls) (sym (append_assoc ops (last ∷ []) more) ∙ ap (λ c. c ++ more) (sym code))
-      (straight_then Good ss me n here a ops (last ∷ more) (results j) ms ls refl x.leaves (λ none. absurd cc)
-      (subst (λ (e : Effect). StepsWell Good a more e × Walks Good ss me n (suc a) more (behind e) ls) (sym ends)
-      (Next (ap (λ m. m ∷ []) step) some, subst (λ (m : ℕ). Goes m more (results (suc j)) ls) there w)))
+      (straight_then Good ss me n here a ops (last ∷ more) (results j) ms ls refl x.leaves (λ none. absurd cc) (
+        refl,
+        subst (λ (e : Effect). StepsWell Good a more e × Joined last more × Steps Good ss me n (suc a) more (behind e) ls) (sym ends)
+            (Next (ap (λ m. m ∷ []) step) some, w.0, subst (λ (m : ℕ). Steps Good ss me n m more (results (suc j)) ls) there w.1),
+      ))
 
   -- all of them
   references_walk : (s : Stmt) (rs : List ℕ) (here j b m : ℕ) → ((i r : ℕ) → slice_get rs i ≡ Some r → IsReference p u s (j + i) r) → (more : List Instr) (ls : Kinds) → IsNotEmpty more
@@ -161,13 +169,13 @@ module _ (p : Program) (u : ProgramUnit) (sound : IsSoundUnit u) (n : ℕ) where
   -- all entries
   module _ (each : (k : ℕ) (e : Point) → point_at u k ≡ Some e → Goes (address_of p u k) (entry_code p u (address_of p u) k (Some e)) [] []) where
     pub entries_walk : (k : ℕ) → Goes 0 (entries_code p u (address_of p u) k) [] []
-    entries_walk zero = refl
+    entries_walk zero = (refl, refl)
     entries_walk (suc k) =
         walks_then Good ss me n 0 (address_of p u k) (entries_code p u (address_of p u) k) (entry_code p u (address_of p u) k (point_at u k)) [] [] [] (omega (arith, entries_length p u (λ j. 0) (address_of p u) k))
         (entries_walk k) (go (point_at u k) refl)
       where
         go : (o : Option Point) → point_at u k ≡ o → Goes (address_of p u k) (entry_code p u (address_of p u) k o) [] []
-        go None is = refl
+        go None is = (refl, refl)
         go (Some e) is = each k e is
 
     abbrev lists_at : ℕ → Kinds
@@ -187,8 +195,22 @@ module _ (p : Program) (u : ProgramUnit) (sound : IsSoundUnit u) (n : ℕ) where
         let rise = (addresses_rise p u).rise h.number (length u.tree.body) h.point h.there less in
         record {
           inside = omega (arith, h.is, rise, entries_length p u (λ j. 0) addresses (length u.tree.body));
-          list = (λ i. walked ss me n 0 (begins i) (found.1 i) []) ∙ walked_end Good ss me n 0 front rest [] [] (entries_walk h.number);
+          list = (λ i. walked ss me n 0 (begins i) (found.1 i) []) ∙ walked_end Good ss me n 0 front rest [] [] (entries_walk h.number).1;
         }
+
+    -- no entry begins with what joins a block
+    apart : (a : ℕ) → Good a → is_join (slice_get (unit_code p u) a) ≡ false
+    apart a h =
+        let addresses = address_of p u in
+        let k = h.number in
+        let found = standing p u addresses (length u.tree.body) k (entry_within k h.point h.there) in
+        let front = entries_code p u addresses k in
+        let own = entry_code p u addresses k (point_at u k) in
+        let begins : a ≡ length front = h.is ∙ entries_length p u (λ j. 0) addresses k in
+        let rise = (addresses_rise p u).rise k (suc k) h.point h.there (omega arith) in
+        let long : 0 < length own = omega (arith, rise, entries_length p u (λ j. 0) addresses k, entries_length p u (λ j. 0) addresses (suc k), length-append front own) in
+        let starts : Goes (address_of p u k) own [] [] = subst (λ (o : Option Point). Goes (address_of p u k) (entry_code p u addresses k o) [] []) (sym h.there) (each k h.point h.there) in
+        (λ i. is_join (slice_get (found.1 i) (begins i))) ∙ ap is_join (got_behind front (own ++ found.0)) ∙ ap is_join (first_front own found.0 (not_empty own long)) ∙ starts.0
 
     -- where its entries begin
     same_number : (a b : ℕ) → Some a ≡ Some b → a ≡ b
@@ -208,7 +230,12 @@ module _ (p : Program) (u : ProgramUnit) (sound : IsSoundUnit u) (n : ℕ) where
         let here : 0 + i ≡ i = omega arith in
         record { number = i; point = record { entry = x.0; links = links_at u.tree.body (marks_of u.tree.body) i }; there = point_there u i x.0 x.1; is = x.2 ∙ ap (address_of p u) here }
 
-  -- a unit each of whose entries is walked through has its kinds
+  -- a unit each of whose entries is walked through joins its blocks, and has its kinds
+  pub unit_joins : n ≡ loop_count u.tree.body → ((k : ℕ) (e : Point) → point_at u k ≡ Some e → Goes (address_of p u k) (entry_code p u (address_of p u) k (Some e)) [] []) → JoinsStand (coded (unit_of_code p u))
+  unit_joins loops each =
+      subst (λ (m : ℕ). JoinsStand (record { entries = map (λ (e : Entry). e.address) (entries_at (address_of p u) 0 u.tree.body); loops = m; code = unit_code p u })) loops
+      (joins_by Good ss me (record { entries = map (λ (e : Entry). e.address) (entries_at (address_of p u) 0 u.tree.body); loops = n; code = unit_code p u }) [] (entries_walk each (length u.tree.body)) (apart each) (entry_starts each))
+
   pub unit_kinded : n ≡ loop_count u.tree.body → ((k : ℕ) (e : Point) → point_at u k ≡ Some e → Goes (address_of p u k) (entry_code p u (address_of p u) k (Some e)) [] []) → Kinded ss me (coded (unit_of_code p u))
   unit_kinded loops each =
       subst (λ (m : ℕ). Kinded ss me (record { entries = map (λ (e : Entry). e.address) (entries_at (address_of p u) 0 u.tree.body); loops = m; code = unit_code p u })) loops

@@ -21,13 +21,14 @@ use Rattle.fm_mean.proofs.Leading.{all_lead}
 use Rattle.fm_code_kinds.specs.Bodies.{coded}
 use Rattle.fm_code_kinds.specs.Effects.{only_results, results_in}
 use Rattle.fm_code_kinds.specs.Kinded.{Kinded}
+use Rattle.fm_code_kinds.specs.Leading.{JoinsStand}
 use Rattle.fm_gen_relation.specs.Sound.{IsSoundSimple, IsSoundStatement}
 use Rattle.fm_gen_relation.proofs.Done.{count_both, refs_exprs_count, refs_extras_count, refs_var_count, refs_vars_count}
 use Rattle.fm_gen_relation.proofs.Entries.{sound_entry}
 use Rattle.fm_gen_relation.proofs.Targets.{targets_fit}
 use Rattle.fm_gen_relation.proofs.Units.{sound_unit}
 use Rattle.fm_gen_statements.specs.Statements.{simple_code}
-use Rattle.fm_gen.specs.Entries.{address_of}
+use Rattle.fm_gen.specs.Entries.{address_of, entry_code}
 use Rattle.fm_gen.specs.Units.{loop_count, unit_of_code}
 use Rattle.fm_gen.proofs.UnitLaws.{entry_there}
 use Rattle.fm_gen_kinds.specs.Counted.{IsCounted, AreCounted, VariablesFit}
@@ -39,10 +40,10 @@ use Rattle.fm_gen_kinds.proofs.Places.{each_of}
 use Rattle.fm_gen_kinds.proofs.Asking.{close_ends}
 use Rattle.fm_gen_kinds.proofs.Closing.{closes_outport}
 use Rattle.fm_gen_kinds.proofs.Counting.{counted_entry}
-use Rattle.fm_gen_kinds.proofs.Entries.{IsStart}
+use Rattle.fm_gen_kinds.proofs.Entries.{IsStart, unit_joins, unit_kinded}
 use Rattle.fm_gen_kinds.proofs.Receiving.{leads_to, receive_ends}
 use Rattle.fm_gen_kinds.proofs.Sending.{send_ends}
-use Rattle.fm_gen_kinds.proofs.Statements.{IsLater, kinded}
+use Rattle.fm_gen_kinds.proofs.Statements.{IsLater, entry_walked}
 
 module _ (p : Program) (number : ℕ) (u : ProgramUnit) (here : unit_at p number ≡ Some u) (k : ℕ) (e : Point) (at : point_at u k ≡ Some e) where
   abbrev now : Scope
@@ -112,6 +113,15 @@ module _ (p : Program) (number : ℕ) (u : ProgramUnit) (here : unit_at p number
       asking_walks s is same (subst (StatementHasTypes p u) same sound.types.statement) (subst (IsSoundStatement p u) same sound.statement) (subst (StatementLeads p u e) same (all_lead p number u k e here at).statement)
       (counted.variables s same) (subst (λ (s : Stmt). AreCounted p u (applied_in s)) same counted.trees)
 
--- in each unit of a program
+-- each entry of a unit is walked through
+every_entry : (p : Program) (number : ℕ) (u : ProgramUnit) → unit_at p number ≡ Some u → (k : ℕ) (e : Point) → point_at u k ≡ Some e
+    → Walks (IsStart p u) (shapes_of p) (shape_by (types_of p) u) (loop_count u.tree.body) (address_of p u k) (entry_code p u (address_of p u) k (Some e)) [] []
+every_entry p number u here k e at = entry_walked p number u here (λ k e at. later_walks p number u here k e at) k e at
+
+-- each unit of a program has its kinds
 pub generated_kinded : (p : Program) (number : ℕ) (u : ProgramUnit) → unit_at p number ≡ Some u → Kinded (shapes_of p) (shape_by (types_of p) u) (coded (unit_of_code p u))
-generated_kinded p number u here = kinded p number u here (λ k e at. later_walks p number u here k e at)
+generated_kinded p number u here = unit_kinded p u (sound_unit p number u here) (loop_count u.tree.body) refl (every_entry p number u here)
+
+-- and joins its blocks
+pub generated_joins : (p : Program) (number : ℕ) (u : ProgramUnit) → unit_at p number ≡ Some u → JoinsStand (coded (unit_of_code p u))
+generated_joins p number u here = unit_joins p u (sound_unit p number u here) (loop_count u.tree.body) refl (every_entry p number u here)

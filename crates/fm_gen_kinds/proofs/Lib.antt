@@ -6,6 +6,8 @@ pub mod Arguments
 pub mod Seats
 pub mod Counting
 pub mod Walks
+pub mod Leads
+pub mod Joins
 pub mod Control
 pub mod Calling
 pub mod Entries

@@ -59,7 +59,7 @@ use Rattle.fm_gen_kinds.proofs.Calling.{taken_over}
 use Rattle.fm_gen_kinds.proofs.Asking.{at_port_is, sorted_leaves, same_place}
 use Rattle.fm_gen_kinds.proofs.TypeNumbers.{IsOf, fields_there}
 use Rattle.fm_gen_kinds.proofs.SizedTypes.{in_sizes}
-use Rattle.fm_gen_kinds.proofs.Walks.{closes}
+use Rattle.fm_gen_kinds.proofs.Walks.{IsApart, closes}
 
 pub word_field : (ts : List PortFields) (k : FieldKind) → holds_words k ≡ true → is_word (sort_by ts k) ≡ true
 word_field ts Integer e = refl
@@ -160,6 +160,10 @@ module _ (p : Program) (number : ℕ) (u : ProgramUnit) (here : unit_at p number
   leads_to None next = next ∷ []
   leads_to (Some to) next = to ∷ next ∷ []
 
+  receive_apart : (o : Option ℕ) (next : ℕ) → IsApart (receive_end o next)
+  receive_apart None next = record { join = refl; begin = refl }
+  receive_apart (Some to) next = record { join = refl; begin = refl }
+
   -- what a RECEIVE does, where its operands stand above the place of an inport
   received : (o : Option ℕ) (next c : ℕ) (t : PortFields) (ops : List Passed) (x : Span) (ks : Kinds) → sort_at all x ≡ Some (sort.In (number_in ts t)) → only_results ks ≡ true → fit_fields (fits_received all) (fields_of ss (number_in ts t)) ops ≡ true
       → effect ss me n c (receive_end o next) (operands_over (reverse ops) (Word (Some x) ∷ ks)) ≡ Over (leads_to o next) 0
@@ -207,4 +211,4 @@ module _ (p : Program) (number : ℕ) (u : ProgramUnit) (here : unit_at p number
       (append_assoc one (two ++ three) (last ∷ []) ∙ ap (λ (code : List Instr). one ++ code) (append_assoc two three (last ∷ [])))
       (closes Good ss me n at (one ++ (two ++ three)) last ks ms (leads_to o next)
       (then_more all n one (two ++ three) ks under ms x.leaves (then_more all n two three under under ms y z.leaves))
-      (λ d. received o next d t z.operands x.among ks x.of only all_fit) good)
+      (λ d. received o next d t z.operands x.among ks x.of only all_fit) good (receive_apart o next))

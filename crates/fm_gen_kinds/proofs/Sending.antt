@@ -286,4 +286,4 @@ module _ (p : Program) (number : ℕ) (u : ProgramUnit) (here : unit_at p number
       (append_assoc one (two ++ three) (last ∷ []) ∙ ap (λ (code : List Instr). one ++ code) (append_assoc two three (last ∷ [])) ∙ ap (λ (t : PortFields). one ++ (two ++ (cuts_code 0 t ++ last ∷ []))) type)
       (closes Good ss me n at (one ++ (two ++ three)) last ks ms (next ∷ [])
       (then_more all n one (two ++ three) ks under ms x.leaves (then_more all n two three under (operands_over (reverse y.operands) under) ms y.leaves cuts))
-      (λ d. sent next d t ops x.among ks x.of only fit) (good, tt))
+      (λ d. sent next d t ops x.among ks x.of only fit) (good, tt) (record { join = refl; begin = refl }))

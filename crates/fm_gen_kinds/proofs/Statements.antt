@@ -37,9 +37,7 @@ use Rattle.fm_mean.specs.Typing.{sort_of, LoopFits}
 use Rattle.fm_mean.proofs.JudgedItems.{all_left, all_right}
 use Rattle.fm_mean.proofs.Leading.{all_lead}
 use Rattle.fm_code.specs.declared.instr.Instr.{Instr}
-use Rattle.fm_code_kinds.specs.Bodies.{coded}
 use Rattle.fm_code_kinds.specs.Effects.{only_results, results_in, is_port_sort}
-use Rattle.fm_code_kinds.specs.Kinded.{Kinded}
 use Rattle.fm_code_kinds.specs.Shapes as shapes
 use Rattle.fm_gen_relation.specs.Sound.{IsSoundUnit, IsVariable, IsSoundSimple, IsSoundStatement, is_word}
 use Rattle.fm_gen_relation.specs.Frames.{counts_trips, opens_counted, loop_number}
@@ -49,7 +47,7 @@ use Rattle.fm_gen_relation.proofs.Units.{sound_unit}
 use Rattle.fm_gen_operands.specs.Code.{expression_code}
 use Rattle.fm_gen_statements.specs.Statements.{do_code, test_code, jump_code, assigned_code, call_by, start_by, end_code, loop_end_code, again_code, simple_code, statement_code}
 use Rattle.fm_gen.specs.Entries.{address_of, entry_code}
-use Rattle.fm_gen.specs.Units.{loop_count, unit_of_code}
+use Rattle.fm_gen.specs.Units.{loop_count}
 use Rattle.fm_gen.proofs.Ends.{IsEnded}
 use Rattle.fm_gen.proofs.UnitLaws.{entry_there, statement_ended}
 use Rattle.fm_gen_kinds.specs.Counted.{IsCounted, AreCounted, VariableFits, VariablesFit}
@@ -65,7 +63,7 @@ use Rattle.fm_gen_kinds.proofs.Control.{sorted, goto_ends, test_ends, return_end
 use Rattle.fm_gen_kinds.proofs.Calling.{call_ends, start_ends}
 use Rattle.fm_gen_kinds.proofs.Asking.{channel_ends, move_ends, probe_ends, merger_ends}
 use Rattle.fm_gen_kinds.proofs.Counting.{counted_entry}
-use Rattle.fm_gen_kinds.proofs.Entries.{IsStart, entry_walks, unit_kinded}
+use Rattle.fm_gen_kinds.proofs.Entries.{IsStart, entry_walks}
 use Rattle.fm_gen_kinds.proofs.Referring.{references_counted, is_reference}
 
 -- ---- sorts
@@ -351,9 +349,9 @@ module _ (p : Program) (number : ℕ) (u : ProgramUnit) (here : unit_at p number
         not_empty : (code : List Instr) → IsEnded code → IsNotEmpty code
         not_empty code h none = some_behind h.before (h.last ∷ []) (λ x. absurd cc) (sym h.is ∙ none)
 
--- a unit has its kinds, where those statements are walked through too
-pub kinded : (p : Program) (number : ℕ) (u : ProgramUnit) (here : unit_at p number ≡ Some u)
+-- each entry is walked through, where those statements are walked through too
+pub entry_walked : (p : Program) (number : ℕ) (u : ProgramUnit) (here : unit_at p number ≡ Some u)
     → ((k : ℕ) (e : Point) → point_at u k ≡ Some e → (s : Simple) → IsLater s → e.entry.stmt ≡ stmt.Simple s → (a : ℕ) (ks : Kinds) → only_results ks ≡ true → length (calls_among p u (in_simple s)) ≤ results_in ks
     → Walks (IsStart p u) (shapes_of p) (shape_by (types_of p) u) (loop_count u.tree.body) a (simple_code p u (address_of p u) e s) ks [])
-    → Kinded (shapes_of p) (shape_by (types_of p) u) (coded (unit_of_code p u))
-kinded p number u here later = unit_kinded p u (sound_unit p number u here) (loop_count u.tree.body) refl (λ k e at. entry_kinded p number u here k e at (later k e at))
+    → (k : ℕ) (e : Point) → point_at u k ≡ Some e → Walks (IsStart p u) (shapes_of p) (shape_by (types_of p) u) (loop_count u.tree.body) (address_of p u k) (entry_code p u (address_of p u) k (Some e)) [] []
+entry_walked p number u here later k e at = entry_kinded p number u here k e at (later k e at)

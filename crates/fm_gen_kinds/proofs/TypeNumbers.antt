@@ -21,7 +21,7 @@ never : true ≡ false → ⊥
 never e = absurd cc
 
 -- a type is among these
-abbrev Has : List PortFields → PortFields → Type 0
+abbrev pub Has : List PortFields → PortFields → Type 0
 Has ts p = list_any (same_fields p) ts ≡ true
 
 same_self : (p : PortFields) → same_fields p p ≡ true
@@ -42,7 +42,7 @@ at_number (t ∷ ts) p h = go (same_fields t p) refl (same_fields p t) refl h (�
 -- ---- more types
 
 -- some types behind those that are there
-abbrev Extends : List PortFields → List PortFields → Type 0
+abbrev pub Extends : List PortFields → List PortFields → Type 0
 Extends ts us = (more : List PortFields) × (us ≡ ts ++ more)
 
 extends_self : (ts : List PortFields) → Extends ts ts
@@ -55,7 +55,7 @@ or_true : (b c : Bool) → b ≡ true → (b || c) ≡ true
 or_true true c e = refl
 or_true false c e = absurd cc
 
-has_further : (ts us : List PortFields) (p : PortFields) → Extends ts us → Has ts p → Has us p
+pub has_further : (ts us : List PortFields) (p : PortFields) → Extends ts us → Has ts p → Has us p
 has_further ts us p x h = ap (list_any (same_fields p)) x.1 ∙ list_any-append (same_fields p) ts x.0 ∙ or_true (list_any (same_fields p) ts) (list_any (same_fields p) x.0) h
 
 one_extends : (ts : List PortFields) (p : PortFields) → Extends ts (needed_in ts p) → (b : Bool) → Extends ts (cond b ts (needed_in ts p ++ p ∷ []))
@@ -63,11 +63,11 @@ one_extends ts p x true = extends_self ts
 one_extends ts p x false = extends_then ts (needed_in ts p) (needed_in ts p ++ p ∷ []) x (p ∷ [], refl)
 
 mutual
-  in_extends : (ts : List PortFields) (p : PortFields) → Extends ts (needed_in ts p)
+  pub in_extends : (ts : List PortFields) (p : PortFields) → Extends ts (needed_in ts p)
   in_extends ts NoFields = extends_self ts
   in_extends ts (FieldThen k name bounds rest) = extends_then ts (needed_by ts k) (needed_in (needed_by ts k) rest) (by_extends ts k) (in_extends (needed_by ts k) rest)
 
-  by_extends : (ts : List PortFields) (k : FieldKind) → Extends ts (needed_by ts k)
+  pub by_extends : (ts : List PortFields) (k : FieldKind) → Extends ts (needed_by ts k)
   by_extends ts Integer = extends_self ts
   by_extends ts Logical = extends_self ts
   by_extends ts (In p) = one_extends ts p (in_extends ts p) (list_any (same_fields p) ts)
@@ -92,7 +92,7 @@ IsOf Logical t = ⊥
 IsOf (In p) t = p ≡ t
 IsOf (Out p) t = p ≡ t
 
-by_has : (ts : List PortFields) (k : FieldKind) (t : PortFields) → IsOf k t → Has (needed_by ts k) t
+pub by_has : (ts : List PortFields) (k : FieldKind) (t : PortFields) → IsOf k t → Has (needed_by ts k) t
 by_has ts Integer t h = absurd h
 by_has ts Logical t h = absurd h
 by_has ts (In p) t h = subst (Has (needed_by ts (In p))) h (one_has ts p (list_any (same_fields p) ts) refl)
@@ -133,3 +133,8 @@ fields_there p number u here i v at t h =
     let ts = types_of p in
     let has = all_has [] p.names.units number u.names i v t (parts_of p number u here).1 at h in
     ap fields_in (slice_get-map (fields_by ts) ts (number_in ts t) ∙ ap (option_map (fields_by ts)) (at_number ts t has))
+
+-- and there is one
+pub number_there : (p : Program) (number : ℕ) (u : ProgramUnit) → unit_at p number ≡ Some u → (i : ℕ) (v : Variable) → slice_get u.names.variables i ≡ Some v → (t : PortFields) → IsOf (kind_of v.kind) t
+    → slice_get (types_of p) (number_in (types_of p) t) ≡ Some t
+number_there p number u here i v at t h = at_number (types_of p) t (all_has [] p.names.units number u.names i v t (parts_of p number u here).1 at h)
