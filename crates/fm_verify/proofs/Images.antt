@@ -33,13 +33,13 @@ use Rattle.fm_verify.proofs.Shapes.{shape_alike, shapes_alike}
 
 -- ---- units
 
-found : {A : Type 0} (xs : List A) (k : ℕ) → k < length xs → (x : A) × (slice_get xs k ≡ Some x)
+pub found : {A : Type 0} (xs : List A) (k : ℕ) → k < length xs → (x : A) × (slice_get xs k ≡ Some x)
 found [] k less = absurd (omega (arith, less))
 found (x ∷ xs) zero less = (x, refl)
 found (x ∷ xs) (suc k) less = found xs k (omega (arith, less))
 
 -- each unit has its names
-as_many : (p : Program) → length p.names.units ≡ length p.units.units
+pub as_many : (p : Program) → length p.names.units ≡ length p.units.units
 as_many p = from_rules p (length p.names.units ≡ length p.units.units) (λ a b. ℕ_set (length p.names.units) (length p.units.units) a b) (λ h. ap (λ (l : List UnitNames). length l) h.names_are ∙ length-map p.units.units (unit_names (titles_of p.units.units)))
 
 -- and its code
@@ -51,7 +51,7 @@ coded_so_far p (suc k) le =
     let one : length (unit_if p (unit_at p k)) ≡ 1 = λ i. length (unit_if p (unit_with (t.1 i) (n.1 i))) in
     omega (arith, one, length-append (units_of_code p k) (unit_if p (unit_at p k)), coded_so_far p k (omega (arith, le)))
 
-all_coded : (p : Program) → length (code_of p).units ≡ length p.units.units
+pub all_coded : (p : Program) → length (code_of p).units ≡ length p.units.units
 all_coded p = coded_so_far p (length p.units.units) (omega arith)
 
 pub shapes_same : (p : Program) → shapes_of (image_of p (code_of p)) ≡ program.shapes_of p
@@ -67,16 +67,16 @@ pub units_same : (p : Program) → length (image_of p (code_of p)).units ≡ len
 units_same p = as_long (types_of p) p.units.units p.names.units (code_of p).units (as_many p) (all_coded p)
 
 -- what a unit of an image is made of
-record IsMade (ts : List PortFields) (us : List tree.Unit) (ns : List UnitNames) (cs : List code_unit.Unit) (k : ℕ) (v : UnitImage) : Type 0 where
-  unit : tree.Unit
-  names : UnitNames
-  code : code_unit.Unit
-  unit_there : slice_get us k ≡ Some unit
-  names_there : slice_get ns k ≡ Some names
-  code_there : slice_get cs k ≡ Some code
-  is : unit_image ts unit names code ≡ v
+pub record IsMade (ts : List PortFields) (us : List tree.Unit) (ns : List UnitNames) (cs : List code_unit.Unit) (k : ℕ) (v : UnitImage) : Type 0 where
+  pub unit : tree.Unit
+  pub names : UnitNames
+  pub code : code_unit.Unit
+  pub unit_there : slice_get us k ≡ Some unit
+  pub names_there : slice_get ns k ≡ Some names
+  pub code_there : slice_get cs k ≡ Some code
+  pub is : unit_image ts unit names code ≡ v
 
-made : (ts : List PortFields) (us : List tree.Unit) (ns : List UnitNames) (cs : List code_unit.Unit) (k : ℕ) (v : UnitImage) → slice_get (units_image ts us ns cs) k ≡ Some v → IsMade ts us ns cs k v
+pub made : (ts : List PortFields) (us : List tree.Unit) (ns : List UnitNames) (cs : List code_unit.Unit) (k : ℕ) (v : UnitImage) → slice_get (units_image ts us ns cs) k ≡ Some v → IsMade ts us ns cs k v
 made ts [] ns cs k v e = absurd cc
 made ts (u ∷ us) [] cs k v e = absurd cc
 made ts (u ∷ us) (n ∷ ns) [] k v e = absurd cc

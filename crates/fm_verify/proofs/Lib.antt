@@ -1,2 +1,9 @@
 pub mod Shapes
 pub mod Images
+pub mod Machines
+pub mod Formals
+pub mod Sense
+pub mod PortTypes
+pub mod TypeOrder
+pub mod Mains
+pub mod Makes

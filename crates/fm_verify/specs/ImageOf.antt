@@ -1,7 +1,7 @@
 -- The image of a program and its code: what they say, in the form of an image.
 -- Source: ANSI X3.9-1978, sections 2.4 (program units), 5 (arrays) and 15.9 (arguments); the Fortran M report (typed ports,
 -- machines); the numbers by this profile.
-use Rattle.std.specs.Prelude.{ℕ, suc, ◌==◌, cond, Option, Some, None, List, [], ◌∷◌, map}
+use Rattle.std.specs.Prelude.{◌≡◌, ℕ, suc, ◌==◌, cond, Option, Some, None, List, [], ◌∷◌, map}
 use Rattle.fm_code.specs.declared.code.Code.{Code}
 use Rattle.fm_code.specs.declared.code.Unit as code_unit
 use Rattle.fm_tree.specs.PortFields.{PortFields, FieldKind, NoFields, FieldThen, Integer, Logical, In, Out}
@@ -16,6 +16,9 @@ use Rattle.fm_symbols.specs.declared.names.Variable.{Variable}
 use Rattle.fm_rules.specs.PortTypes.{sizing_place}
 use Rattle.fm_rules.specs.declared.program.Program.{Program}
 use Rattle.fm_mean.specs.Fits.{elements_in}
+use Rattle.fm_mean.specs.Names.{ProgramUnit, unit_at}
+use Rattle.fm_net.specs.Typed.{AllIn}
+use Rattle.fm_object.specs.Texts.{IsName}
 use Rattle.fm_object.specs.declared.image.Cell.{Cell}
 use Rattle.fm_object.specs.declared.image.FieldImage.{FieldImage}
 use Rattle.fm_object.specs.declared.image.Image.{Image}
@@ -88,3 +91,7 @@ image_of p c = record {
   types = map (fields_image (types_of p)) (types_of p);
   units = units_image (types_of p) p.units.units p.names.units c.units;
 }
+
+-- the names of its variables are names of the language
+abbrev pub NamesAreNames : Program → Type 0
+NamesAreNames p = (number : ℕ) (u : ProgramUnit) → unit_at p number ≡ Some u → AllIn (λ (v : Variable). IsName v.name) u.names.variables

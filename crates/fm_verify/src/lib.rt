@@ -9,7 +9,8 @@ ghost use Rattle.fm_gen.specs.Programs.{code_of};
 ghost use Rattle.fm_gen_kinds.specs.Units as program;
 ghost use Rattle.fm_object.specs.declared.image.UnitImage.{UnitImage};
 ghost use Rattle.fm_verify_law.specs.Shapes.{coded_of, shape_of, shapes_of};
-ghost use Rattle.fm_verify.specs.ImageOf.{image_of};
+ghost use Rattle.fm_verify_law.specs.Typed.{Typed};
+ghost use Rattle.fm_verify.specs.ImageOf.{NamesAreNames, image_of};
 
 /// The image of a program has a unit for each of the program's, in their order, and says of each, and of the types of ports, what
 /// kinds of operands are told by.
@@ -22,4 +23,9 @@ pub fn image_has_shapes()
 /// names.
 pub fn image_has_its_kinds()
     ensures { (p : Program) (number : ℕ) (u : UnitImage) → slice_get (image_of p (code_of p)).units number ≡ Some u → Kinded (shapes_of (image_of p (code_of p))) (shape_of u) (coded_of u) }
+{}
+
+/// The image of a program makes sense, where the names of its variables are names of the language.
+pub fn image_makes_sense()
+    ensures { (p : Program) → NamesAreNames p → Typed (image_of p (code_of p)) }
 {}
