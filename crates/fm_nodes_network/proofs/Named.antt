@@ -9,7 +9,7 @@ use Rattle.fm_finmap.specs.Map.{map_of, map_values}
 use Rattle.fm_finmap.proofs.Keys.{channel_order}
 use Rattle.fm_finmap.proofs.Inserts.{insert_here}
 use Rattle.fm_finmap.proofs.Adjusts.{adjust_absent}
-use Rattle.fm_finmap.proofs.Maps.{get-map_values, map_values-empty, map_values-insert, map_values-adjust, map_values-same}
+use Rattle.fm_finmap.proofs.Maps.{get-map_values, map_values-empty, map_values-insert, map_values-remove, map_values-adjust, map_values-same}
 use Rattle.fm_link_law.specs.Channels.{LinkedChan}
 use Rattle.fm_nodes_network.specs.declared.channel.Channel.{Channel}
 use Rattle.fm_nodes_network.specs.Channel.{linked_of, HasRoom}
@@ -33,6 +33,10 @@ pub linked_chans_in-insert : (old new : Named) (q : ChanName) (b : Channel) (l :
 unfolding linked_chans_in
 linked_chans_in-insert old new q b l e is =
     ap (map_values linked_of) e ∙ map_values-insert linked_of channel_order (by_name old) q b ∙ ap (map.insert (map_values linked_of (by_name old)) q) is
+
+pub linked_chans_in-remove : (old new : Named) (q : ChanName) → by_name new ≡ map.remove (by_name old) q → linked_chans_in new ≡ map.remove (linked_chans_in old) q
+unfolding linked_chans_in
+linked_chans_in-remove old new q e = ap (map_values linked_of) e ∙ map_values-remove linked_of channel_order (by_name old) q
 
 some_is : {X : Type 0} (o : Option X) (x : X) → Some x ≡ o → IsSome o
 some_is o x is = subst (λ (p : Option _). IsSome p) is refl

@@ -1,6 +1,6 @@
 //! The channels by their names.
 
-ghost use Rattle.std.specs.Prelude.{◌≡◌, ◌^◌, ◌<◌, true, cond, map, Some, OnOk, OnErr, option_copied, option_map};
+ghost use Rattle.std.specs.Prelude.{◌≡◌, ◌^◌, ◌<◌, true, cond, map, Some, OnOk, OnErr, is_some, option_copied, option_map};
 ghost use Rattle.std.specs.FinMap as finite;
 ghost use Rattle.fm_base.specs.Channels.{Words};
 ghost use Rattle.fm_finmap.specs.Changes.{adjust};
@@ -44,6 +44,16 @@ impl Channels {
         self.by_name.get(name)
     }
 
+    /// Whether there is a channel of a name.
+    pub fn has(&self, name: &ChanName) -> bool
+        ensures { result ≡ is_some (finite.get (linked_chans_of self.now) name.now) }
+    {
+        match self.get(name) {
+            Some(_) => true,
+            None => false,
+        }
+    }
+
     /// A new channel of this name, with one writer or none. With none it is at its end. After want of memory nothing has
     /// changed.
     pub fn make(&mut self, alloc: Global, name: ChanName, has_writer: bool) -> Result<(), NoMemory>
@@ -54,6 +64,13 @@ impl Channels {
         let channel = Channel::new(alloc, has_writer)?;
         self.by_name.insert(name, channel)?;
         Ok(())
+    }
+
+    /// The channel of this name is gone again, as if it hadn't been made. Takes no memory.
+    pub fn unmake(&mut self, name: &ChanName)
+        ensures { linked_chans_of self.new ≡ finite.remove (linked_chans_of self.old) name.now }
+    {
+        self.by_name.remove(name);
     }
 
     /// Makes room for a message at a channel. Want of memory changes nothing.
