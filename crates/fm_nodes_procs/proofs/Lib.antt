@@ -1,4 +1,4 @@
-mod Kept
+pub mod Kept
 pub mod Procs
 pub mod Family
 mod Starting
