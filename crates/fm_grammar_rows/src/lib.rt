@@ -1,5 +1,5 @@
 //! Cards, tokens, long expressions, statements read by the whole grammar and spelled again,
-//! objects, and traces. This crate has tests alone.
+//! objects, which of them make sense, and traces. This crate has tests alone.
 #![tactic(auto)]
 
 #[cfg(test)]
@@ -12,3 +12,5 @@ mod objects;
 mod statements;
 #[cfg(test)]
 mod traces;
+#[cfg(test)]
+mod verified;
