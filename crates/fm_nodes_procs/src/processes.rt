@@ -1,6 +1,6 @@
 //! The processes on hosts.
 
-ghost use Rattle.std.specs.Prelude.{◌≡◌, ◌<◌, ◌++◌, ◌^◌, [], ◌∷◌, Some, IfNone, IfSome, OnOk, length, slice_get};
+ghost use Rattle.std.specs.Prelude.{◌≡◌, ◌<◌, ◌++◌, ◌^◌, [], ◌∷◌, Some, IfNone, IfSome, OnErr, OnOk, length, slice_get};
 ghost use Rattle.std.proofs.Props.{props};
 ghost use Rattle.std.specs.FinMap.{empty, get, insert};
 ghost use Rattle.fm_finmap.specs.Rows.{AreDistinct, HasRows, numbered_map, places_in};
@@ -146,6 +146,7 @@ impl<X: Drop> Processes<X> {
         requires { order_of self.old ≡ [] }
         ensures map { OnOk result (by_path self.new ≡ insert empty path process) }
         ensures order { OnOk result (order_of self.new ≡ path ∷ []) }
+        ensures err { OnErr result ((order_of self.new ≡ order_of self.old) × (by_path self.new ≡ by_path self.old)) }
     {
         let shared = Arc::new(alloc, path)?;
         let mut paths = Vec::new(alloc);
