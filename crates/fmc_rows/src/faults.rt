@@ -1,7 +1,9 @@
 //! Sources and sinks that fail, and sources at their limit.
 
-use crate::answers::{Streams, answer_over};
-use fmc::Exit;
+use crate::answers::{Back, Streams, answer_over};
+use fm_io::{MemSink, MemSource};
+use fmc::{Exit, Ran, fmc};
+use std::alloc::Global;
 use std::test::Fail;
 
 const LEAST: &[u8] = b"      PROGRAM P\n      PRINT *, 1\n      END\n";
@@ -40,6 +42,17 @@ const FAILURES: [(Streams, Exit, &[u8]); 2] = [
     ),
 ];
 
+/// The write that fails, or none, and the room of the sink, where bytes go one by one; and the exit and the text.
+const WRITES: [(u64, usize, Exit, &[u8]); 7] = [
+    (1, 64, Exit::WriteFault, b""),
+    (2, 64, Exit::WriteFault, b" "),
+    (3, 64, Exit::WriteFault, b" 1"),
+    (0, 0, Exit::WriteFault, b""),
+    (0, 1, Exit::WriteFault, b" "),
+    (0, 2, Exit::WriteFault, b" 1"),
+    (0, 3, Exit::Done, b" 1\n"),
+];
+
 /// Pieces of which a million bytes are not too many.
 const LONG: Streams = Streams {
     read: 65_536,
@@ -64,6 +77,43 @@ fn a_call_fails(rt: HostRuntime) -> Result<(), Fail> {
     for (streams, exit, text) in &FAILURES {
         let source = Vec::from_slice(rt.alloc(), LEAST)?;
         let (ran, written) = answer_over(rt.alloc(), streams, &["run"], source)?;
+        assert_eq!(rt; written.as_slice(), *text);
+        assert_eq!(rt; ran.exit, *exit);
+    }
+    Ok(())
+}
+
+// What is answered to the least program where bytes go one by one, this read fails and this write, and the sink has this room.
+fn one_by_one(alloc: Global, read: u64, write: u64, room: usize) -> Result<(Ran, Vec<u8>), Fail> {
+    let bytes = Vec::from_slice(alloc, LEAST)?;
+    let mut source = MemSource::new(bytes, 1, Vec::from_slice(alloc, &[read])?);
+    let mut sink = MemSink::new(alloc, 1, room, Vec::from_slice(alloc, &[write])?)?;
+    let ran = fmc(alloc, &["run"], &mut source, &mut sink, &Back);
+    Ok((ran, Vec::from_slice(alloc, sink.bytes())?))
+}
+
+#[test]
+fn each_read_fails(rt: HostRuntime) -> Result<(), Fail> {
+    // one read for each byte, and one that finds the end
+    for call in 1..45u64 {
+        let (ran, written) = one_by_one(rt.alloc(), call, 0, 64)?;
+        assert_eq!(rt;
+            written.as_slice(),
+            b"read fault\n".as_slice(),
+            "call {call}"
+        );
+        assert_eq!(rt; ran.exit, Exit::ReadFault);
+    }
+    let (ran, written) = one_by_one(rt.alloc(), 45, 0, 64)?;
+    assert_eq!(rt; written.as_slice(), b" 1\n".as_slice());
+    assert_eq!(rt; ran.exit, Exit::Done);
+    Ok(())
+}
+
+#[test]
+fn each_write_fails(rt: HostRuntime) -> Result<(), Fail> {
+    for (write, room, exit, text) in &WRITES {
+        let (ran, written) = one_by_one(rt.alloc(), 0, *write, *room)?;
         assert_eq!(rt; written.as_slice(), *text);
         assert_eq!(rt; ran.exit, *exit);
     }

@@ -20,6 +20,8 @@ mod language;
 #[cfg(test)]
 mod made;
 #[cfg(test)]
+mod pieces;
+#[cfg(test)]
 mod placement;
 #[cfg(test)]
 mod pools;
