@@ -5,7 +5,7 @@
 
 Runs programs that spend all their turns, or nearly all, on one thing: words of frames (processes with an array each,
 all at once), the history (a slice of 1, so that each step is an entry), messages that nobody receives, and processes (a block of as many as the
-turns allow). Prints the peak of each in megabytes, less that of a program that does nothing, and how it ended.
+turns allow, and a chain in which each starts the next one). Prints the peak of each in megabytes, less that of a program that does nothing, and how it ended.
 BINARY is the built program, by default crates/fmc_cli/out/fmc_cli.
 """
 import os
@@ -67,11 +67,26 @@ PROCESSES = """
       END
 """
 
+CHAIN = """
+      PROGRAM CHAIN
+      PROCESSES
+        PROCESSCALL T(1)
+      ENDPROCESSES
+      END
+      PROCESS T(N)
+      INTENT(IN) N
+      PROCESSES
+        PROCESSCALL T(N+1)
+      ENDPROCESSES
+      END
+"""
+
 RUNS = [
     ("160 processes with 60,000 words each", WORDS, []),
     ("9,800,003 entries of the history", HISTORY, ["--slice", "1"]),
     ("1,000,000 messages of one integer in a queue", QUEUE, []),
     ("1,900,000 processes", PROCESSES, []),
+    ("processes that start processes without end", CHAIN, []),
 ]
 
 

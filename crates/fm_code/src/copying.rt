@@ -4,6 +4,7 @@ ghost use Rattle.std.specs.Prelude.{◌≡◌, IfOk};
 
 use crate::body::{Body, Frame, Start};
 use crate::pile::Pile;
+use crate::rare::Rare;
 use fm_base::{NoMemory, Seq};
 use std::alloc::Global;
 
@@ -19,10 +20,10 @@ fn copy_start(alloc: Global, start: &Start) -> Result<Start, NoMemory>
     })
 }
 
-fn copy_starts(alloc: Global, starts: &[Start]) -> Result<Seq<Start>, NoMemory>
+fn copy_starts(alloc: Global, starts: &[Start]) -> Result<Rare<Start>, NoMemory>
     ensures { IfOk result (λ s. s ≡ starts.now) }
 {
-    let mut copies = Seq::new(alloc);
+    let mut copies = Rare::new(alloc);
     'starts: for start in starts {
         copies.push(copy_start(alloc, start)?)?;
     }

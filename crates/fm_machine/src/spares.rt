@@ -3,7 +3,7 @@
 ghost use Rattle.std.specs.Prelude.{◌≡◌, ◌⊎◌, ◌∷◌, drop};
 
 use fm_base::Seq;
-use fm_code::{Frame, Pile};
+use fm_code::{Frame, Pile, Rare};
 use std::alloc::Global;
 
 /// How many frames are kept.
@@ -34,7 +34,7 @@ pub(crate) fn spare_frame(alloc: Global, spare: &mut Pile<Frame>) -> Frame
         words: Seq::new(alloc),
         loops: Seq::new(alloc),
         results: Seq::new(alloc),
-        starts: Seq::new(alloc),
+        starts: Rare::new(alloc),
         backs: Seq::new(alloc),
     }
 }

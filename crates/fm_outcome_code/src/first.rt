@@ -12,7 +12,7 @@ ghost use Rattle.fm_procs.specs.Readings.{order_of, proc_in, state_of};
 ghost use Rattle.fm_outcome_code.specs.Shown.{first_process};
 
 use fm_base::{Machine, NoMemory, Path, Seq};
-use fm_code::{Body, Code, Frame, Pile, Unit};
+use fm_code::{Body, Code, Frame, Pile, Rare, Unit};
 use fm_gen::generate;
 use fm_machine_calls::unit_at;
 use fm_machine_fused::share_code;
@@ -43,7 +43,7 @@ fn first_frame(alloc: Global, number: u32, unit: &Unit) -> Result<Frame, NoMemor
         words: no_words(alloc, unit.words)?,
         loops: no_loops(alloc, unit.loops)?,
         results: Seq::new(alloc),
-        starts: Seq::new(alloc),
+        starts: Rare::new(alloc),
         backs: Seq::new(alloc),
     })
 }
@@ -78,7 +78,7 @@ fn first_process(alloc: Global, program: &Program) -> Result<Process, NoMemory>
         phase: Phase::Running,
         body,
         slots: Slots::new(alloc),
-        lines: Seq::new(alloc),
+        lines: Rare::new(alloc),
         next_block: 1,
         next_channel: 1,
     })

@@ -6,7 +6,7 @@ ghost use Rattle.fm_proc_events.specs.Phases.{proc_of};
 ghost use Rattle.fm_proc.specs.Runs.{Runs};
 ghost use Rattle.fm_proc_events.specs.Told.{is_running, look_of};
 
-use fm_base::{NoMemory, Seq};
+use fm_base::NoMemory;
 use fm_machine::{Made, proceed};
 use fm_machine_calls::Look;
 use fm_machine_instr::Work;
@@ -23,16 +23,6 @@ pub struct Advanced {
     pub cost: u64,
     /// What the process does then.
     pub next: Look,
-}
-
-fn add_lines(alloc: Global, lines: &mut Seq<Seq<u8>>, more: Seq<Seq<u8>>) -> Result<(), NoMemory>
-    ensures { OnOk result (lines.new ≡ lines.old ++ more) }
-{
-    let mut all = lines.take(alloc).into_vec();
-    let mut more = more.into_vec();
-    all.append(&mut more)?;
-    *lines = Seq::from_vec(all);
-    Ok(())
 }
 
 /// Does statements of a process, as many as `slice` at most, and stops where the next one touches channels or other processes,
@@ -60,6 +50,6 @@ pub fn advance(
         lines,
         next,
     } = made;
-    add_lines(alloc, &mut process.lines, lines)?;
+    process.lines.append(lines)?;
     Ok(Advanced { steps, cost, next })
 }

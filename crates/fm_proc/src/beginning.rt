@@ -16,7 +16,7 @@ ghost use Rattle.fm_proc_events.specs.Performs.{Performs};
 
 use crate::performing::StepEnd;
 use fm_base::{NoMemory, Path, Seq};
-use fm_code::{Body, Frame, Pile, SharedCode, Start, Trips};
+use fm_code::{Body, Frame, Pile, Rare, SharedCode, Start, Trips};
 use fm_proc_events::{Kid, Phase, Process, loops_at, ports_at};
 use fm_proc_slots::{OpenSlots, Slots, move_over, span_words};
 use std::alloc::Global;
@@ -41,7 +41,7 @@ fn blank_frame(alloc: Global, code: &SharedCode, unit: u32) -> Result<Frame, NoM
         words: Seq::new(alloc),
         loops: no_loops(alloc, loops_at(code, unit))?,
         results: Seq::new(alloc),
-        starts: Seq::new(alloc),
+        starts: Rare::new(alloc),
         backs: Seq::new(alloc),
     })
 }
@@ -66,7 +66,7 @@ fn blank(alloc: Global, body: &Body, start: &Start) -> Result<Process, NoMemory>
         phase: Phase::Running,
         body: Some(blank_body(alloc, body, start)?),
         slots: Slots::new(alloc),
-        lines: Seq::new(alloc),
+        lines: Rare::new(alloc),
         next_block: 1,
         next_channel: 1,
     })
@@ -199,7 +199,7 @@ fn put_children(
 fn children(
     alloc: Global,
     drafts: Vec<Draft>,
-    starts: &mut Seq<Start>,
+    starts: &mut Rare<Start>,
     slots: &mut Slots,
 ) -> Result<Vec<Box<Process>>, NoMemory>
     requires ready { AllByRecursion IsReady drafts.items }
@@ -222,7 +222,7 @@ fn kid(alloc: Global, start: &Start) -> Result<Kid, NoMemory>
 {
     Ok(Kid {
         unit: start.unit,
-        backs: Seq::from_slice(alloc, start.backs.as_slice())?,
+        backs: Rare::from_slice(alloc, start.backs.as_slice())?,
     })
 }
 

@@ -7,13 +7,13 @@ ghost use Rattle.fm_proc_events.specs.Told.{is_running, look_of};
 
 use crate::advancing::Advanced;
 use fm_base::{NoMemory, Seq};
-use fm_code::copy_body;
+use fm_code::{Rare, copy_body};
 use fm_machine::{Done, next_look};
 use fm_machine_instr::Work;
 use fm_proc_events::Process;
 use std::alloc::Global;
 
-fn copy_lines(alloc: Global, lines: &mut Seq<Seq<u8>>, more: &[Seq<u8>]) -> Result<(), NoMemory>
+fn copy_lines(alloc: Global, lines: &mut Rare<Seq<u8>>, more: &[Seq<u8>]) -> Result<(), NoMemory>
     ensures { OnOk result (lines.new ≡ lines.old ++ more.now) }
 {
     'copies: for line in more {

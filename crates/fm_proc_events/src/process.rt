@@ -1,7 +1,7 @@
 //! Processes in memory.
 
 use fm_base::{Fault, Line, Seq};
-use fm_code::{Back, Body};
+use fm_code::{Back, Body, Rare};
 use fm_proc_slots::Slots;
 
 /// A child that is to be joined.
@@ -9,7 +9,7 @@ pub struct Kid {
     /// The number of the unit that it began with.
     pub unit: u32,
     /// What it gives back.
-    pub backs: Seq<Back>,
+    pub backs: Rare<Back>,
 }
 
 impl Drop for Kid {
@@ -43,7 +43,7 @@ pub struct Process {
     /// The ports of its words.
     pub slots: Slots,
     /// Its output.
-    pub lines: Seq<Seq<u8>>,
+    pub lines: Rare<Seq<u8>>,
     /// The number of the block that begins next.
     pub next_block: u32,
     /// The number of the channel that it makes next.

@@ -1,7 +1,10 @@
 -- Room that is used step by step.
-use Rattle.std.proofs.Common.{◌≡◌, ℕ, ◌+◌, ◌≤◌, ◌<◌, arith}
+use Rattle.std.proofs.Common.{◌≡◌, ℕ, ◌+◌, ◌≤◌, ◌<◌, Box, Option, Some, arith, subst, sym}
+use Rattle.std.specs.declared.alloc.Global.{Global}
 use Rattle.fm_proc_slots.specs.declared.open.OpenSlots.{OpenSlots}
+use Rattle.fm_proc_slots.specs.declared.stock.Stock.{Stock}
 use Rattle.fm_proc_slots.specs.Rooms.{HasRoom, LeavesRoom}
+use Rattle.fm_proc_slots.specs.Stocks.{HasPlaces, HasRoomIn}
 
 pub room_within : (o : OpenSlots) (n m : ℕ) → m ≤ n → HasRoom o n → HasRoom o m
 room_within o n m h r = record { to_come = omega (arith, r.to_come); to_go = omega (arith, r.to_go); numbers = omega (arith, r.numbers) }
@@ -29,3 +32,17 @@ room_for_span o o' all now step rest e l r = room_within o' (now + 0) step (omeg
 -- none is needed any more
 pub none_needed : (o o' : OpenSlots) (all now : ℕ) → now ≡ 0 → ((n : ℕ) → HasRoom o (all + n) → HasRoom o' (now + n)) → LeavesRoom all o o'
 none_needed o o' all now e l n r = room_within o' (now + n) n (omega arith) (l n r)
+
+-- Room in the box.
+
+box_has : (b : Box Stock Global) (n : ℕ) → HasRoomIn (Some b) n → HasPlaces b.value n
+box_has b n r = record { to_come = r.to_come; to_go = r.to_go; numbers = r.numbers }
+
+in_box : (o : OpenSlots) (b : Box Stock Global) (n : ℕ) → o.stock ≡ Some b → HasRoom o n → HasPlaces b.value n
+in_box o b n e r = box_has b n (subst (λ (s : Option (Box Stock Global)). HasRoomIn s n) e r)
+
+-- what is left in the box is left
+pub left_in_box : (o : OpenSlots) (b b' : Box Stock Global) (s : Stock) (k : ℕ) → o.stock ≡ Some b → s ≡ b.value → ((n : ℕ) → HasPlaces s (k + n) → HasPlaces b'.value n) → (n : ℕ) → HasRoom o (k + n) → HasRoomIn (Some b') n
+left_in_box o b b' s k e f l n r =
+    let left = l n (subst (λ (t : Stock). HasPlaces t (k + n)) (sym f) (in_box o b (k + n) e r)) in
+    record { to_come = left.to_come; to_go = left.to_go; numbers = left.numbers }

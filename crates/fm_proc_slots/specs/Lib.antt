@@ -9,3 +9,4 @@ pub mod Moves
 pub mod Operands
 pub mod Places
 pub mod Rooms
+pub mod Stocks

@@ -1,19 +1,18 @@
 -- Room for ports that come and go, taken before they do.
 -- Source: this profile.
-use Rattle.std.specs.Prelude.{ℕ, ◌+◌, ◌≤◌, List, [], ◌∷◌, reverse, vec_len, vec_capacity}
+use Rattle.std.specs.Prelude.{ℕ, ◌+◌, List, [], ◌∷◌}
 use Rattle.fm_code.specs.declared.code.Span.{Span}
 use Rattle.fm_proc_language.specs.Slots.{Slots}
+use Rattle.fm_proc_slots.specs.Stocks.{HasRoomIn, slots_of}
 use Rattle.fm_proc_slots.specs.declared.open.OpenSlots.{OpenSlots}
 
 -- the slots
 abbrev pub slots_in : OpenSlots → Slots
-slots_in o = record { ports = o.ports.items; free = reverse o.free.items }
+slots_in o = slots_of o.stock
 
 -- so many ports may come, and so many may go, without memory
-pub record HasRoom (o : OpenSlots) (n : ℕ) : Type 0 where
-  pub to_come : vec_len o.ports + n ≤ vec_capacity o.ports
-  pub to_go : vec_len o.free + n ≤ vec_capacity o.free
-  pub numbers : vec_len o.ports + n ≤ 9223372036854775807
+abbrev pub HasRoom : OpenSlots → ℕ → Type 0
+HasRoom o n = HasRoomIn o.stock n
 
 -- after this, room for so many more is left
 abbrev pub LeavesRoom : (used : ℕ) → (old new : OpenSlots) → Type 0

@@ -12,6 +12,7 @@ mod moving;
 mod open;
 mod placing;
 mod slots;
+mod stock;
 mod storing;
 mod words;
 

@@ -1,8 +1,10 @@
 //! Slots with room: ports come and go without memory.
 
-ghost use Rattle.fm_proc_slots.specs.Places.{HaveNumbers};
+ghost use Rattle.std.specs.Prelude.{◌≡◌, OnOk};
+ghost use Rattle.fm_proc_slots.specs.Stocks.{HasRoomIn, slots_of};
 
-use crate::slots::{Slots, before, replaced};
+use crate::slots::Slots;
+use crate::stock::Stock;
 use fm_base::NoMemory;
 use fm_chan::Port;
 use fm_code::is_port;
@@ -13,9 +15,24 @@ use std::mem::replace;
 /// and how many ports may still come and go (`HasRoom`).
 #[derive(Drop)]
 pub struct OpenSlots {
-    ports: Vec<Option<Port>>,
-    free: Vec<usize>,
-    ghost numbers: { HaveNumbers free.items },
+    stock: Option<Box<Stock>>,
+}
+
+// Takes room for so many ports to come and so many to go. After want of memory the slots are as they were.
+fn make_room(alloc: Global, stock: &mut Option<Box<Stock>>, room: usize) -> Result<(), NoMemory>
+    ensures slots { slots_of stock.new ≡ slots_of stock.old }
+    ensures room { OnOk result (HasRoomIn stock.new room) }
+{
+    match stock {
+        Some(stock) => stock.reserve(room),
+        None => {
+            if room != 0 {
+                let fresh = Stock::with_room(alloc, room)?;
+                *stock = Some(Box::new(alloc, fresh)?);
+            }
+            Ok(())
+        }
+    }
 }
 
 impl Slots {
@@ -27,24 +44,17 @@ impl Slots {
         ensures opened { IfOk result (λ o. (slots_in o ≡ self.old) × HasRoom o room) }
         ensures stays { OnErr result (self.new ≡ self.old) }
     {
-        let most = self.ports.len().checked_add(room).ok_or(NoMemory)?;
-        if most > i64::MAX as usize {
-            return Err(NoMemory);
-        }
-        self.ports.reserve(room)?;
-        self.free.reserve(room)?;
-        Ok(OpenSlots {
-            ports: replace(&mut self.ports, Vec::new(alloc)),
-            free: replace(&mut self.free, Vec::new(alloc)),
-        })
+        make_room(alloc, &mut self.stock, room)?;
+        let stock = replace(&mut self.stock, None);
+        Ok(OpenSlots { stock })
     }
 
     /// The slots, which need no room any more. Takes no memory.
     pub fn from_open(slots: OpenSlots) -> Slots
         ensures { result ≡ slots_in slots }
     {
-        let OpenSlots { ports, free } = slots;
-        Slots { ports, free }
+        let OpenSlots { stock } = slots;
+        Slots { stock }
     }
 }
 
@@ -57,13 +67,9 @@ impl OpenSlots {
     pub fn with_room(alloc: Global, room: usize) -> Result<OpenSlots, NoMemory>
         ensures { IfOk result (λ o. (slots_in o ≡ no_slots) × HasRoom o room) }
     {
-        if room > i64::MAX as usize {
-            return Err(NoMemory);
-        }
-        Ok(OpenSlots {
-            ports: Vec::with_capacity(alloc, room)?,
-            free: Vec::with_capacity(alloc, room)?,
-        })
+        let mut stock = None;
+        make_room(alloc, &mut stock, room)?;
+        Ok(OpenSlots { stock })
     }
 
     /// A port comes to the free slot that is next, or else to a new one: its number.
@@ -72,16 +78,9 @@ impl OpenSlots {
         ensures put { (result, slots_in self.new) ≡ put (slots_in self.old) port }
         ensures room { LeavesRoom 1 self.old self.new }
     {
-        match self.free.pop() {
-            Some(place) => {
-                replaced(&mut self.ports, place, Some(port));
-                (place + 1) as i64
-            }
-            None => {
-                let place = self.ports.len();
-                self.ports.push_reserved(Some(port));
-                (place + 1) as i64
-            }
+        match &mut self.stock {
+            Some(stock) => stock.put(port),
+            None => unreachable!(),
         }
     }
 
@@ -104,9 +103,10 @@ impl OpenSlots {
         ensures slots { slots_in self.new ≡ left (slots_in self.old) word }
         ensures room { LeavesRoom 1 self.old self.new }
     {
-        let place = before(word);
-        self.free.push_reserved(place);
-        replaced(&mut self.ports, place, None)
+        match &mut self.stock {
+            Some(stock) => stock.leave(word),
+            None => unreachable!(),
+        }
     }
 
     /// What stands at a port word, whose slot is free then.

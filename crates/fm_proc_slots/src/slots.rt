@@ -5,6 +5,7 @@ ghost use Rattle.std.specs.Option.{option_copied};
 ghost use Rattle.fm_proc_language.specs.Slots.{before, in_slot, no_slots};
 ghost use Rattle.fm_proc_slots.specs.Places.{HasNumber};
 
+use crate::stock::Stock;
 use fm_chan::Port;
 use std::alloc::Global;
 use std::marker::Model;
@@ -12,30 +13,23 @@ use std::mem::replace;
 
 /// The ports of a process. The number of a slot is a word of a frame. Contracts see what stands in the slots, and which are free.
 pub struct Slots {
-    pub(crate) ports: Vec<Option<Port>>,
-    // by how many stand before them; the one that is used next stands last
-    pub(crate) free: Vec<usize>,
+    // none of a process that has never had room for a port, as many haven't: so it takes little
+    pub(crate) stock: Option<Box<Stock>>,
 }
 
 impl Drop for Slots {
     fn drop(self) {
-        let Slots {
-            ports: _ports,
-            free: _free,
-        } = self;
+        let Slots { stock: _stock } = self;
     }
 }
 
 impl Model for Slots {
-    ghost use Rattle.std.specs.Prelude.{reverse};
     ghost use Rattle.fm_proc_language.specs.Slots.{Slots};
-    ghost use Rattle.fm_proc_slots.specs.Places.{HaveNumbers};
+    ghost use Rattle.fm_proc_slots.specs.Stocks.{slots_of};
 
     ghost Value = { Slots };
 
-    ghost view = { λ s. record { ports = s.ports.items; free = reverse s.free.items } };
-
-    ghost invariant = { λ s. HaveNumbers s.free.items };
+    ghost view = { λ s. slots_of s.stock };
 }
 
 /// How many slots stand before the one with this number.
@@ -85,19 +79,15 @@ impl Slots {
     pub fn new(alloc: Global) -> Slots
         ensures { result ≡ no_slots }
     {
-        Slots {
-            ports: Vec::new(alloc),
-            free: Vec::new(alloc),
-        }
+        Slots { stock: None }
     }
 
     /// The port in a slot.
     pub fn port(&self, word: i64) -> Option<&Port>
         ensures { option_copied result ≡ in_slot self.now word }
     {
-        match self.ports.get(before(word)) {
-            Some(Some(port)) => Some(port),
-            Some(None) => None,
+        match &self.stock {
+            Some(stock) => stock.port(word),
             None => None,
         }
     }
@@ -107,6 +97,9 @@ impl Slots {
         ensures port { result ≡ in_slot self.old word }
         ensures slots { self.new ≡ record self.old { ports = slice_set self.old.ports (before word) None } }
     {
-        replaced(&mut self.ports, before(word), None)
+        match &mut self.stock {
+            Some(stock) => stock.drain(word),
+            None => None,
+        }
     }
 }

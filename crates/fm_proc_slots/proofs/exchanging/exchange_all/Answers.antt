@@ -3,8 +3,14 @@ use Rattle.std.specs.Prelude.{option_to_list}
 use Rattle.fm_proc_slots.specs.Helds.{held}
 use Rattle.fm_proc_slots.specs.Rooms.{slots_in}
 use Rattle.fm_proc_slots.proofs.Exchanges.{both_next, out_next}
-use Rattle.fm_proc_slots.proofs.Roomy.{none_needed, room_within}
+use Rattle.fm_proc_slots.proofs.Roomy.{none_needed, room_for_span, room_within}
 use Rattle.fm_proc_slots.proofs.exchanging.exchange_all.Goals as goal
+
+pub exchange-out-requires : goal.exchange-out-requires
+exchange-out-requires c =
+    let left = c.pop_front.new.self.items in
+    let more = ap length (c.pop_front.ensures.items ∙ ap (λ o. option_to_list o ++ left) c.in-Some.is) in
+    room_for_span c.args.slots.now c.ports.slots (2 * length c.args.ports.items) (2 * length c.ports.rest.items) 2 (2 * length left) (omega (arith, more)) c.ports.invariant.room c.requires.slots
 
 pub ports-preserved : goal.ports-preserved
 ports-preserved c =
