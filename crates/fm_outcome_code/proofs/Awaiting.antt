@@ -3,7 +3,7 @@ use Rattle.std.proofs.Common.{◌≡◌, ◌≤◌, ◌<◌, ◌⊎◌, inl, inr
 use Rattle.std.specs.Prelude.{is_some, option_map}
 use Rattle.std.specs.FinMap.{get}
 use Rattle.fm_net.specs.Machine as net
-use Rattle.fm_net.specs.Machine.{Children, Go, Place, Procs, State, Stop, act, act_of, finished, gathered, reply_with}
+use Rattle.fm_net.specs.Machine.{Go, Place, State, Stop, act, act_of, finished, gathered, reply_with}
 use Rattle.fm_code.specs.declared.ask.Ask.{Ask}
 use Rattle.fm_code.specs.declared.ask.Ask.TheVariants as ask
 use Rattle.fm_code.specs.declared.body.Body.{Body}
@@ -11,7 +11,7 @@ use Rattle.fm_code.specs.Statements as code
 use Rattle.fm_code.specs.Statements.{Action, action_of}
 use Rattle.fm_proc_language.specs.Processes.{CodeProc, Ended, Faulted, Joining, Kid, Phase, Running, asks, asks_by, emptied, has_ended, joining_by, joins_by}
 use Rattle.fm_procs.specs.Kept.{AreChildren, HasFamily}
-use Rattle.fm_procs.specs.Readings.{code_step}
+use Rattle.fm_procs.specs.Readings.{awaited_in, code_step}
 use Rattle.fm_procs.specs.Waiting.{kids_in, served_asked}
 use Rattle.fm_run.proofs.Able.{some_map}
 
@@ -62,7 +62,7 @@ module _ (t : State CodeProc) (q : Place) where
         joins block kids ph (inr high) = high
         joins block kids ph (inl low) =
             let many : count ≡ length kids = count_is ∙ ap (λ (v : Phase). length (kids_in v)) ph in
-            let open_yet = not_all block (subst (λ (n : ℕ). AreChildren ps first q block n) (sym many) (family block kids ph)) low in
+            let open_yet = not_all block (subst (λ (n : ℕ). AreChildren ps first q block n) (sym many) (family block (length kids) (ap awaited_in ph))) low in
             absurd (cc (sym open_yet ∙ ap (λ (n : ℕ). is_some (gathered has_ended t.procs q block 1 n)) many ∙ all_ended block kids ph))
 
         go : (phase : Phase) → y.phase ≡ phase → count ≤ counted

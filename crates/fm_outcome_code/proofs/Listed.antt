@@ -11,9 +11,7 @@ use Rattle.std.proofs.lemmas.List.{map-append, take_all, take_more}
 use Rattle.std.proofs.lemmas.Option.{slice_get-map, slice_get_read}
 use Rattle.fm_base.specs.declared.path.Path.{Path}
 use Rattle.fm_base.specs.PathOrder.{path_cmp}
-use Rattle.fm_finmap.specs.Map.{map_values}
 use Rattle.fm_finmap.proofs.Entries.{find_first, find_later}
-use Rattle.fm_finmap.proofs.Maps.{entries-map_values}
 use Rattle.fm_finmap.specs.Rows.{numbered_map}
 use Rattle.fm_finmap.proofs.Rows.{all_at}
 use Rattle.fm_net.specs.Machine.{Ask, Place, Procs, Stop}
@@ -25,23 +23,18 @@ use Rattle.fm_proc_language.specs.Needs.{need_in}
 use Rattle.fm_proc_language.specs.Processes.{CodeProc, Phase, Running, Joining, Ended, Faulted, asks_by, has_ended, held_by, is_ended}
 use Rattle.fm_proc_language.specs.Slots.{Slots}
 use Rattle.fm_outcome_code.specs.Shown.{fault_at, fault_in, holder_path, holdings_at, line_in, lines_at, wait_at, waits_by}
-use Rattle.fm_procs.specs.declared.entries.Entries.{Entries}
-use Rattle.fm_procs.specs.declared.entries.Entry.{Entry}
 use Rattle.fm_procs.specs.Kept.{AreKept, HasFamily, IsTold}
-use Rattle.fm_procs.specs.Readings.{order_of, proc_in, procs_of}
+use Rattle.fm_procs.specs.Readings.{code_of, Entries, Entry, order_of, proc_in, procs_of}
 use Rattle.fm_outcome_code.specs.declared.rows.Part.{Part}
 use Rattle.fm_outcome_code.specs.declared.rows.Part.TheVariants as part
 use Rattle.fm_outcome_code.specs.Parts.{gives, row_gives}
+use Rattle.fm_net_procs.proofs.Maps as table
 
 abbrev pub entries_of : List (Place × Entry) → List (Place × CodeProc)
 entries_of es = map (λ e. (e.0, proc_in e.1)) es
 
-procs_are : (x : Entries) → procs_of x ≡ map_values proc_in (numbered_map x.rows)
-unfolding procs_of
-procs_are x = refl
-
 entries_are : (x : Entries) → entries (procs_of x) ≡ entries_of (entries (numbered_map x.rows))
-entries_are x = ap entries (procs_are x) ∙ entries-map_values proc_in (numbered_map x.rows)
+entries_are x = table.entries_are code_of x
 
 -- what each of them does next is told, and its children
 abbrev pub IsListed : Entries → Place × Entry → Type 0

@@ -18,9 +18,8 @@ use Rattle.fm_proc_language.specs.Frames.{Held}
 use Rattle.fm_proc_language.specs.Processes.{CodeProc, Kid, Phase, Running, Joining, Ended, Faulted, asks_by, joining_by, joins_by, probes_by, receives_by, running_by, runs_by, sends_by}
 use Rattle.fm_proc_language.specs.Needs.{need_in, need_of}
 use Rattle.fm_proc_events.specs.Told.{look_by}
-use Rattle.fm_procs.specs.declared.entries.Entry.{Entry}
 use Rattle.fm_procs.specs.Kept.{IsTold}
-use Rattle.fm_procs.specs.Readings.{proc_in}
+use Rattle.fm_procs.specs.Readings.{Entry, proc_in}
 use Rattle.fm_procs.specs.Waiting.{inport_in}
 use Rattle.fm_outcome_code.specs.Shown.{line_in, wait_at, waits_by}
 use Rattle.fm_outcome_code.specs.Waits.{joined_by, received_by, told_by}

@@ -15,11 +15,10 @@ use Rattle.fm_mean.specs.Steps.{ask, language, step}
 use Rattle.fm_mean.proofs.Lawful.{lawful}
 use Rattle.fm_proc_language.specs.Processes.{CodeProc}
 use Rattle.fm_proc_events.specs.Performs.{MakesNew}
-use Rattle.fm_procs.specs.declared.pieces.CodePiece.{CodePiece}
 use Rattle.fm_procs.specs.Pieces as code
 use Rattle.fm_procs.specs.Pieces.{IsNewAlong, IsNewAt}
 use Rattle.fm_procs.specs.Readings.{code_step}
-use Rattle.fm_run.specs.declared.net.Piece.{Piece}
+use Rattle.fm_net_procs.specs.declared.piece.Piece.{Piece}
 use Rattle.fm_run.specs.Pieces as run
 use Rattle.fm_outcome_code.specs.Corresponds.{Corresponds, IsLive}
 use Rattle.fm_outcome_code.proofs.Asking.{needs_alike}
@@ -28,7 +27,7 @@ use Rattle.fm_outcome_code.proofs.Standing.{back_alike, legal_alike, legal_part,
 module _ (p : Program) (s : State Proc) (t : State CodeProc) (stands : StandsFor (Corresponds p) (IsLive p) t s) (q : Place) where
   -- ---- pieces
 
-  module _ (slice : ℕ) (spare : Bool) (r : CodePiece) (after : State CodeProc) (piece : code.IsPiece slice spare t q r after) where
+  module _ (slice : ℕ) (spare : Bool) (r : Piece) (after : State CodeProc) (piece : code.IsPiece slice spare t q r after) where
     legal : IsLegal code_step t (replicate r.steps q)
     legal = piece.full.can
 

@@ -11,12 +11,10 @@ use Rattle.fm_mean.specs.Steps.{first}
 use Rattle.fm_mean.proofs.CallsOpen.{always_typed}
 use Rattle.fm_run.proofs.Playing.{first_owned}
 use Rattle.fm_proc_language.specs.Processes.{CodeProc}
-use Rattle.fm_procs.specs.declared.pieces.CodePiece.{CodePiece}
-use Rattle.fm_procs.specs.declared.code_procs.CodeProcs.{CodeProcs}
 use Rattle.fm_procs.specs.Kept.{AreKept}
 use Rattle.fm_procs.specs.Pieces as code
-use Rattle.fm_procs.specs.Readings.{order_of, state_of}
-use Rattle.fm_run.specs.declared.net.Piece.{Piece}
+use Rattle.fm_procs.specs.Readings.{CodeProcs, order_of, state_of}
+use Rattle.fm_net_procs.specs.declared.piece.Piece.{Piece}
 use Rattle.fm_run.specs.Pieces as run
 use Rattle.fm_net.specs.Owned.{main_alone}
 use Rattle.fm_outcome_code.specs.Corresponds.{Corresponds, IsLive}
@@ -48,7 +46,7 @@ first_sound p stacks is kept = record {
 
 -- ---- a piece more
 
-module _ (p : Program) (stacks : CodeProcs) (hs : List Turn) (sound : IsSound p stacks hs) (number : ℕ) (q : Place) (who : slice_get (order_of stacks.entries) number ≡ Some q) (slice : ℕ) (spare : Bool) (r : CodePiece)
+module _ (p : Program) (stacks : CodeProcs) (hs : List Turn) (sound : IsSound p stacks hs) (number : ℕ) (q : Place) (who : slice_get (order_of stacks.entries) number ≡ Some q) (slice : ℕ) (spare : Bool) (r : Piece)
     (later : CodeProcs) (kept : AreKept later.entries) (piece : code.IsPiece slice spare (state_of stacks) q r (state_of later)) (order_is : order_of later.entries ≡ order_of stacks.entries ++ child_places q r.block 1 r.started)
     (joins : Bool) (ends : joins ≡ true → EndsWith hs number) (js : List Turn) (js_is : js ≡ with_piece joins hs number r.steps) where
   abbrev s : State Proc

@@ -5,8 +5,7 @@ use Rattle.std.specs.FinMap.{get}
 use Rattle.fm_machine.specs.declared.done.Done.{Done}
 use Rattle.fm_net.specs.Machine.{Place}
 use Rattle.fm_proc_language.specs.Processes.{CodeProc}
-use Rattle.fm_procs.specs.declared.code_procs.CodeProcs.{CodeProcs}
-use Rattle.fm_procs.specs.Readings.{order_of, procs_of}
+use Rattle.fm_procs.specs.Readings.{CodeProcs, order_of, procs_of}
 
 -- the process of this number has the body of which the slice was made
 abbrev pub IsOwn : CodeProcs → (number : ℕ) → Done → Type 0

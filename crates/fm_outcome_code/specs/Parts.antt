@@ -3,8 +3,7 @@
 use Rattle.std.specs.Prelude.{ℕ, Bool, ◌&&◌, ◌==◌, not, is_some, length}
 use Rattle.fm_net.specs.Machine.{Place}
 use Rattle.fm_proc_language.specs.Processes.{CodeProc, has_ended}
-use Rattle.fm_procs.specs.declared.entries.Entry.{Entry}
-use Rattle.fm_procs.specs.Readings.{proc_in}
+use Rattle.fm_procs.specs.Readings.{Entry, proc_in}
 use Rattle.fm_outcome_code.specs.declared.rows.Part.{Part}
 use Rattle.fm_outcome_code.specs.declared.rows.Part.TheVariants as part
 

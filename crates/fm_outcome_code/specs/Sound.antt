@@ -6,9 +6,8 @@ use Rattle.fm_net.specs.Correspondence.{StandsFor}
 use Rattle.fm_net.specs.Machine.{Place}
 use Rattle.fm_net.specs.Starts.{choices_of}
 use Rattle.fm_rules.specs.declared.program.Program.{Program}
-use Rattle.fm_procs.specs.declared.code_procs.CodeProcs.{CodeProcs}
 use Rattle.fm_procs.specs.Kept.{AreKept}
-use Rattle.fm_procs.specs.Readings.{order_of, state_of}
+use Rattle.fm_procs.specs.Readings.{CodeProcs, order_of, state_of}
 use Rattle.fm_outcome_code.specs.Corresponds.{Corresponds, IsLive}
 use Rattle.fm_outcome_code.specs.Played.{played}
 

@@ -11,12 +11,12 @@ ghost use Rattle.fm_outcome_code.specs.Played.{played};
 ghost use Rattle.fm_outcome_code.specs.Sound.{IsSound};
 
 use crate::first::first_stacks;
-use crate::gathering::outcome;
+use crate::gathering::{outcome, process_of};
 use fm_base::{NoMemory, Path};
 use fm_code::Body;
 use fm_machine::Done;
 use fm_mean::Outcome;
-use fm_procs::{CodePiece, CodeProcs};
+use fm_procs::{CodeProcs, can_step, give_piece, make_piece, note};
 use fm_rules::Program;
 use fm_run::{Awaited, History, Kind, Net, OutsideNet, Piece, put_piece};
 use std::alloc::Global;
@@ -67,17 +67,17 @@ impl Net for Compiled {
         kind: Kind,
     ) -> Result<Piece, NoMemory> {
         let actor = self.stacks.entries.actor(number)?;
-        let piece = self.stacks.make_piece(alloc, &actor, slice, kind.spare)?;
+        let piece = make_piece(&mut self.stacks, alloc, &actor, slice, kind.spare)?;
         put_piece(alloc, &mut self.history, kind.joins, number, piece.steps)?;
-        Ok(as_piece(piece))
+        Ok(piece)
     }
 
     fn can_step(&self, program: &Program, number: u32) -> Result<bool, NoMemory> {
-        self.stacks.can_step(number)
+        can_step(&self.stacks, number)
     }
 
     fn note(&mut self, program: &Program, number: u32) -> Result<(), NoMemory> {
-        self.stacks.note(number)
+        note(&mut self.stacks, number)
     }
 
     fn next_woken(&mut self) -> Option<u32> {
@@ -121,9 +121,9 @@ impl OutsideNet for Compiled {
         done: &Done,
     ) -> Result<Piece, NoMemory> {
         let actor = self.stacks.entries.actor(number)?;
-        let piece = self.stacks.give_piece(alloc, &actor, done)?;
+        let piece = give_piece(&mut self.stacks, alloc, &actor, done)?;
         put_piece(alloc, &mut self.history, false, number, piece.steps)?;
-        Ok(as_piece(piece))
+        Ok(piece)
     }
 }
 
@@ -132,20 +132,9 @@ impl Compiled {
     pub fn body_of(&self, number: u32) -> Option<&Body>
         ensures { (q : Place) (y : CodeProc) → slice_get (order_of self.now.stacks.entries) number ≡ Some q → get (procs_of self.now.stacks.entries) q ≡ Some y → option_copied result ≡ y.body }
     {
-        match self.stacks.entries.process(number) {
+        match process_of(&self.stacks.entries, number) {
             Some(process) => process.body.as_ref(),
             None => None,
         }
-    }
-}
-
-fn as_piece(piece: CodePiece) -> Piece
-    ensures { result ≡ record { steps = piece.steps; cost = piece.cost; block = piece.block; started = piece.started } }
-{
-    Piece {
-        steps: piece.steps,
-        cost: piece.cost,
-        block: piece.block,
-        started: piece.started,
     }
 }

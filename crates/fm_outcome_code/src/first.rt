@@ -17,11 +17,12 @@ use fm_gen::generate;
 use fm_machine_calls::unit_at;
 use fm_machine_fused::share_code;
 use fm_machine_instr::Work;
+use fm_net_procs::Entry as TableEntry;
 use fm_plain_frame::nodes_of;
 use fm_proc::{next_look, no_loops};
 use fm_proc_events::{Phase, Process};
 use fm_proc_slots::Slots;
-use fm_procs::{CodeProcs, Entry};
+use fm_procs::{CodeProcess, CodeProcs, Entry, no_procs};
 use fm_rules::Program;
 use std::alloc::Global;
 use std::sync::Arc;
@@ -92,8 +93,10 @@ fn first_entry(alloc: Global, program: &Program) -> Result<Entry, NoMemory>
     let process = first_process(alloc, program)?;
     let mut work = Work::new(alloc);
     let next = next_look(alloc, &mut work, &process)?;
-    Ok(Entry {
-        process: Box::new(alloc, process)?,
+    Ok(TableEntry {
+        process: CodeProcess {
+            held: Box::new(alloc, process)?,
+        },
         next,
         first_child: 0,
     })
@@ -107,7 +110,7 @@ pub(crate) fn first_stacks(alloc: Global, program: &Program) -> Result<CodeProcs
 {
     let entry = first_entry(alloc, program)?;
     let path = Arc::new(alloc, Path::main(alloc))?;
-    let mut stacks = CodeProcs::new(alloc);
+    let mut stacks = no_procs(alloc);
     stacks.entries.push(path, entry)?;
     Ok(stacks)
 }

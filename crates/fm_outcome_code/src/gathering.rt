@@ -1,12 +1,15 @@
 //! What a run shows when it has ended.
 
-ghost use Rattle.std.specs.Prelude.{◌≡◌, ◌++◌, Some, [], IfOk, OnOk};
+ghost use Rattle.std.specs.Prelude.{◌≡◌, ◌++◌, Some, [], option_map, IfOk, OnOk};
 ghost use Rattle.std.specs.List.{flat_map};
-ghost use Rattle.std.specs.FinMap.{entries};
+ghost use Rattle.std.specs.FinMap.{entries, get};
+ghost use Rattle.std.specs.Option.{option_copied};
 ghost use Rattle.fm_finmap.specs.Rows.{place_at};
-ghost use Rattle.fm_proc_events.specs.Phases.{phase_of};
+ghost use Rattle.fm_net.specs.Machine.{Place};
+ghost use Rattle.fm_proc_events.specs.Phases.{phase_of, proc_of};
 ghost use Rattle.fm_procs.specs.Kept.{AreKept, HasFamily, IsTold};
 ghost use Rattle.fm_procs.specs.Readings.{order_of, proc_in, procs_of, state_of};
+ghost use Rattle.fm_procs.specs.Waiting.{ended_at};
 ghost use Rattle.fm_outcome_code.specs.Shown.{lines_at, fault_at, fault_in, wait_at, outcome_by};
 
 use crate::holders::holders_of;
@@ -57,7 +60,7 @@ fn add_process(
     ensures faults { OnOk result (all.new.faults.items ≡ all.old.faults.items ++ fault_at (path.now, proc_in entry.now)) }
     ensures waits { OnOk result (all.new.waits.items ≡ all.old.waits.items ++ wait_at (procs_of processes.now) (path.now, proc_in entry.now)) }
 {
-    let process: &Process = &entry.process;
+    let process: &Process = &entry.process.held;
     push_lines(alloc, &mut all.lines, path, process.lines.as_slice())?;
     push_fault(alloc, &mut all.faults, path, &process.phase)?;
     push_wait(alloc, processes, &mut all.waits, path, entry)
@@ -77,6 +80,26 @@ fn gather(alloc: Global, processes: &Entries) -> Result<Gathered, NoMemory>
     Ok(all)
 }
 
+/// The process of a number.
+pub(crate) fn process_of(processes: &Entries, number: u32) -> Option<&Process>
+    ensures { (q : Place) → place_at processes.now.rows number ≡ Some q → option_map proc_of (option_copied result) ≡ get (procs_of processes.now) q }
+{
+    match processes.process(number) {
+        Some(process) => {
+            let held: &Process = &process.held;
+            Some(held)
+        }
+        None => None,
+    }
+}
+
+// Whether the process of a number has ended.
+fn has_ended(processes: &Entries, number: u32) -> bool
+    ensures { (q : Place) → place_at processes.now.rows number ≡ Some q → result ≡ ended_at (get (procs_of processes.now) q) }
+{
+    processes.has_ended(number)
+}
+
 /// What a run shows when it has ended at this cost in turns: output, faults and waits in path order, the
 /// variables of main, and who holds the open writers.
 pub fn outcome(
@@ -94,7 +117,7 @@ pub fn outcome(
         faults,
         waits,
     } = gather(alloc, &stacks.entries)?;
-    let variables = shown_all(alloc, program, stacks.entries.process(0))?;
+    let variables = shown_all(alloc, program, process_of(&stacks.entries, 0))?;
     let holders = holders_of(alloc, stacks)?;
     Ok(Outcome {
         lines: Seq::from_vec(lines),
@@ -102,7 +125,7 @@ pub fn outcome(
         faults: Seq::from_vec(faults),
         waits: Seq::from_vec(waits),
         holders: Seq::from_vec(holders),
-        main_ended: stacks.entries.has_ended(0),
+        main_ended: has_ended(&stacks.entries, 0),
         used,
     })
 }

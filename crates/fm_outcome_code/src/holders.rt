@@ -140,7 +140,7 @@ fn put_process(
 ) -> Result<(), NoMemory>
     ensures { OnOk result (map_of outport_cmp all.new ≡ with_holders (map_of outport_cmp all.old) (holdings_at (path.now, proc_in entry.now))) }
 {
-    let process: &Process = &entry.process;
+    let process: &Process = &entry.process.held;
     let holder = holder_path(alloc, path, process)?;
     put_held(alloc, all, &holder, process)
 }

@@ -38,7 +38,7 @@ fn push_if<'a>(
 ) -> Result<(), NoMemory>
     ensures { OnOk result (map deref_pair rows.new.items ≡ map deref_pair rows.old.items ++ filter (row_gives part) ((path.now, entry.now) ∷ [])) }
 {
-    if gives(part, &entry.process) {
+    if gives(part, &entry.process.held) {
         rows.push((path, entry))?;
     }
     Ok(())

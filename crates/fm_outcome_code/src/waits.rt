@@ -111,7 +111,7 @@ fn waits_asked(
     ensures { IfOk result (λ o. (q : Place) → HasFamily (order_of processes.now) q (proc_in entry.now).phase entry.now.first_child →
         o ≡ asked_by (procs_of processes.now) q (proc_in entry.now).phase (proc_in entry.now).slots ask.now) }
 {
-    let process: &Process = &entry.process;
+    let process: &Process = &entry.process.held;
     match &process.phase {
         Phase::Running => received(alloc, &process.slots, ask),
         Phase::Joining { block: _, kids } => {
@@ -159,7 +159,7 @@ pub(crate) fn push_wait(
     match waits(alloc, processes, entry)? {
         Some(at) => {
             let path = path.copy(alloc)?;
-            let process: &Process = &entry.process;
+            let process: &Process = &entry.process.held;
             let line = line_at(&process.body);
             all.push(Wait { path, line, at })?;
             Ok(())

@@ -14,10 +14,11 @@ use Rattle.fm_mean.specs.Steps.{ask_for, first, language, step}
 use Rattle.fm_mean.proofs.Rests.{AreLive, live_along}
 use Rattle.fm_plain.specs.Advance.{IsUnderWay}
 use Rattle.fm_plain_replies.specs.Joins.{kids_in}
-use Rattle.fm_plain_net.specs.Held.{AreChildren, HasFamily}
+use Rattle.fm_plain_net.specs.Held.{HasFamily}
 use Rattle.fm_run.proofs.Able.{rests}
 use Rattle.fm_plain_net.proofs.Families.{joined_family}
 use Rattle.fm_plain_net.proofs.Nexts.{join_steps}
+use Rattle.fm_net_procs.specs.Kept.{AreChildren}
 
 module _ (program : Program) (s : State Proc) (p : Place) (x : Proc) (is : get s.procs p ≡ Some x) (can : is_some (step program s p) ≡ true) where
   -- who can step doesn't rest

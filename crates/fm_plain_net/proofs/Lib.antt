@@ -1,12 +1,10 @@
 pub mod Steps
-pub mod Family
-pub mod Counting
+pub mod Awaited
 pub mod Able
 pub mod Awaiting
 pub mod Balance
 pub mod Performing
 pub mod Doing
-pub mod Maps
 pub mod Rests
 pub mod Kept
 pub mod Loads
@@ -17,7 +15,6 @@ pub mod Letting
 pub mod Placing
 pub mod Parts
 pub mod Slices
-pub mod Listed
 pub mod Channels
 pub mod Owns
 pub mod Holding
@@ -27,3 +24,6 @@ pub mod Born
 pub mod Families
 pub mod Phases
 pub mod Getting
+pub mod Performed
+pub mod Advancing
+pub mod Sound

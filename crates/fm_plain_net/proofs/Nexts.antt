@@ -1,5 +1,5 @@
 -- Whether a process can step, by what it does next.
-use Rattle.std.proofs.Common.{◌≡◌, ◌≤◌, ℕ, Bool, true, false, Option, Some, None, List, length, refl, sym, ap, subst, ◌∙◌, arith}
+use Rattle.std.proofs.Common.{◌≡◌, ◌≤◌, ℕ, true, false, Option, Some, List, length, refl, sym, ap, subst, ◌∙◌, arith}
 use Rattle.std.specs.Prelude.{is_some, option_map}
 use Rattle.std.specs.FinMap.{get}
 use Rattle.fm_base.specs.declared.path.ChanName.{ChanName}
@@ -22,26 +22,19 @@ use Rattle.fm_mean.specs.Outcome.{awaited, need_of, waits_by}
 use Rattle.fm_mean.specs.Steps.{ask, ask_event, ask_for, language, limits_of, met, step}
 use Rattle.fm_mean.proofs.Lawful.{lawful}
 use Rattle.fm_plain.specs.Looking.{IsNext, is_free, waits_in}
-use Rattle.fm_plain.specs.declared.looking.Next.{Next}
 use Rattle.fm_plain.specs.declared.looking.Next.TheVariants.{Meets}
 use Rattle.fm_plain_replies.specs.Joins.{kids_in}
 use Rattle.fm_plain.specs.declared.event.Event as plain
 use Rattle.fm_plain.specs.declared.event.Event.TheVariants as event
 use Rattle.fm_plain.specs.Events.{IsEvent, event_by}
-use Rattle.fm_finmap.specs.Rows.{numbered_map, place_at, value_at}
 use Rattle.fm_plain_net.specs.declared.ports.Ports.{Ports}
-use Rattle.fm_plain_net.specs.declared.processes.Processes.{Processes}
-use Rattle.fm_plain_net.specs.declared.processes.Slot.{Slot}
-use Rattle.fm_plain_net.specs.Held.{AreChildren, AreLookedAt, HasFamily, HeldAreKept, IsKept}
-use Rattle.fm_plain_net.specs.declared.processes.Trees.{Trees}
-use Rattle.fm_run.specs.Orders.{can_at, can_in}
-use Rattle.fm_plain_net.specs.Readings.{order_of, proc_in, state_of}
+use Rattle.fm_plain_net.specs.Held.{HasFamily, HeldAreKept, IsKept}
 use Rattle.fm_plain_net.proofs.Doing.{join_at}
 use Rattle.fm_plain_net.proofs.Families.{joined_family}
-use Rattle.fm_plain_net.proofs.Maps.{found, there}
 use Rattle.fm_plain_net.proofs.Able.{steps_freely}
-use Rattle.fm_run.proofs.Able.{joins, receives, steps_not}
+use Rattle.fm_run.proofs.Able.{joins, receives}
 use Rattle.fm_plain_net.proofs.Waiting.{begin_free, end_free, fail_free, has_frame, join_need, join_waits, make_free, probe_free, receive_need, send_free}
+use Rattle.fm_net_procs.specs.Kept.{AreChildren}
 
 module _ (program : Program) (s : State Proc) (p : Place) (x : Proc) (is : get s.procs p ≡ Some x) where
   pub receive_steps : (c : ChanName) (line : ℕ) (items : List Span) (iostat : Option Span) (to : Option ℕ) (next : ℕ) → action_of program x ≡ Stops (Receive c line items iostat to next) → is_some (step program s p) ≡ pops_at (get s.chans c)
@@ -80,29 +73,6 @@ module _ (program : Program) (s : State Proc) (p : Place) (x : Proc) (is : get s
       let part : holds (language program) (Reader c) x ≤ total (holds (language program) (Reader c)) s.procs =
       subst (λ v. value_or_zero (holds (language program) (Reader c)) v ≤ total (holds (language program) (Reader c)) s.procs) is (one_of_total path_order (holds (language program) (Reader c)) s.procs p) in
       held (Reader c) (omega (arith, law.uses, part))
-
--- what is told of a process
-pub told_next : (program : Program) (x : Processes) (q : Place) (slot : Slot) (n : Next) → AreLookedAt program x → Some slot ≡ get (numbered_map x.slots) q → slot.next ≡ n → IsNext program (proc_in program slot) n
-told_next program x q slot n all is e = subst (IsNext program (proc_in program slot)) e (all q slot (sym is))
-
-pub told_same : (program : Program) (x y : Proc) (n : Next) → x ≡ y → IsNext program x n → IsNext program y n
-told_same program x y n same next = subst (λ (z : Proc). IsNext program z n) same next
-
--- who isn't there can't step
-pub nobody_can : (program : Program) (net : Trees) (n : ℕ) → None ≡ value_at net.processes.slots n → can_at program (state_of program net) (order_of net.processes) n ≡ false
-nobody_can program net n e = go (place_at net.processes.slots n) refl
-  where
-    go : (o : Option Place) → place_at net.processes.slots n ≡ o → can_at program (state_of program net) (order_of net.processes) n ≡ false
-    go None is = ap (can_in program (state_of program net)) is
-    go (Some q) is = ap (can_in program (state_of program net)) is ∙ steps_not program (state_of program net) q (there program net.processes q None (found net.processes n q None is e))
-
--- who joins a block can step where its children have ended
-pub joined_steps : (program : Program) (s : State Proc) (p : Place) (x : Proc) → get s.procs p ≡ Some x → (e : plain.Event) (block count next : ℕ) → e ≡ event.Join block count next → action_of program x ≡ Stops (event_by x.phase e)
-    → (ps : List Place) (first : ℕ) → HasFamily ps p x.phase first → (n : ℕ) → n ≡ length (kids_in x.phase) → (r : Bool) → ((b : ℕ) → AreChildren ps first p b n → r ≡ is_some (gathered has_ended s.procs p b 1 n)) → r ≡ is_some (step program s p)
-joined_steps program s p x is e block count next told does ps first family n n_is r asked =
-    let joins = join_at program x e block count next told does in
-    asked block (joined_family program x block next joins ps first p family n n_is)
-    ∙ ap (λ (k : ℕ). is_some (gathered has_ended s.procs p block 1 k)) n_is ∙ sym (join_steps program s p x is block next joins)
 
 -- and what it waits for is the first one that hasn't
 pub joined_waits : (program : Program) (x : Proc) (m : Procs Proc) (p : Place) (e : plain.Event) (block count next : ℕ) → e ≡ event.Join block count next → action_of program x ≡ Stops (event_by x.phase e)

@@ -1,28 +1,21 @@
--- Pieces are full.
-use Rattle.std.proofs.Common.{◌≡◌, ◌⊎◌, inl, inr, ℕ, zero, suc, ◌+◌, ◌<◌, ◌≤◌, Bool, true, false, Option, Some, None, List, [], replicate, refl, sym, ap, ap₂, ◌∙◌, subst, arith}
+-- Local steps are all that a slice lets a process do.
+use Rattle.std.proofs.Common.{◌≡◌, ◌⊎◌, inl, inr, ℕ, zero, suc, ◌+◌, ◌<◌, ◌≤◌, Bool, true, false, Option, Some, None, [], replicate, refl, sym, ap, ◌∙◌, subst, arith}
 use Rattle.std.specs.Prelude.{is_some, option_and_then}
 use Rattle.std.specs.FinMap.{get}
 use Rattle.fm_finmap.proofs.Inserts.{insert_here}
 use Rattle.fm_sched.specs.Schedule.{IsLegal}
 use Rattle.fm_net.specs.Machine.{Place, Procs, State}
 use Rattle.fm_net.proofs.Keys.{path_order}
-use Rattle.fm_net.specs.Starts.{child_places, starts_at}
 use Rattle.fm_rules.specs.declared.program.Program.{Program}
 use Rattle.fm_mean.specs.Process.{Proc}
 use Rattle.fm_mean.specs.Actions.{local_step}
-use Rattle.fm_mean.specs.Steps.{language, step}
+use Rattle.fm_mean.specs.Steps.{step}
 use Rattle.fm_plain.specs.declared.advancing.Advanced.{Advanced}
 use Rattle.fm_plain.specs.Advance.{HasRoom, has_local, local_steps, with_cost}
-use Rattle.fm_run.specs.declared.net.Piece.{Piece}
 use Rattle.fm_plain_net.specs.Advances.{AdvancesAt}
-use Rattle.fm_run.specs.Pieces.{StepsOrWaits, Makes, IsPiece, is_local_in, is_local_at, after_steps, IsFull, most_steps}
-use Rattle.fm_plain_net.proofs.Parts.{behind, there_behind, local_steps_make, unchanged}
+use Rattle.fm_run.specs.Pieces.{Makes, is_local_in, is_local_at, after_steps, IsFull, most_steps}
+use Rattle.fm_plain_net.proofs.Parts.{behind, there_behind, local_steps_make}
 use Rattle.fm_plain_net.proofs.Steps.{with_process, makes_local}
-use Rattle.fm_run.proofs.Steps.{makes_more, makes_none}
-
-none_from : {A : Type 0} (o : Option A) → is_some o ≡ false → o ≡ None
-none_from None e = refl
-none_from (Some x) e = absurd (cc e)
 
 module _ (program : Program) where
   -- before the last of several local steps there is one
@@ -65,14 +58,14 @@ module _ (program : Program) (slice : ℕ) (spare : Bool) (s : State Proc) (p : 
   abbrev pub stood : State Proc
   stood = behind program slice spare s p x is a m at
 
-  made_there : Makes program s p a.steps stood a.cost []
+  pub made_there : Makes program s p a.steps stood a.cost []
   made_there = local_steps_make program slice spare s p x is a m at
 
   there : get stood.procs p ≡ Some at.advanced.stopped
   there = there_behind program slice spare s p x is a m at
 
   -- each of its local steps is one
-  each_local : (k : ℕ) → k < a.steps → is_local_at program (after_steps program s p k) p ≡ true
+  pub each_local : (k : ℕ) → k < a.steps → is_local_at program (after_steps program s p k) p ≡ true
   each_local k low =
       let q = local_along program a.steps x (at.advanced.stopped, a.cost) at.advanced.made k low in
       let led : after_steps program s p k ≡ with_process program s p q.0.0 = (makes_local program k s p x q.0 is q.1).leads.there in
@@ -85,78 +78,20 @@ module _ (program : Program) (slice : ℕ) (spare : Bool) (s : State Proc) (p : 
   local_there : is_local_at program (after_steps program s p a.steps) p ≡ has_local program at.advanced.stopped
   local_there = ap (λ (t : State Proc). is_local_at program t p) they_lead ∙ ap (is_local_in program) there
 
-  local_piece : 1 ≤ a.steps → IsFull program slice spare s p a.steps → IsPiece program slice spare s p (record { steps = a.steps; cost = a.cost; block = 0; started = 0 }) stood
-  local_piece some full = record { makes = made_there; some_steps = some; full = full }
-
   -- all its steps
-  pub whole_piece : a.steps ≡ slice → 1 ≤ slice → (spare ≡ true → has_local program at.advanced.stopped ≡ true) → IsPiece program slice spare s p (record { steps = a.steps; cost = a.cost; block = 0; started = 0 }) stood
-  whole_piece whole some own = local_piece (omega arith) (record {
+  pub whole_full : a.steps ≡ slice → (spare ≡ true → has_local program at.advanced.stopped ≡ true) → IsFull program slice spare s p a.steps
+  whole_full whole own = record {
     can = made_there.leads.legal;
     within = omega (arith, whole, slice_within slice spare);
     before = λ k low. each_local k (omega arith);
     stops = inl (whole, λ e. local_there ∙ own e);
-  })
+  }
 
-  -- it waits
-  pub waiting_piece : a.steps ≤ slice → is_some (step program s p) ≡ true → is_some (step program stood p) ≡ false → IsPiece program slice spare s p (record { steps = a.steps; cost = a.cost; block = 0; started = 0 }) stood
-  waiting_piece few can waits = local_piece (go a.steps refl) (record {
-    can = made_there.leads.legal;
-    within = omega (arith, few, slice_within slice spare);
-    before = λ k low. each_local k (omega arith);
-    stops = inr (inr (few, ap (λ (t : State Proc). step program t p) they_lead ∙ none_from (step program stood p) waits));
-  })
-    where
-      go : (n : ℕ) → a.steps ≡ n → 1 ≤ n
-      go zero none = absurd (cc (sym waits ∙ ap (λ t. is_some (step program t p)) (unchanged program slice spare s p x is a m at none) ∙ can))
-      go (suc n) some = omega arith
-
-  step_full : HasRoom slice spare a.steps → local_step program at.advanced.stopped ≡ None → IsLegal (step program) s (replicate (a.steps + 1) p) → IsFull program slice spare s p (a.steps + 1)
+  -- and one more that isn't local
+  pub step_full : HasRoom slice spare a.steps → local_step program at.advanced.stopped ≡ None → IsLegal (step program) s (replicate (a.steps + 1) p) → IsFull program slice spare s p (a.steps + 1)
   step_full room none can = record {
     can = can;
     within = room_for slice spare a.steps room;
     before = λ k low. each_local k (omega arith);
     stops = inr (inl (a.steps, refl, local_there ∙ ap is_some none));
   }
-
-  -- a step behind the local ones that isn't local
-  pub step_piece : HasRoom slice spare a.steps → local_step program at.advanced.stopped ≡ None → (t : State Proc) (cost block started : ℕ) → step program stood p ≡ Some (t, cost) → starts_at (language program) stood p ≡ child_places p block 1 started
-      → IsPiece program slice spare s p (record { steps = a.steps + 1; cost = a.cost + cost; block = block; started = started }) t
-  step_piece room none t cost block started goes starts =
-      let made = makes_more program s stood p a.steps a.cost (t, cost) made_there goes in
-      record {
-        makes = subst (λ (ps : List Place). Makes program s p (a.steps + 1) t (a.cost + cost) ps) starts made;
-        some_steps = omega arith;
-        full = step_full room none made.leads.legal;
-      }
-
-  -- an event behind the local steps, or a wait for it
-  pub event_or_wait_piece : HasRoom slice spare a.steps → local_step program at.advanced.stopped ≡ None → is_some (step program s p) ≡ true → (here : State Proc) → here ≡ stood → (r : Piece) (t : State Proc) → StepsOrWaits program here p a.steps a.cost r t → IsPiece program slice spare s p r t
-  event_or_wait_piece room none can here same r t (inl steps) =
-      let is : r ≡ record { steps = a.steps + 1; cost = a.cost + steps.paid; block = r.block; started = r.started } =
-      ap₂ (λ (n k : ℕ). record { steps = n; cost = k; block = r.block; started = r.started }) steps.steps_are steps.cost_is in
-      subst (λ (q : Piece). IsPiece program slice spare s p q t) (sym is)
-      (step_piece room none t steps.paid r.block r.started (ap (λ (u : State Proc). step program u p) (sym same) ∙ steps.leads) (ap (λ (u : State Proc). starts_at (language program) u p) (sym same) ∙ steps.starts))
-  event_or_wait_piece room none can here same r t (inr waits) =
-      subst (λ (q : Piece). IsPiece program slice spare s p q t) (sym waits.piece)
-      (subst (λ (u : State Proc). IsPiece program slice spare s p (record { steps = a.steps; cost = a.cost; block = 0; started = 0 }) u) (sym (waits.stays ∙ same))
-      (waiting_piece room.0 can (ap (λ (u : State Proc). is_some (step program u p)) (sym same) ∙ waits.waits)))
-
--- a piece of one step that isn't local
-pub one_piece : (program : Program) (slice : ℕ) (spare : Bool) (s t : State Proc) (p : Place) (x : Proc) → get s.procs p ≡ Some x → 1 ≤ slice → local_step program x ≡ None → (cost block started : ℕ) → step program s p ≡ Some (t, cost) → starts_at (language program) s p ≡ child_places p block 1 started
-    → IsPiece program slice spare s p (record { steps = 1; cost = cost; block = block; started = started }) t
-one_piece program slice spare s t p x is some none cost block started goes starts =
-    let one : 0 + 1 ≡ 1 = omega arith in
-    let paid : 0 + cost ≡ cost = omega arith in
-    let made : Makes program s p 1 t cost (starts_at (language program) s p) =
-    subst (λ (n : ℕ). Makes program s p n t cost (starts_at (language program) s p)) one
-    (subst (λ (k : ℕ). Makes program s p (0 + 1) t k (starts_at (language program) s p)) paid (makes_more program s s p 0 0 (t, cost) (makes_none program s p) goes)) in
-    record {
-      makes = subst (λ (ps : List Place). Makes program s p 1 t cost ps) starts made;
-      some_steps = omega arith;
-      full = record {
-        can = made.leads.legal;
-        within = omega (arith, some, slice_within slice spare);
-        before = λ k low. absurd (omega arith);
-        stops = inr (inl (0, refl, ap (is_local_in program) is ∙ ap is_some none));
-      };
-    }

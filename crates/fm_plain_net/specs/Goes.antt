@@ -8,11 +8,13 @@ use Rattle.fm_finmap.specs.Changes.{Change}
 use Rattle.fm_net.specs.Machine.{Place, Need, Nothing, Event, New, Children, Reply, Onward, Go, Procs, reply_with, made, chans_after, spilt, served_at, gathered, child_changes}
 use Rattle.fm_rules.specs.declared.program.Program.{Program}
 use Rattle.fm_net.specs.Owned.{name_of}
+use Rattle.fm_mean.specs.Actions.{action_of}
 use Rattle.fm_mean.specs.Outcome.{need_of}
 use Rattle.fm_mean.specs.Process.{Proc, has_ended, emptied}
 use Rattle.fm_mean.specs.Steps.{ask}
 use Rattle.fm_plain.specs.declared.event.Event as plain
 use Rattle.fm_plain.specs.declared.event.Event.TheVariants as event
+use Rattle.fm_plain.specs.Events.{IsEvent}
 use Rattle.fm_plain_net.specs.declared.ports.Ports.{Ports}
 use Rattle.fm_plain_replies.specs.declared.joining.Ended.{Ended}
 use Rattle.fm_plain_replies.specs.Joins.{after_join, frames_in, left_frames}
@@ -44,6 +46,14 @@ joined_by (event.Probe channel empty next) = None
 joined_by event.Begin = None
 joined_by (event.Join block count next) = Some (block, count, next)
 joined_by event.End = None
+
+-- whether it is a join
+abbrev pub is_join : plain.Event → Bool
+is_join e = is_some (joined_by e)
+
+-- a process stands at this event
+abbrev pub MeetsIt : Program → Proc → plain.Event → Type 0
+MeetsIt program x e = IsEvent x.phase (action_of program x) e
 
 -- the children that are joined, where all have ended
 abbrev pub kids_by : Procs Proc → Place → Option (ℕ × ℕ) → Option (List Proc)
@@ -91,12 +101,6 @@ pub record CanPerform (program : Program) (place : Place) (x : Proc) (before : C
   -- no channel has the name of its next one
   pub absent : get before (name_of place x.next_channel) ≡ None
   pub may : MayPerform program place x before kids ports
-
--- and it alone changed, beside the channels
-pub record PerformsAt (program : Program) (place : Place) (x : Proc) (before : Chans) (kids : List Proc) (ports : Ports) (old new : Procs Proc) (starts : List Proc) (chans : Chans) (later : Ports) (cost : ℕ) : Type 0 where
-  pub after : Proc
-  pub performs : Performs program place x before kids ports after starts chans later cost
-  pub procs_are : new ≡ insert old place after
 
 -- a process can join children that left these frames
 pub record CanJoin (program : Program) (x : Proc) (next : ℕ) (left : List Ended) (ports : Ports) : Type 0 where

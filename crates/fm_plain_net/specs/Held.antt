@@ -1,24 +1,21 @@
 -- The ports that processes hold are kept, each under its value.
 -- Source: this profile.
-use Rattle.std.specs.Prelude.{◌≡◌, ◌≢◌, ◌⊎◌, ◌≤◌, ◌<◌, ◌+◌, ℕ, Some, List, ◌++◌, length, slice_get}
-use Rattle.std.specs.FinMap.{get}
+use Rattle.std.specs.Prelude.{◌≡◌, ◌⊎◌, ◌≤◌, ℕ, Some, List, ◌++◌}
 use Rattle.fm_base.specs.declared.path.ChanName.{ChanName}
 use Rattle.fm_base.specs.declared.port.PortValue.{PortValue}
 use Rattle.fm_base.specs.Channels.{ChannelOp}
 use Rattle.fm_finmap.specs.Sums.{total}
-use Rattle.fm_net.specs.Machine.{Place, Procs, Need, Event, Reply, Onward, child, made}
+use Rattle.fm_sched.specs.Schedule.{IsReached}
+use Rattle.fm_net.specs.Machine.{Place, Procs, State, Need, Event, Reply, Onward, made}
 use Rattle.fm_net.specs.Lawful.{holds, port_of, got, given_by, made_by}
 use Rattle.fm_net.specs.Owned.{count}
 use Rattle.fm_rules.specs.declared.program.Program.{Program}
-use Rattle.fm_finmap.specs.Rows.{numbered_map}
-use Rattle.fm_mean.specs.Process.{Joining, Kid, Phase, Proc}
-use Rattle.fm_mean.specs.Steps.{language}
+use Rattle.fm_net_procs.specs.Kept as table
+use Rattle.fm_mean.specs.Process.{Phase, Proc}
+use Rattle.fm_mean.specs.Steps.{first, language, step}
 use Rattle.fm_plain.specs.Looking.{IsNext}
 use Rattle.fm_plain_net.specs.declared.ports.Ports.{Ports}
-use Rattle.fm_plain_net.specs.declared.processes.Slot.{Slot}
-use Rattle.fm_plain_net.specs.declared.processes.Processes.{Processes}
-use Rattle.fm_plain_net.specs.declared.processes.Trees.{Trees}
-use Rattle.fm_plain_net.specs.Readings.{kept, order_of, proc_in, procs_of}
+use Rattle.fm_plain_net.specs.Readings.{Processes, Trees, awaited_in, awaits, kept, state_of, tree_of}
 
 -- the port is kept under its value
 abbrev pub IsKept : Ports → PortValue → Type 0
@@ -69,29 +66,30 @@ HeldAreKept program ports m = (z : PortValue) → 1 ≤ total (holds (language p
 
 -- what each process does next is told
 abbrev pub AreLookedAt : Program → Processes → Type 0
-AreLookedAt program x = (q : Place) (s : Slot) → get (numbered_map x.slots) q ≡ Some s → IsNext program (proc_in program s) s.next
+AreLookedAt program x = table.AreTold (tree_of program) (IsNext program) x
 
 -- what each process but that at one place does next is told
 abbrev pub AreLookedAtBut : Program → (own : Place) → Processes → Type 0
-AreLookedAtBut program own x = (q : Place) (s : Slot) → q ≢ own → get (numbered_map x.slots) q ≡ Some s → IsNext program (proc_in program s) s.next
+AreLookedAtBut program own x = table.AreToldBut (tree_of program) (IsNext program) own x
 
--- so many children of a block have numbers one behind the other, the first one this
-abbrev pub AreChildren : (places : List Place) → (first : ℕ) → Place → (block count : ℕ) → Type 0
-AreChildren places first p b n = (i : ℕ) → i < n → slice_get places (first + i) ≡ Some (child p b (i + 1))
-
--- so have the children for which a process in this phase waits
+-- the children of a block for which a process in this phase waits have numbers one behind the other, the first one this
 abbrev pub HasFamily : (places : List Place) → Place → Phase → (first : ℕ) → Type 0
-HasFamily places p phase first = (b : ℕ) (kids : List Kid) → phase ≡ Joining b kids → AreChildren places first p b (length kids)
+HasFamily places p phase first = table.HasFamily places p (awaited_in phase) first
 
 -- the first child of each is told
 abbrev pub AreFamilies : Program → Processes → Type 0
-AreFamilies program x = (q : Place) (s : Slot) → get (numbered_map x.slots) q ≡ Some s → HasFamily (order_of x) q (proc_in program s).phase s.first_child
+AreFamilies program x = table.AreFamilies (tree_of program) awaits x
 
 abbrev pub AreFamiliesBut : Program → (own : Place) → Processes → Type 0
-AreFamiliesBut program own x = (q : Place) (s : Slot) → q ≢ own → get (numbered_map x.slots) q ≡ Some s → HasFamily (order_of x) q (proc_in program s).phase s.first_child
+AreFamiliesBut program own x = table.AreFamiliesBut (tree_of program) awaits own x
+
+-- the ports that processes hold in a state that is reached are kept
+pub record Fits (program : Program) (ports : Ports) (s : State Proc) : Type 0 where
+  pub reached : IsReached (step program) (first program) s
+  pub held : HeldAreKept program ports s.procs
 
 -- between two pieces
 pub record IsSound (program : Program) (net : Trees) : Type 0 where
-  pub held : HeldAreKept program net.ports (procs_of program net.processes)
-  pub next : AreLookedAt program net.processes
-  pub families : AreFamilies program net.processes
+  pub told : AreLookedAt program net.entries
+  pub families : AreFamilies program net.entries
+  pub fits : Fits program net.work (state_of program net)

@@ -1,54 +1,69 @@
 -- The processes, channels and ports in memory as the meaning's state, and the ports by their values.
 -- Source: this profile.
-use Rattle.std.specs.Prelude.{◌≡◌, ℕ, Bool, false, Option, Some, None, List}
-use Rattle.std.specs.Arc.{arc_value}
+use Rattle.std.specs.Prelude.{◌≡◌, ℕ, Option, Some, None, List, length}
 use Rattle.std.specs.FinMap.{get}
 use Rattle.fm_base.specs.declared.port.PortValue.{PortValue}
 use Rattle.fm_base.specs.declared.port.PortValue.TheVariants.{Writer, Reader}
 use Rattle.fm_base.specs.PathOrder.{channel_cmp}
-use Rattle.fm_chan.specs.Bodies.{chans_of}
-use Rattle.fm_finmap.specs.Map.{map_of, map_values}
-use Rattle.fm_finmap.specs.Rows.{numbered_map, place_at, places, value_at}
+use Rattle.fm_finmap.specs.Map.{map_of}
 use Rattle.fm_net.specs.Machine.{Place, Procs, State}
+use Rattle.fm_net_procs.specs.declared.entries.Actor.{Actor}
+use Rattle.fm_net_procs.specs.declared.entries.Entries.{Entries}
+use Rattle.fm_net_procs.specs.declared.entries.Entry.{Entry}
+use Rattle.fm_net_procs.specs.declared.processes.Processes as run
+use Rattle.fm_net_procs.specs.Readings as table
 use Rattle.fm_rules.specs.declared.program.Program.{Program}
 use Rattle.fm_mean.specs.Outports.{outport_cmp}
-use Rattle.fm_mean.specs.Process.{Proc, is_ended}
-use Rattle.fm_plain_frame.specs.Frames.{phase_of, proc_of}
+use Rattle.fm_mean.specs.Process.{Ended, Faulted, Joining, Phase, Proc, Running}
+use Rattle.fm_plain.specs.declared.looking.Next.{Next}
+use Rattle.fm_plain_frame.specs.Frames.{proc_of}
 use Rattle.fm_plain_net.specs.declared.ports.Ports.{Ports}
-use Rattle.fm_plain_net.specs.declared.processes.Slot.{Slot}
-use Rattle.fm_plain_net.specs.declared.processes.Processes.{Processes}
-use Rattle.fm_plain_net.specs.declared.processes.Actor.{Actor}
-use Rattle.fm_plain_net.specs.declared.processes.Trees.{Trees}
+use Rattle.fm_plain_net.specs.declared.processes.TreeProc.{TreeProc}
+
+abbrev pub tree_of : Program → TreeProc → Proc
+tree_of program x = proc_of program x.plain
+
+-- the block whose children a process in this phase waits for, and how many they are
+abbrev pub awaited_in : Phase → Option (ℕ × ℕ)
+awaited_in Running = None
+awaited_in (Joining block kids) = Some (block, length kids)
+awaited_in Ended = None
+awaited_in (Faulted line fault) = None
+
+abbrev pub awaits : Proc → Option (ℕ × ℕ)
+awaits x = awaited_in x.phase
+
+-- a process, and what is kept of it
+abbrev pub Slot : Type 0
+Slot = Entry TreeProc Next
+
+abbrev pub Processes : Type 0
+Processes = Entries TreeProc Next
+
+-- the processes, channels and ports of a run
+abbrev pub Trees : Type 0
+Trees = run.Processes TreeProc Next Ports
 
 abbrev pub proc_in : Program → Slot → Proc
-proc_in program s = proc_of program s.process
+proc_in program s = tree_of program s.process
 
 -- the processes by their paths
-unfoldable pub procs_of : Program → Processes → Procs Proc
-procs_of program x = map_values (proc_in program) (numbered_map x.slots)
-
--- whether one has ended
-abbrev pub over_at : Option Slot → Bool
-over_at None = false
-over_at (Some s) = is_ended (phase_of s.process.phase)
-
--- whether the process of this number has ended
-abbrev pub over_in : Processes → ℕ → Bool
-over_in x n = over_at (value_at x.slots n)
+abbrev pub procs_of : Program → Processes → Procs Proc
+procs_of program x = table.procs_of (tree_of program) x
 
 -- their places, in the order of their numbers
 abbrev pub order_of : Processes → List Place
-order_of x = places x.slots
+order_of x = table.order_of x
 
 abbrev pub actor_place : Actor → Place
-actor_place a = arc_value a.path
+actor_place a = table.actor_place a
 
 -- the number of a process is that of its path
 abbrev pub IsActor : Processes → Actor → Type 0
-IsActor x a = place_at x.slots a.number ≡ Some (actor_place a)
+IsActor x a = table.IsActor x a
 
 abbrev pub state_of : Program → Trees → State Proc
-state_of program n = record { procs = procs_of program n.processes; chans = chans_of n.channels }
+state_of program n = table.state_of (tree_of program) n
 
 -- what is kept under the value of a port, if something is
 unfoldable pub kept : Ports → PortValue → Option PortValue

@@ -18,8 +18,8 @@ channel_received event.Begin = None
 channel_received (event.Join block count next) = None
 channel_received event.End = None
 
--- the channel at which a process waits that does this next
-abbrev pub channel_waited : Next → Option ChanName
-channel_waited next.Steps = None
-channel_waited next.Rests = None
-channel_waited (next.Meets e) = channel_received e
+-- the event at which a process stands that does this next, if it may wait there
+abbrev pub event_in : Next → Option plain.Event
+event_in next.Steps = None
+event_in next.Rests = None
+event_in (next.Meets e) = Some e

@@ -215,18 +215,20 @@ fn put_process(
     put_held(alloc, program, all, &holder, process)
 }
 
-impl Processes {
-    // The paths of holders, by the outports.
-    fn owners(&self, alloc: Global, program: &Program) -> Result<Map<Outport, Path>, NoMemory>
-        ensures { IfOk result (λ m. map_of outport_cmp m ≡ from_entries (holdings (procs_of program.now self.now))) }
-    {
-        let mut all = Map::new(alloc);
-        let rows = self.slots.in_path_order(alloc)?;
-        'processes: for row in &rows {
-            put_process(alloc, program, &mut all, row.0, &row.1.process)?;
-        }
-        Ok(all)
+// The paths of holders, by the outports.
+fn owners(
+    alloc: Global,
+    program: &Program,
+    processes: &Processes,
+) -> Result<Map<Outport, Path>, NoMemory>
+    ensures { IfOk result (λ m. map_of outport_cmp m ≡ from_entries (holdings (procs_of program.now processes.now))) }
+{
+    let mut all = Map::new(alloc);
+    let rows = processes.rows.in_path_order(alloc)?;
+    'processes: for row in &rows {
+        put_process(alloc, program, &mut all, row.0, &row.1.process.plain)?;
     }
+    Ok(all)
 }
 
 /// Who holds the open writers, in the order of these.
@@ -237,6 +239,6 @@ pub(crate) fn holders(
 ) -> Result<Vec<Holder>, NoMemory>
     ensures { IfOk result (λ v. v.items ≡ holders_of (state_of program.now net.now)) }
 {
-    let owners = net.processes.owners(alloc, program)?;
+    let owners = owners(alloc, program, &net.entries)?;
     holders_in_order(alloc, owners)
 }

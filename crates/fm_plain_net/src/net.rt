@@ -6,9 +6,7 @@ ghost use Rattle.fm_plain_net.specs.Readings.{order_of, state_of};
 
 use crate::first::first_net;
 use crate::outcome::outcome;
-use crate::pieces::make_piece;
 use crate::processes::Trees;
-use crate::ready::can_step;
 use fm_base::{NoMemory, Path};
 use fm_mean::Outcome;
 use fm_rules::Program;
@@ -36,7 +34,7 @@ impl Drop for TreeNet {
 impl Net for TreeNet {
     ghost state = { λ program net. state_of program net.trees };
 
-    ghost order = { λ net. order_of net.trees.processes };
+    ghost order = { λ net. order_of net.trees.entries };
 
     ghost channels = { λ net. net.trees.channels };
 
@@ -53,7 +51,7 @@ impl Net for TreeNet {
     }
 
     fn count(&self) -> usize {
-        self.trees.processes.slots.len()
+        self.trees.entries.rows.len()
     }
 
     fn pieces(&self) -> usize {
@@ -68,14 +66,16 @@ impl Net for TreeNet {
         slice: u32,
         kind: Kind,
     ) -> Result<Piece, NoMemory> {
-        let actor = self.trees.processes.actor(number)?;
-        let piece = make_piece(alloc, &mut self.trees, program, &actor, slice, kind.spare)?;
+        let actor = self.trees.entries.actor(number)?;
+        let piece = self
+            .trees
+            .make_piece(alloc, program, &actor, slice, kind.spare)?;
         put_piece(alloc, &mut self.history, kind.joins, number, piece.steps)?;
         Ok(piece)
     }
 
     fn can_step(&self, program: &Program, number: u32) -> Result<bool, NoMemory> {
-        can_step(&self.trees, program, number)
+        self.trees.can_step(number)
     }
 
     fn note(&mut self, program: &Program, number: u32) -> Result<(), NoMemory> {
@@ -87,12 +87,12 @@ impl Net for TreeNet {
     }
 
     fn has_ended(&self, number: u32) -> bool {
-        self.trees.processes.has_ended(number)
+        self.trees.entries.has_ended(number)
     }
 
     fn awaits(&self, number: u32, before: usize) -> Result<Awaited, NoMemory> {
-        let family = self.trees.processes.family(number);
-        let ended = self.trees.processes.count_ended(family, before)?;
+        let family = self.trees.entries.family(number);
+        let ended = self.trees.entries.count_ended(family, before)?;
         Ok(Awaited {
             ended,
             waits: ended < family.count,
@@ -105,6 +105,6 @@ impl Net for TreeNet {
 
     fn into_parts(self) -> (History, Vec<Arc<Path>>) {
         let TreeNet { trees, history } = self;
-        (history, trees.processes.slots.into_paths())
+        (history, trees.into_paths())
     }
 }

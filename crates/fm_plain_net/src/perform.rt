@@ -19,7 +19,7 @@ ghost use Rattle.fm_mean.specs.Steps.{ended, limits_of};
 ghost use Rattle.fm_plain_frame.specs.Frames.{proc_of};
 ghost use Rattle.fm_plain_frame.specs.LetGo.{let_go_ports};
 ghost use Rattle.fm_plain_replies.specs.Goes.{after_begin, after_message};
-ghost use Rattle.fm_plain_replies.specs.Joins.{after_join, frames_in, left_frames};
+ghost use Rattle.fm_plain_replies.specs.Joins.{frames_in, left_frames};
 ghost use Rattle.fm_plain_passing.specs.Items.{message_of};
 ghost use Rattle.fm_plain.specs.Events.{event_by};
 ghost use Rattle.fm_plain_net.specs.Goes.{CanJoin, CanPerform, Joins, Performs, joined_by};
@@ -30,6 +30,7 @@ use crate::ports::Ports;
 use fm_base::{ChanName, Fault, Line, NoMemory, Path, PortValue, Seq};
 use fm_chan::{Channels, Got, Message, Port};
 use fm_mean::{Actual, Span};
+use fm_net_procs::Done;
 use fm_plain::Event;
 use fm_plain_frame::{Leaving, LetGo, PlainProc};
 use fm_plain_passing::{Item, message_words};
@@ -40,16 +41,7 @@ use fm_rules::Program;
 use std::alloc::Global;
 use std::collections::VecDeque;
 
-/// What an event leaves to be done: the children to put at their places. And its cost.
-#[derive(Drop)]
-pub(crate) struct Done {
-    /// The children that start, in order.
-    pub children: Vec<PlainProc>,
-    /// The cost in turns.
-    pub cost: u64,
-}
-
-fn alone(alloc: Global, cost: u64) -> Done
+fn alone(alloc: Global, cost: u64) -> Done<PlainProc>
     ensures children { result.children.items ≡ [] }
     ensures cost { result.cost ≡ cost }
 {
@@ -212,7 +204,7 @@ fn make(
     writers: u32,
     cost: u64,
     next: u32,
-) -> Result<Done, NoMemory>
+) -> Result<Done<PlainProc>, NoMemory>
     requires event { action_of program.now (proc_of program.now process.old) ≡ action.Meets (action.Make places.now writers cost next) }
     requires can { CanPerform program.now path.now (proc_of program.now process.old) (chans_of channels.old) [] ports.old }
     ensures performs { IfOk result (λ done. Performs program.now path.now (proc_of program.now process.old) (chans_of channels.old) [] ports.old (proc_of program.now process.new) (map (proc_of program.now) done.children.items) (chans_of channels.new) ports.new done.cost) }
@@ -244,7 +236,7 @@ fn send(
     writer: u32,
     items: Seq<Actual>,
     next: u32,
-) -> Result<Done, NoMemory>
+) -> Result<Done<PlainProc>, NoMemory>
     requires event { action_of program.now (proc_of program.now process.old) ≡ action.Meets (action.Send channel writer items next) }
     requires can { CanPerform program.now path.now (proc_of program.now process.old) (chans_of channels.old) [] ports.old }
     ensures performs { IfOk result (λ done. Performs program.now path.now (proc_of program.now process.old) (chans_of channels.old) [] ports.old (proc_of program.now process.new) (map (proc_of program.now) done.children.items) (chans_of channels.new) ports.new done.cost) }
@@ -325,7 +317,7 @@ fn receive(
     iostat: Option<Span>,
     at_end: Option<u32>,
     next: u32,
-) -> Result<Done, NoMemory>
+) -> Result<Done<PlainProc>, NoMemory>
     requires event { action_of program.now (proc_of program.now process.old) ≡ action.Meets (action.Receive channel line.0 places.now iostat at_end next) }
     requires can { CanPerform program.now path.now (proc_of program.now process.old) (chans_of channels.old) [] ports.old }
     ensures performs { IfOk result (λ done. Performs program.now path.now (proc_of program.now process.old) (chans_of channels.old) [] ports.old (proc_of program.now process.new) (map (proc_of program.now) done.children.items) (chans_of channels.new) ports.new done.cost) }
@@ -372,7 +364,7 @@ fn probe(
     channel: ChanName,
     empty: Span,
     next: u32,
-) -> Done
+) -> Done<PlainProc>
     requires event { action_of program.now (proc_of program.now process.old) ≡ action.Meets (action.Probe channel empty next) }
     requires can { CanPerform program.now path.now (proc_of program.now process.old) (chans_of channels.now) [] ports.now }
     ensures { Performs program.now path.now (proc_of program.now process.old) (chans_of channels.now) [] ports.now (proc_of program.now process.new) (map (proc_of program.now) result.children.items) (chans_of channels.now) ports.now result.cost }
@@ -382,7 +374,11 @@ fn probe(
     alone(alloc, 1)
 }
 
-fn start(alloc: Global, program: &Program, process: &mut PlainProc) -> Result<Done, NoMemory>
+fn start(
+    alloc: Global,
+    program: &Program,
+    process: &mut PlainProc,
+) -> Result<Done<PlainProc>, NoMemory>
     ensures process { OnOk result (proc_of program.now process.new ≡ (after_begin (proc_of program.now process.old)).self) }
     ensures children { IfOk result (λ done. map (proc_of program.now) done.children.items ≡ (after_begin (proc_of program.now process.old)).starts) }
     ensures cost { IfOk result (λ done. done.cost ≡ 1 + length done.children.items) }
@@ -421,7 +417,7 @@ pub(crate) fn perform(
     channels: &mut Channels,
     ports: &mut Ports,
     event: Event,
-) -> Result<Done, NoMemory>
+) -> Result<Done<PlainProc>, NoMemory>
     requires event { action_of program.now (proc_of program.now process.old) ≡ action.Meets (event_by (proc_of program.now process.old).phase event) }
     requires alone { joined_by event ≡ None }
     requires can { CanPerform program.now path.now (proc_of program.now process.old) (chans_of channels.old) [] ports.old }

@@ -17,13 +17,12 @@ use Rattle.fm_proc.specs.declared.joining.Left.{Left}
 use Rattle.fm_proc.specs.Lefts.{left_by, left_of}
 use Rattle.fm_proc.specs.Rooms.{left_room, lefts_room}
 use Rattle.fm_proc.proofs.Joinings.{less_room}
-use Rattle.fm_procs.specs.declared.entries.Entries.{Entries}
 use Rattle.fm_net.specs.declared.kids.Family.{Family}
 use Rattle.fm_procs.specs.Blocks.{HasRoomFrom}
 use Rattle.fm_procs.specs.Kept.{AreChildren}
-use Rattle.fm_procs.specs.Readings.{order_of, procs_of}
+use Rattle.fm_procs.specs.Readings.{Entries, order_of, procs_of}
 use Rattle.fm_procs.proofs.Doing.{still_there}
-use Rattle.fm_procs.proofs.Family.{child_as_before}
+use Rattle.fm_net_procs.proofs.Family.{child_as_before}
 
 -- ---- the process itself
 
@@ -95,7 +94,7 @@ pub next_left : (x : Entries) (f : Family) (n : ℕ) (j : OpenJoin) (c : NextChi
     option_map left_of o ≡ option_map left_by (get now (child c.place c.block (n + 1))) → now ≡ alters (child_changes emptied c.place c.block 1 n) (procs_of x) → option_map left_of o ≡ Some (left_by c.head)
 next_left x f n j c now o left is =
     left ∙ ap (λ m. option_map left_by (get m (child c.place c.block (n + 1)))) is
-    ∙ ap (option_map left_by) (child_as_before c.place c.block n (procs_of x) ∙ c.is)
+    ∙ ap (option_map left_by) (child_as_before emptied c.place c.block n (procs_of x) ∙ c.is)
 
 inside : {X : Type 0} (x y : X) → Some x ≡ Some y → x ≡ y
 inside x y e = cc e

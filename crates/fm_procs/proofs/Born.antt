@@ -161,23 +161,11 @@ module _ (p : Place) (y : CodeProc) (cs : Chans) (z : CodeProc) (xs : List CodeP
 
 -- ---- a process that can step, and doesn't join, is served by the channels
 
-not_join : (k : Ask) → joined_next k ≡ None → is_join k ≡ false
-not_join (ask.Fail line fault) e = refl
-not_join (ask.LetGo slots) e = refl
-not_join (ask.Channel inport outport next) e = refl
-not_join (ask.Merger inport outports next) e = refl
-not_join (ask.Send slot items next) e = refl
-not_join (ask.Receive slot items status at_end next) e = refl
-not_join (ask.Probe slot empty next) e = refl
-not_join (ask.Begin next) e = refl
-not_join (ask.Join next) e = absurd (cc e)
-not_join ask.End e = refl
-
 not_both : (a b : Bool) → b ≡ false → (a && b) ≡ false
 not_both true b e = e
 not_both false b e = refl
 
-pub can_perform : (s : State CodeProc) (p : Place) (y : CodeProc) (k : Ask) → get s.procs p ≡ Some y → look_of y ≡ look.Asks k → joined_next k ≡ None → is_some (code_step s p) ≡ true → CanPerform y s.chans
+pub can_perform : (s : State CodeProc) (p : Place) (y : CodeProc) (k : Ask) → get s.procs p ≡ Some y → look_of y ≡ look.Asks k → is_join k ≡ false → is_some (code_step s p) ≡ true → CanPerform y s.chans
 can_perform s p y k is told alone can = go (is_running y) refl
   where
     serves : is_served s.procs s.chans p y ≡ true
@@ -185,7 +173,7 @@ can_perform s p y k is told alone can = go (is_running y) refl
 
     go : (r : Bool) → is_running y ≡ r → CanPerform y s.chans
     go true running = sym (running_served s.procs s.chans p y running) ∙ serves
-    go false running = absurd (cc (sym (unserved s.procs s.chans p y k told running (not_both (is_joining y) (is_join k) (not_join k alone))) ∙ serves))
+    go false running = absurd (cc (sym (unserved s.procs s.chans p y k told running (not_both (is_joining y) (is_join k) alone)) ∙ serves))
 
 -- an event with a statement behind a join is that join
 pub join_told : (k : Ask) (next : ℕ) → joined_next k ≡ Some next → look.Asks k ≡ look.Asks (ask.Join next)

@@ -11,7 +11,7 @@ use Rattle.fm_machine_calls.specs.Looks.{look_in}
 use Rattle.fm_net.specs.Machine.{Place, State}
 use Rattle.fm_proc_language.specs.Processes.{CodeProc, Phase, Running, Joining, Ended, Faulted}
 use Rattle.fm_proc_events.specs.Told.{look_by, look_of}
-use Rattle.fm_procs.specs.declared.pieces.CodePiece.{CodePiece}
+use Rattle.fm_net_procs.specs.declared.piece.Piece.{Piece as CodePiece}
 use Rattle.fm_procs.specs.Pieces.{Finishes}
 
 goes_asks : (a : Action) → look_in a ≡ look.Goes → ask_in a ≡ None

@@ -5,7 +5,7 @@ use Rattle.std.specs.FinMap.{get, insert}
 use Rattle.fm_base.specs.Channels.{Chans}
 use Rattle.fm_finmap.specs.Changes.{alters}
 use Rattle.fm_net.specs.Machine as net
-use Rattle.fm_net.specs.Machine.{Place, Procs, State, Need, Nothing, Event, New, Children, Stop, Go, Reply, Onward, child_changes, gathered, made, reply_with, served}
+use Rattle.fm_net.specs.Machine.{Place, Procs, State, Nothing, Event, New, Children, Stop, Go, child_changes, gathered, made, reply_with, served}
 use Rattle.fm_net.specs.Starts.{starts_at}
 use Rattle.fm_code.specs.declared.ask.Ask.TheVariants as ask
 use Rattle.fm_code.specs.declared.body.Body.{Body}
@@ -17,7 +17,7 @@ use Rattle.fm_proc_language.specs.Processes.{CodeProc, Kid, Phase, Running, Join
 use Rattle.fm_proc_events.specs.Told as told_of
 use Rattle.fm_proc_events.specs.Told.{is_joining, look_by, look_of}
 use Rattle.fm_procs.specs.Kept.{AreChildren, HasFamily}
-use Rattle.fm_procs.specs.Readings.{code_step}
+use Rattle.fm_procs.specs.Readings.{awaited_in, code_step}
 use Rattle.fm_procs.specs.Stepping.{JoinsAt}
 use Rattle.fm_procs.specs.Waiting.{kids_in, served_asked}
 use Rattle.fm_procs.proofs.Doing.{goes_on, starts_so}
@@ -33,7 +33,7 @@ pub record JoinsNow (s : State CodeProc) (p : Place) (y : CodeProc) (next : ℕ)
   pub children : List CodeProc
   pub are : gathered has_ended s.procs p block 1 (length kids) ≡ Some children
 
-join_in : (a : Action) (next : ℕ) → look_in a ≡ look.Asks (ask.Join next) → a ≡ code.Meets (ask.Join next)
+pub join_in : (a : Action) (next : ℕ) → look_in a ≡ look.Asks (ask.Join next) → a ≡ code.Meets (ask.Join next)
 join_in code.Stuck next e = absurd (cc e)
 join_in (code.Own after lines [] cost) next e = absurd (cc e)
 join_in (code.Own after lines (z ∷ zs) cost) next e = absurd (cc e)
@@ -85,7 +85,7 @@ module _ (s : State CodeProc) (p : Place) (y : CodeProc) (is : get s.procs p ≡
 
     -- the children by their numbers
     pub its_children : (ps : List Place) (first : ℕ) → HasFamily ps p y.phase first → AreChildren ps first p j.block count
-    its_children ps first has = subst (λ (n : ℕ). AreChildren ps first p j.block n) (sym all_kids) (has j.block j.kids j.phase_is)
+    its_children ps first has = subst (λ (n : ℕ). AreChildren ps first p j.block n) (sym all_kids) (has j.block (length j.kids) (ap awaited_in j.phase_is))
 
     pub have_ended : gathered has_ended s.procs p j.block 1 count ≡ Some j.children
     have_ended = ap (gathered has_ended s.procs p j.block 1) all_kids ∙ j.are

@@ -1,7 +1,4 @@
-pub mod Maps
-pub mod Families
-pub mod Family
-pub mod Counting
+pub mod Awaited
 pub mod Letting
 pub mod Served
 pub mod Doing
@@ -9,8 +6,8 @@ pub mod Joining
 pub mod Blocks
 pub mod Born
 pub mod Placing
-pub mod Able
 pub mod Statements
 pub mod Looked
 pub mod Slices
 pub mod Given
+pub mod Table

@@ -14,7 +14,7 @@ use Rattle.fm_machine_calls.specs.declared.looking.Look.TheVariants as look
 use Rattle.fm_proc.specs.declared.advancing.Advanced.{Advanced}
 use Rattle.fm_proc.specs.Runs.{with_ran}
 use Rattle.fm_proc_events.specs.Told.{is_running, look_of, runs_by}
-use Rattle.fm_procs.specs.declared.pieces.CodePiece.{CodePiece}
+use Rattle.fm_net_procs.specs.declared.piece.Piece.{Piece as CodePiece}
 use Rattle.fm_procs.specs.Pieces.{Finishes, IsFull, IsNewAlong, IsNewAt, IsPiece, Makes, StepsOrWaits, after_steps, is_local_at, is_local_in, is_used_up, most_steps}
 use Rattle.fm_procs.specs.Readings.{code_step}
 use Rattle.fm_procs.specs.Stepping.{AdvancesAt}
@@ -59,7 +59,7 @@ module _ (slice : ℕ) (s : State CodeProc) (p : Place) (y : CodeProc) (is : get
       subst (λ (z : CodeProc). Makes s p a.steps (with_process s p z) a.cost []) (sym k.is_after)
       (subst (λ (c : ℕ). Makes s p a.steps (with_process s p (with_ran y k.after)) c []) (sym k.cost_is) (makes_run y k.before k.running k.is_before s p is a.steps k.after k.ran))
 
-  each_is_local : (k : ℕ) → k < a.steps → is_local_at (after_steps s p k) p ≡ true
+  pub each_is_local : (k : ℕ) → k < a.steps → is_local_at (after_steps s p k) p ≡ true
   each_is_local = each_local y at.runs.before at.runs.running at.runs.is_before s p is a.steps at.runs.after at.runs.ran
 
   -- what is new along all its steps is so behind these
@@ -88,7 +88,7 @@ module _ (slice : ℕ) (s : State CodeProc) (p : Place) (y : CodeProc) (is : get
   own_behind goes = ap is_local_in there_behind ∙ goes_local at.after running_behind (sym at.next ∙ goes)
 
   -- where the next one is its own, the slice is used up
-  used_up : is_local_at behind p ≡ true → a.steps ≡ slice
+  pub used_up : is_local_at behind p ≡ true → a.steps ≡ slice
   used_up own = elim (ℕ_discrete a.steps slice) [
     | yes e ↦ e
     | no few ↦ absurd (cc (sym own ∙ ap is_local_in there_behind ∙ at.stops few))

@@ -8,10 +8,9 @@ use Rattle.fm_proc.specs.declared.joining.OpenJoin.{OpenJoin}
 use Rattle.fm_proc.specs.Joinings.{HasJoined, HasRoomToJoin}
 use Rattle.fm_proc.specs.Lefts.{left_by}
 use Rattle.fm_proc.specs.Rooms.{lefts_room}
-use Rattle.fm_procs.specs.declared.entries.Entries.{Entries}
 use Rattle.fm_net.specs.declared.kids.Family.{Family}
 use Rattle.fm_procs.specs.Kept.{AreChildren}
-use Rattle.fm_procs.specs.Readings.{order_of, procs_of}
+use Rattle.fm_procs.specs.Readings.{Entries, order_of, procs_of}
 
 -- these are the children of a block of the process that stands at a place, and all have ended
 pub record HaveEnded (x : Entries) (p : Place) (f : Family) : Type 0 where

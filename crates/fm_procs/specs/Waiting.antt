@@ -1,23 +1,24 @@
 -- Whether a process can step, and where it waits.
 -- Source: the Fortran M report (RECEIVE waits for a message or the end of its channel, a process block for its processes).
-use Rattle.std.specs.Prelude.{◌≡◌, ◌⊎◌, ℕ, Bool, true, false, is_some, Option, Some, None, option_map, List, [], Contains, slice_get}
+use Rattle.std.specs.Prelude.{◌≡◌, ◌⊎◌, ℕ, Bool, true, false, is_some, Option, Some, None, List, [], Contains}
 use Rattle.std.specs.FinMap.{get}
 use Rattle.fm_base.specs.declared.path.ChanName.{ChanName}
 use Rattle.fm_base.specs.declared.port.PortValue.{PortValue}
 use Rattle.fm_base.specs.declared.port.PortValue.TheVariants.{Writer, Reader}
-use Rattle.fm_base.specs.Channels.{Chans, ChannelOp, Push, Pop, Look}
+use Rattle.fm_base.specs.Channels.{Chans}
 use Rattle.fm_chan.specs.declared.channels.Channels.{Channels}
 use Rattle.fm_chan.specs.Received.{pops_at}
 use Rattle.fm_chan.specs.Woken.{waiting_reader, woken_of}
 use Rattle.fm_net.specs.Machine as net
-use Rattle.fm_net.specs.Machine.{Place, Procs, State, Need, Nothing, Event, New, Children, Stop, Go, served}
+use Rattle.fm_net.specs.Machine.{Place, Procs, State, Need, Stop, Go, served}
 use Rattle.fm_code.specs.declared.ask.Ask.{Ask}
 use Rattle.fm_code.specs.declared.ask.Ask.TheVariants as ask
-use Rattle.fm_proc_language.specs.Processes.{CodeProc, Kid, Phase, Running, Joining, Ended, Faulted, has_ended, asks}
+use Rattle.fm_machine_calls.specs.declared.looking.Look as looking
+use Rattle.fm_machine_calls.specs.declared.looking.Look.TheVariants as look
+use Rattle.fm_proc_language.specs.Processes.{CodeProc, Kid, Phase, Running, Joining, Ended, Faulted, has_ended, asks, code_language}
 use Rattle.fm_proc_language.specs.Needs.{need_of}
-use Rattle.fm_finmap.specs.Rows.{value_at}
-use Rattle.fm_procs.specs.declared.entries.Entries.{Entries}
-use Rattle.fm_procs.specs.Readings.{code_step, proc_in}
+use Rattle.fm_net_procs.specs.Readings as table
+use Rattle.fm_net_procs.specs.Waiting as waiting
 
 -- the children for which a process in this phase waits
 abbrev pub kids_in : Phase → List Kid
@@ -27,33 +28,18 @@ kids_in Ended = []
 kids_in (Faulted line fault) = []
 
 abbrev pub ended_at : Option CodeProc → Bool
-ended_at None = false
-ended_at (Some y) = has_ended y
-
--- whether the process of this number has ended
-abbrev pub over_in : Entries → ℕ → Bool
-over_in x n = ended_at (option_map proc_in (value_at x.rows n))
+ended_at o = table.ended_at has_ended o
 
 abbrev pub can_in : State CodeProc → Option Place → Bool
-can_in s None = false
-can_in s (Some p) = is_some (code_step s p)
+can_in s o = waiting.can_in code_language s o
 
 -- whether the process of this number can step
 abbrev pub can_at : State CodeProc → List Place → ℕ → Bool
-can_at s places n = can_in s (slice_get places n)
+can_at s places n = waiting.can_at code_language s places n
 
 -- the channel of a receive
-abbrev pub channel_popped : ChanName → ChannelOp → Option ChanName
-channel_popped c (Push w m) = None
-channel_popped c (Pop limits) = Some c
-channel_popped c Look = None
-
 abbrev pub channel_needed : Option Need → Option ChanName
-channel_needed None = None
-channel_needed (Some Nothing) = None
-channel_needed (Some (Event c a)) = channel_popped c a
-channel_needed (Some (New n writers)) = None
-channel_needed (Some (Children b n)) = None
+channel_needed o = waiting.channel_needed o
 
 -- the channel at which a process waits for a message, if it waits at one
 abbrev pub channel_waited : CodeProc → Option ChanName
@@ -99,6 +85,12 @@ is_join (ask.Probe slot empty next) = false
 is_join (ask.Begin next) = false
 is_join (ask.Join next) = true
 is_join ask.End = false
+
+-- the event at which a process stands that does this next, if it stands at one
+abbrev pub event_in : looking.Look → Option Ask
+event_in look.Goes = None
+event_in (look.Asks k) = Some k
+event_in look.Stuck = None
 
 abbrev pub served_asked : (m : Procs CodeProc) → Chans → Place → net.Ask CodeProc → Bool
 served_asked m cs q Stop = false

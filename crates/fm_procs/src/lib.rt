@@ -6,14 +6,15 @@
 #![tactic(auto)]
 
 mod code_procs;
-mod entries;
 mod giving;
 mod joins;
 mod pieces;
+mod process;
 mod ready;
-mod stepping;
 
-pub use code_procs::CodeProcs;
-pub use entries::{Actor, Entries, Entry, has_ended};
-pub use pieces::CodePiece;
+pub use code_procs::{CodeProcs, can_step, no_procs, note};
+pub use fm_net_procs::{Actor, Piece as CodePiece};
+pub use giving::give_piece;
+pub use pieces::make_piece;
+pub use process::{CodeProcess, Entries, Entry, has_ended};
 pub use ready::is_join;

@@ -6,7 +6,7 @@ use Rattle.fm_sched.specs.Schedule.{IsLegal, play}
 use Rattle.fm_net.specs.Machine.{Place, State}
 use Rattle.fm_net.specs.Starts.{child_places, starts_along}
 use Rattle.std.proofs.lemmas.Option.{get_or_from_slice_get}
-use Rattle.fm_run.specs.declared.net.Piece.{Piece}
+use Rattle.fm_net_procs.specs.declared.piece.Piece.{Piece}
 use Rattle.fm_rules.specs.declared.program.Program.{Program}
 use Rattle.fm_mean.specs.Process.{Proc}
 use Rattle.fm_mean.specs.Steps.{language, step}

@@ -12,7 +12,7 @@ use Rattle.fm_net.proofs.Orders.{starts-append}
 use Rattle.fm_rules.specs.declared.program.Program.{Program}
 use Rattle.fm_mean.specs.Process.{Proc}
 use Rattle.fm_mean.specs.Steps.{language, step}
-use Rattle.fm_run.specs.declared.net.Piece.{Piece}
+use Rattle.fm_net_procs.specs.declared.piece.Piece.{Piece}
 use Rattle.fm_run.specs.Entries.{EndsWith, MayHaveEntry, MayHavePiece, turn_of, with_piece}
 use Rattle.fm_run.specs.Pieces.{IsPiece}
 use Rattle.fm_run.specs.Runs.{AreMade, HaveSteps, IsEntry, IsPlayedBy, place_of, steps_of}

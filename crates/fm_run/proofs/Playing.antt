@@ -18,7 +18,7 @@ use Rattle.fm_net.specs.Starts.{child_places, starts_along, starts_of, choices_o
 use Rattle.fm_net.proofs.Histories.{choices_more, choices_stay}
 use Rattle.fm_net.proofs.Orders.{everybody, starts_more}
 use Rattle.fm_mean.proofs.Laws.{each_costs as step_costs}
-use Rattle.fm_run.specs.declared.net.Piece.{Piece}
+use Rattle.fm_net_procs.specs.declared.piece.Piece.{Piece}
 use Rattle.fm_run.specs.declared.run.Ending.{Ending}
 use Rattle.fm_run.specs.declared.run.Ending.TheVariants.{Ended, Spent}
 use Rattle.fm_run.specs.declared.run.Run.{Run}

@@ -1,16 +1,17 @@
 -- Who can step, and in which order those that can are served. Processes are numbered in the order of
 -- their starting.
 -- Source: this profile.
-use Rattle.std.specs.Prelude.{◌≡◌, ◌⊎◌, ◌<◌, ◌%◌, ℕ, Bool, false, ◌==◌, ◌&&◌, not, is_some, Option, Some, None, List, [], ◌∷◌, ◌++◌, map, filter, length, slice_get, slice_index_or}
+use Rattle.std.specs.Prelude.{◌≡◌, ◌⊎◌, ◌<◌, ◌%◌, ℕ, Bool, false, ◌==◌, ◌&&◌, not, Option, Some, None, List, [], ◌∷◌, ◌++◌, map, filter, length, slice_get, slice_index_or}
 use Rattle.std.specs.List.{list_any, range_with_len}
 use Rattle.std.specs.Arc.{arc_value}
 use Rattle.std.specs.declared.alloc.Global.{Global}
 use Rattle.std.specs.declared.sync.Arc.{Arc}
 use Rattle.fm_base.specs.declared.path.Path.{Path}
 use Rattle.fm_net.specs.Machine.{Place, State}
+use Rattle.fm_net_procs.specs.Waiting as waiting
 use Rattle.fm_rules.specs.declared.program.Program.{Program}
 use Rattle.fm_mean.specs.Process.{Proc}
-use Rattle.fm_mean.specs.Steps.{step}
+use Rattle.fm_mean.specs.Steps.{language}
 
 -- x is in the list
 abbrev pub Among : {X : Type 0} → X → List X → Type 0
@@ -25,12 +26,11 @@ abbrev pub places_of : List (Arc Path Global) → List Place
 places_of = map place_in
 
 abbrev pub can_in : Program → State Proc → Option Place → Bool
-can_in program s None = false
-can_in program s (Some p) = is_some (step program s p)
+can_in program s o = waiting.can_in (language program) s o
 
 -- whether the process at this place of the order can step
 abbrev pub can_at : Program → State Proc → List Place → ℕ → Bool
-can_at program s places n = can_in program s (slice_get places n)
+can_at program s places n = waiting.can_at (language program) s places n
 
 -- ---- who is chosen
 

@@ -23,22 +23,10 @@ ghost use Rattle.fm_run.specs.Pieces.{IsPiece};
 use crate::history::History;
 use fm_base::{NoMemory, Path};
 use fm_mean::Outcome;
+use fm_net_procs::Piece;
 use fm_rules::Program;
 use std::alloc::Global;
 use std::sync::Arc;
-
-/// What a process did in its piece: local steps, and then one event, if it came to one that it could do.
-#[derive(Clone, Copy)]
-pub struct Piece {
-    /// The number of its steps.
-    pub steps: u32,
-    /// Their cost in turns.
-    pub cost: u64,
-    /// The number of the block that started, if one did.
-    pub block: u32,
-    /// How many children started.
-    pub started: usize,
-}
 
 /// What a piece is for.
 #[derive(Clone, Copy)]

@@ -9,8 +9,9 @@ ghost use Rattle.fm_run.specs.Entries.{with_piece};
 ghost use Rattle.fm_run.specs.Orders.{can_at};
 ghost use Rattle.fm_run.specs.Pieces.{IsPiece};
 
-use crate::net::{Net, Piece};
+use crate::net::Net;
 use fm_base::NoMemory;
+use fm_net_procs::Piece;
 use fm_rules::Program;
 use std::alloc::Global;
 

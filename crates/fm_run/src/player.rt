@@ -10,10 +10,11 @@ ghost use Rattle.fm_run.specs.Runs.{AreMade, AreNumbered, IsFrontWithin, IsMoved
 ghost use Rattle.fm_chan.specs.Woken.{WakesAll};
 
 use crate::becoming::{candidates, keep_count, settle, settle_all, settle_own};
-use crate::net::{Kind, Net, Piece};
+use crate::net::{Kind, Net};
 use crate::orders::{Queue, chosen};
 use crate::outside::OutsideNet;
 use fm_base::NoMemory;
+use fm_net_procs::Piece;
 use fm_rules::Program;
 use std::alloc::Global;
 use std::mem::replace;

@@ -13,7 +13,7 @@ use fm_base::{NoMemory, Path};
 use fm_machine::Done;
 use fm_mean::Outcome;
 use fm_outcome_code::Compiled;
-use fm_procs::CodeProcs;
+use fm_procs::no_procs;
 use fm_rules::Program;
 use fm_run::{Net, Player};
 use fm_same_body::same_body;
@@ -125,5 +125,5 @@ pub(crate) fn let_go(alloc: Global, player: &mut Player<Compiled>, entries: usiz
 {
     player.net.history.forget_behind(entries);
     player.able.shorten(queued);
-    player.net.stacks = CodeProcs::new(alloc);
+    player.net.stacks = no_procs(alloc);
 }

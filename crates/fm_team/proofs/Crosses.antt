@@ -68,9 +68,9 @@ use Rattle.fm_machine_instr.proofs.work.Work.TheSendSync as work
 use Rattle.fm_proc_slots.specs.contracts.slots.Slots as slots
 use Rattle.fm_proc_events.proofs.process.Phase.TheSendSync as phase
 use Rattle.fm_proc_events.specs.contracts.process.Process as process
-use Rattle.fm_procs.specs.contracts.code_procs.CodeProcs as code_procs
-use Rattle.fm_procs.specs.contracts.entries.Entries as entries
-use Rattle.fm_procs.specs.contracts.entries.Entry as coded_entry
+use Rattle.fm_net_procs.specs.contracts.processes.Processes as code_procs
+use Rattle.fm_net_procs.specs.contracts.entries.Entries as entries
+use Rattle.fm_net_procs.specs.contracts.entries.Entry as coded_entry
 use Rattle.fm_run.proofs.history.History.TheSendSync as history
 use Rattle.fm_outcome_code.specs.contracts.compiled.Compiled as compiled
 use Rattle.fm_table.proofs.outside.Taken.TheSendSync as taken

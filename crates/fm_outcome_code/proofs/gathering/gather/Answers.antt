@@ -4,8 +4,7 @@ use Rattle.std.specs.Map.Iter.{deref_pair}
 use Rattle.fm_base.specs.declared.path.Path.{Path}
 use Rattle.fm_net.specs.Machine.{Place}
 use Rattle.fm_proc_language.specs.Processes.{CodeProc}
-use Rattle.fm_procs.specs.declared.entries.Entry.{Entry}
-use Rattle.fm_procs.specs.Readings.{proc_in, procs_of}
+use Rattle.fm_procs.specs.Readings.{Entry, proc_in, procs_of}
 use Rattle.fm_outcome_code.specs.Shown.{lines_at, fault_at, wait_at}
 use Rattle.fm_outcome_code.specs.declared.rows.Part.TheVariants as part
 use Rattle.fm_outcome_code.proofs.Listed.{entries_all, entries_more, entries_of, flat_more, no_fault, no_lines, no_wait, row_listed}

@@ -2,8 +2,7 @@ use Rattle.std.proofs.Common.{◌≡◌, map, take}
 use Rattle.std.specs.List.{flat_map}
 use Rattle.std.specs.Map.Iter.{deref_pair}
 use Rattle.fm_base.specs.declared.path.Path.{Path}
-use Rattle.fm_procs.specs.declared.entries.Entry.{Entry}
-use Rattle.fm_procs.specs.Readings.{procs_of}
+use Rattle.fm_procs.specs.Readings.{Entry, procs_of}
 use Rattle.fm_outcome_code.specs.Shown.{lines_at, fault_at, wait_at}
 use Rattle.fm_outcome_code.proofs.Listed.{entries_of}
 use Rattle.fm_outcome_code.proofs.gathering.gather.Given as goal

@@ -1,4 +1,4 @@
-use Rattle.std.proofs.Common.{List, map, take, ap, refl, sym, ◌∙◌}
+use Rattle.std.proofs.Common.{map, take, ap, refl, sym, ◌∙◌}
 use Rattle.std.specs.List.{flat_map}
 use Rattle.std.specs.FinMap.{empty}
 use Rattle.std.specs.Map.Iter.{deref_pair}
@@ -6,8 +6,7 @@ use Rattle.fm_base.specs.declared.path.Path.{Path}
 use Rattle.fm_net.specs.Machine.{Place}
 use Rattle.fm_mean.specs.Outports.{outport_cmp}
 use Rattle.fm_proc_language.specs.Processes.{CodeProc}
-use Rattle.fm_procs.specs.declared.entries.Entry.{Entry}
-use Rattle.fm_procs.specs.Readings.{proc_in, procs_of}
+use Rattle.fm_procs.specs.Readings.{Entry, proc_in, procs_of}
 use Rattle.fm_outcome_code.specs.Shown.{holdings, holdings_at}
 use Rattle.fm_run.specs.Gathered.{Owners, with_holders}
 use Rattle.fm_run.proofs.Holding.{from_none, with_both}

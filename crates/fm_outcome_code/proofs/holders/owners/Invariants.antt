@@ -5,10 +5,10 @@ use Rattle.std.specs.Map.Iter.{deref_pair}
 use Rattle.fm_base.specs.declared.path.Path.{Path}
 use Rattle.fm_finmap.specs.Map.{map_of}
 use Rattle.fm_mean.specs.Outports.{outport_cmp}
-use Rattle.fm_procs.specs.declared.entries.Entry.{Entry}
 use Rattle.fm_outcome_code.specs.Shown.{holdings_at}
 use Rattle.fm_run.specs.Gathered.{with_holders}
 use Rattle.fm_outcome_code.proofs.Listed.{entries_of}
+use Rattle.fm_procs.specs.Readings.{Entry}
 use Rattle.fm_outcome_code.proofs.holders.owners.Given as goal
 
 -- with the processes so far

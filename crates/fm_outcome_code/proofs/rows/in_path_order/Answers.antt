@@ -5,8 +5,8 @@ use Rattle.fm_base.specs.declared.path.Path.{Path}
 use Rattle.fm_finmap.proofs.Chosen.{chosen_entries, distinct_left}
 use Rattle.fm_finmap.proofs.Keys.{path_order}
 use Rattle.fm_finmap.proofs.Sorted.{sorted_entries}
-use Rattle.fm_procs.specs.declared.entries.Entry.{Entry}
 use Rattle.fm_outcome_code.specs.Parts.{row_gives}
+use Rattle.fm_procs.specs.Readings.{Entry}
 use Rattle.fm_outcome_code.proofs.rows.in_path_order.Goals as goal
 
 pub returns : goal.returns

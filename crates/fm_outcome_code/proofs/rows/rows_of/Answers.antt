@@ -5,8 +5,8 @@ use Rattle.std.proofs.lemmas.List.{map-append, take_all, take_more}
 use Rattle.std.proofs.lemmas.List.Elements.{filter-append}
 use Rattle.fm_base.specs.declared.path.Path.{Path}
 use Rattle.fm_net.specs.Machine.{Place}
-use Rattle.fm_procs.specs.declared.entries.Entry.{Entry}
 use Rattle.fm_outcome_code.specs.Parts.{row_gives}
+use Rattle.fm_procs.specs.Readings.{Entry}
 use Rattle.fm_outcome_code.proofs.rows.rows_of.Goals as goal
 
 pub rows-preserved : goal.rows-preserved

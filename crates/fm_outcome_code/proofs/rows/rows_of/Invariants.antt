@@ -2,8 +2,8 @@ use Rattle.std.proofs.Common.{◌≡◌, map, take}
 use Rattle.std.specs.Prelude.{filter}
 use Rattle.std.specs.Map.Iter.{deref_pair}
 use Rattle.fm_base.specs.declared.path.Path.{Path}
-use Rattle.fm_procs.specs.declared.entries.Entry.{Entry}
 use Rattle.fm_outcome_code.specs.Parts.{row_gives}
+use Rattle.fm_procs.specs.Readings.{Entry}
 use Rattle.fm_outcome_code.proofs.rows.rows_of.Given as goal
 
 -- those of the rows so far

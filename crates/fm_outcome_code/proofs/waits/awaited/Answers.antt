@@ -15,7 +15,7 @@ children-preserved c = λ q b all.
     let at = child_number (order_of c.args.processes.now) c.args.first q b c.args.count all n c.in_ok-number.number low c.in_ok-number.ensures in
     let done : c.has_ended.result ≡ true = search rules in
     let k = child q b (n + 1) in
-    c.children.invariant q b all ∙ awaited_more m q b c.args.count n low (sym (same_ended (get m k)) ∙ sym (c.has_ended.ensures k at) ∙ done)
+    c.children.invariant q b all ∙ awaited_more m q b c.args.count n low (sym (same_ended (get m k)) ∙ sym (c.has_ended.ensures tt k at) ∙ done)
 
 pub returns-then-not-has_ended : goal.returns-then-not-has_ended
 returns-then-not-has_ended c = IfOk-weaker c.path_of.result _ _ (λ o told q b all.
@@ -25,7 +25,7 @@ returns-then-not-has_ended c = IfOk-weaker c.path_of.result _ _ (λ o told q b a
     let at = child_number (order_of c.args.processes.now) c.args.first q b c.args.count all n c.in_ok-number.number low c.in_ok-number.ensures in
     let open_yet : c.has_ended.result ≡ false = search rules in
     let k = child q b (n + 1) in
-    told ∙ at ∙ sym (c.children.invariant q b all ∙ awaited_here m q b c.args.count n low (sym (same_ended (get m k)) ∙ sym (c.has_ended.ensures k at) ∙ open_yet))) c.path_of.ensures
+    told ∙ at ∙ sym (c.children.invariant q b all ∙ awaited_here m q b c.args.count n low (sym (same_ended (get m k)) ∙ sym (c.has_ended.ensures tt k at) ∙ open_yet))) c.path_of.ensures
 
 pub returns : goal.returns
 returns c = λ q b all.

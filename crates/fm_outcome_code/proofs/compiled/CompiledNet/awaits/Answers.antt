@@ -9,6 +9,7 @@ use Rattle.fm_outcome_code.specs.Played.{played}
 use Rattle.fm_outcome_code.proofs.KeptByPath.{standing}
 use Rattle.fm_outcome_code.proofs.Awaiting.{all_counted_on}
 use Rattle.fm_outcome_code.proofs.Standing.{steps_alike}
+use Rattle.fm_procs.proofs.Awaited.{kids_awaited}
 use Rattle.fm_outcome_code.proofs.compiled.CompiledNet.awaits.Goals as goal
 
 pub returns : goal.returns
@@ -24,5 +25,5 @@ returns c = λ p sound can.
     let steps = steps_alike p s t sound.stands q ∙ sym (ap (can_in p s) place.1) ∙ can in
     let all : c.family-family.result.count ≤ c.in_ok-ended.ended =
     all_counted_on t q y who.1 steps ps c.family-family.result.first c.family-family.result.count c.in_ok-ended.ended
-    (c.family-family.ensures.first q y place.1 who.1 sound.kept.families) (c.family-family.ensures.count q y place.1 who.1) (λ b children low. c.in_ok-ended.ensures.not_all q b children low) in
+    (c.family-family.ensures.first tt q y place.1 who.1 sound.kept.families) (c.family-family.ensures.count tt q y place.1 who.1 ∙ kids_awaited y.phase) (λ b children low. c.in_ok-ended.ensures.not_all tt q b children low) in
     grind (arith, nat_tests, all)

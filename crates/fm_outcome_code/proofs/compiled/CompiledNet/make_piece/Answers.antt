@@ -1,9 +1,8 @@
-use Rattle.std.proofs.Common.{◌≡◌, Some, [], ap, sym, subst, ◌∙◌, ◌++◌}
-use Rattle.std.specs.Prelude.{slice_get, slice_index_or}
+use Rattle.std.proofs.Common.{◌≡◌, Some, [], ap, sym, subst, refl, ◌∙◌, ◌++◌}
+use Rattle.std.specs.Prelude.{slice_get}
 use Rattle.std.proofs.lemmas.Option.{get_or_from_slice_get}
 use Rattle.fm_net.specs.Machine.{Place}
 use Rattle.fm_net.specs.Starts.{child_places}
-use Rattle.fm_run.specs.declared.net.Piece.{Piece}
 use Rattle.fm_run.specs.Orders.{can_in}
 use Rattle.fm_run.specs.Pieces.{IsPiece}
 use Rattle.fm_procs.specs.Readings.{actor_place, order_of, state_of}
@@ -35,7 +34,7 @@ returns-clause-sound c =
     let q = actor_place c.in_ok-actor.actor in
     let r = c.in_ok-piece.piece in
     sound_after c.args.program.now net.stacks net.history c.requires.sound c.args.number q (ap (slice_get ps) (sym c.in_ok-actor.ensures.number) ∙ c.in_ok-actor.ensures.actor) c.args.slice c.args.kind.spare r
-    c.make_piece.new.self c.in_ok-piece.ensures.kept c.in_ok-piece.ensures.piece c.in_ok-piece.ensures.order c.args.kind.joins c.requires.joins c.put_piece.new.history c.in_ok-put_piece.ensures.ok
+    c.make_piece.new.procs c.in_ok-piece.ensures.kept c.in_ok-piece.ensures.piece c.in_ok-piece.ensures.order c.args.kind.joins c.requires.joins c.put_piece.new.history c.in_ok-put_piece.ensures.ok
 
 pub returns-clause-order : goal.returns-clause-order
 returns-clause-order c =
@@ -43,7 +42,6 @@ returns-clause-order c =
     let q = actor_place c.in_ok-actor.actor in
     let r = c.in_ok-piece.piece in
     let who : slice_get ps c.args.number ≡ Some q = ap (slice_get ps) (sym c.in_ok-actor.ensures.number) ∙ c.in_ok-actor.ensures.actor in
-    subst (λ (w : Piece). order_of c.make_piece.new.self.entries ≡ ps ++ child_places (slice_index_or ps c.args.number []) w.block 1 w.started) (sym c.as_piece.ensures)
     (c.in_ok-piece.ensures.order ∙ ap (λ (z : Place). ps ++ child_places z r.block 1 r.started) (sym (get_or_from_slice_get ps c.args.number q [] who)))
 
 pub returns-clause-piece : goal.returns-clause-piece
@@ -54,6 +52,6 @@ returns-clause-piece c =
     let q = actor_place c.in_ok-actor.actor in
     let r = c.in_ok-piece.piece in
     let who : slice_get ps c.args.number ≡ Some q = ap (slice_get ps) (sym c.in_ok-actor.ensures.number) ∙ c.in_ok-actor.ensures.actor in
-    subst (λ (z : Place). IsPiece p c.args.slice c.args.kind.spare (played p net.history ps) z c.as_piece.result (played p c.put_piece.new.history (order_of c.make_piece.new.self.entries))) (sym (get_or_from_slice_get ps c.args.number q [] who))
+    subst (λ (z : Place). IsPiece p c.args.slice c.args.kind.spare (played p net.history ps) z r (played p c.put_piece.new.history (order_of c.make_piece.new.procs.entries))) (sym (get_or_from_slice_get ps c.args.number q [] who))
     (piece_made p net.stacks net.history c.requires.sound c.args.number q who c.args.slice c.args.kind.spare r
-    c.make_piece.new.self c.in_ok-piece.ensures.kept c.in_ok-piece.ensures.piece c.in_ok-piece.ensures.order c.args.kind.joins c.requires.joins c.put_piece.new.history c.in_ok-put_piece.ensures.ok c.as_piece.result c.as_piece.ensures)
+    c.make_piece.new.procs c.in_ok-piece.ensures.kept c.in_ok-piece.ensures.piece c.in_ok-piece.ensures.order c.args.kind.joins c.requires.joins c.put_piece.new.history c.in_ok-put_piece.ensures.ok r refl)

@@ -22,4 +22,4 @@ returns-clause-noted c =
     let stands = c.requires.sound.stands in
     on_ok c.note.result c.note.ensures.noted (λ noted q x at is.
     let y = there_alike p s t stands q x is in
-    noted_alike p s t stands q x is y.0 y.2 c.note.new.self.channels c.args.number (noted q y.0 at y.1 (waited_there p s t stands q x is y.0 y.2)))
+    noted_alike p s t stands q x is y.0 y.2 c.note.new.procs.channels c.args.number (noted q y.0 at y.1 (waited_there p s t stands q x is y.0 y.2)))

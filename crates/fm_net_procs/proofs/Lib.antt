@@ -1,0 +1,9 @@
+pub mod Maps
+pub mod Families
+pub mod Family
+pub mod Counting
+pub mod Listed
+pub mod Steps
+pub mod Slices
+pub mod Nobody
+pub mod News

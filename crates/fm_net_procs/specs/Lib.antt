@@ -1,0 +1,5 @@
+pub mod Readings
+pub mod Kept
+pub mod Waiting
+pub mod Pieces
+pub mod Stepping

@@ -1,0 +1,16 @@
+use Rattle.std.proofs.Common.{◌≡◌, map, take}
+use Rattle.std.specs.List.{flat_map}
+use Rattle.std.specs.Map.Iter.{deref_pair}
+use Rattle.fm_base.specs.declared.path.Path.{Path}
+use Rattle.fm_mean.specs.Outcome.{lines_at, fault_at, wait_at}
+use Rattle.fm_plain_net.specs.Readings.{procs_of, Slot, tree_of}
+use Rattle.fm_net_procs.proofs.Maps.{entries_of}
+use Rattle.fm_plain_net.proofs.outcome.gathered.Given as goal
+
+-- what was gathered is what the processes so far give
+abbrev pub invariant-processes : goal.invariant-processes
+invariant-processes l = record {
+  lines : l.all.lines.items ≡ flat_map lines_at (entries_of (tree_of l.program) (map (deref_pair {K = Path} {X = Slot}) (take l.row-index l.row-items)));
+  faults : l.all.faults.items ≡ flat_map fault_at (entries_of (tree_of l.program) (map (deref_pair {K = Path} {X = Slot}) (take l.row-index l.row-items)));
+  waits : l.all.waits.items ≡ flat_map (wait_at l.program (procs_of l.program l.processes)) (entries_of (tree_of l.program) (map (deref_pair {K = Path} {X = Slot}) (take l.row-index l.row-items)));
+}

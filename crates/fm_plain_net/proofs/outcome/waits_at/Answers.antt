@@ -1,0 +1,68 @@
+use Rattle.std.proofs.Common.{ℕ, Some, ap, subst, sym, ◌∙◌}
+use Rattle.fm_mean.specs.declared.outcome.At.TheVariants as at
+use Rattle.fm_mean.specs.Actions.{Meets}
+use Rattle.fm_mean.specs.Outcome.{need_of}
+use Rattle.fm_plain.specs.Events.{event_by}
+use Rattle.fm_plain_net.specs.Held.{HasFamily}
+use Rattle.fm_plain_net.specs.Readings.{order_of, proc_in, procs_of}
+use Rattle.fm_plain_net.proofs.Nexts.{joined_waits}
+use Rattle.fm_plain_net.proofs.Waiting.{begin_free, end_free, fail_free, free_waits, make_free, probe_free, receive_waits, send_free}
+use Rattle.fm_plain_net.proofs.Families.{kids_awaited}
+use Rattle.fm_plain_net.proofs.outcome.waits_at.Goals as goal
+
+pub returns-in_ok-name-in-Receive : goal.returns-in_ok-name-in-Receive
+returns-in_ok-name-in-Receive c = λ p q family does.
+    let x = proc_in p c.args.slot.now in
+    let m = procs_of p c.args.processes.now in
+    let told = does ∙ ap (λ e. Meets (event_by x.phase e)) c.in-Receive.is in
+    ap (λ d. Some (at.Receive d)) c.in_ok-name-in-Receive.ensures ∙ sym (receive_waits p x m q _ _ _ _ _ _ told)
+
+pub returns-in_ok-child-in-Join : goal.returns-in_ok-child-in-Join
+returns-in_ok-child-in-Join c = λ p q family does.
+    let x = proc_in p c.args.slot.now in
+    let m = procs_of p c.args.processes.now in
+    let count = c.family.ensures.count p ∙ kids_awaited x.phase in
+    let kin = subst (λ (n : ℕ). HasFamily (order_of c.args.processes.now) q x.phase n) (sym c.family.ensures.first) family in
+    joined_waits p x m q c.args.event.now _ _ _ c.in-Join.is does (order_of c.args.processes.now) c.family.result.first kin c.family.result.count count c.in_ok-child-in-Join.child c.join_of.result (λ b all. c.in_ok-child-in-Join.ensures p q b all) c.join_of.ensures
+
+pub returns-in-Fail : goal.returns-in-Fail
+returns-in-Fail c = λ p q family does.
+    let x = proc_in p c.args.slot.now in
+    let m = procs_of p c.args.processes.now in
+    let told = does ∙ ap (λ e. Meets (event_by x.phase e)) c.in-Fail.is in
+    sym (free_waits m q (need_of p x) (fail_free p x _ _ told))
+
+pub returns-in-Make : goal.returns-in-Make
+returns-in-Make c = λ p q family does.
+    let x = proc_in p c.args.slot.now in
+    let m = procs_of p c.args.processes.now in
+    let told = does ∙ ap (λ e. Meets (event_by x.phase e)) c.in-Make.is in
+    sym (free_waits m q (need_of p x) (make_free p x _ _ _ _ told))
+
+pub returns-in-Send : goal.returns-in-Send
+returns-in-Send c = λ p q family does.
+    let x = proc_in p c.args.slot.now in
+    let m = procs_of p c.args.processes.now in
+    let told = does ∙ ap (λ e. Meets (event_by x.phase e)) c.in-Send.is in
+    sym (free_waits m q (need_of p x) (send_free p x _ _ _ _ told))
+
+pub returns-in-Probe : goal.returns-in-Probe
+returns-in-Probe c = λ p q family does.
+    let x = proc_in p c.args.slot.now in
+    let m = procs_of p c.args.processes.now in
+    let told = does ∙ ap (λ e. Meets (event_by x.phase e)) c.in-Probe.is in
+    sym (free_waits m q (need_of p x) (probe_free p x _ _ _ told))
+
+pub returns-in-Begin : goal.returns-in-Begin
+returns-in-Begin c = λ p q family does.
+    let x = proc_in p c.args.slot.now in
+    let m = procs_of p c.args.processes.now in
+    let told = does ∙ ap (λ e. Meets (event_by x.phase e)) c.in-Begin.is in
+    sym (free_waits m q (need_of p x) (begin_free p x told))
+
+pub returns-in-End : goal.returns-in-End
+returns-in-End c = λ p q family does.
+    let x = proc_in p c.args.slot.now in
+    let m = procs_of p c.args.processes.now in
+    let told = does ∙ ap (λ e. Meets (event_by x.phase e)) c.in-End.is in
+    sym (free_waits m q (need_of p x) (end_free p x told))

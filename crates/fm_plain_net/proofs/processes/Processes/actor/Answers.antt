@@ -1,5 +1,0 @@
-use Rattle.std.proofs.Common.{Some, ap, sym, ◌∙◌}
-use Rattle.fm_plain_net.proofs.processes.Processes.actor.Goals as goal
-
-pub returns-clause-actor : goal.returns-clause-actor
-returns-clause-actor c = sym c.in-Some.ensures ∙ ap Some (sym c.in_ok-path-in-Some.ensures)
