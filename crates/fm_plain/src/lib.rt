@@ -25,4 +25,5 @@ mod step;
 pub use advancing::{Advanced, Stop, advance};
 pub use event::Event;
 pub use joining::after_at;
+pub use local::{Acted, act};
 pub use looking::{Next, next_of};

@@ -26,7 +26,7 @@ use std::alloc::Global;
 
 /// What a step was.
 #[derive(Drop)]
-pub(crate) enum Acted {
+pub enum Acted {
     /// It touched the process alone, and is made at this cost.
     Done(u32),
     /// There is none.
@@ -110,7 +110,7 @@ fn raise(process: &mut PlainProc)
 }
 
 /// Makes the next step of a process where that is its own, and else leaves the process as it was.
-pub(crate) fn act(
+pub fn act(
     alloc: Global,
     program: &Program,
     process: &mut PlainProc,
