@@ -61,6 +61,7 @@ fn place_of(index: usize) -> Result<u32, NoMemory>
 // A step of the process at this place in path order, if it has one.
 fn step<H: Hosts>(alloc: Global, hosts: &mut H, place: usize) -> Result<bool, NoMemory>
     requires { H.used hosts.old ≤ 1000000000 }
+    ensures setting { OnOk result (H.setting hosts.new ≡ H.setting hosts.old) }
     ensures pays { IfOk result (λ done. done ≡ true → H.used hosts.old < H.used hosts.new) }
     ensures grows { OnOk result (H.count hosts.old ≤ H.count hosts.new) }
     ensures few { OnOk result (H.count hosts.old < 2 ^ 32 → H.count hosts.new < 2 ^ 32) }
@@ -83,6 +84,7 @@ fn step_one<H: Hosts>(
 ) -> Result<Stepped, NoMemory>
     requires used { H.used hosts.old ≤ turns }
     requires turns { turns ≤ 1000000000 }
+    ensures setting { OnOk result (H.setting hosts.new ≡ H.setting hosts.old) }
     ensures nothing { IfOk result (λ r. r ≡ Stepped.Nothing →
         (H.used hosts.new ≡ H.used hosts.old) × (H.count hosts.new ≡ H.count hosts.old)) }
     ensures steps { IfOk result (λ r. r ≡ Stepped.Steps →
@@ -104,6 +106,7 @@ fn step_one<H: Hosts>(
 fn step_all<H: Hosts>(alloc: Global, hosts: &mut H, turns: u64) -> Result<Stepped, NoMemory>
     requires used { H.used hosts.old ≤ turns }
     requires turns { turns ≤ 1000000000 }
+    ensures setting { OnOk result (H.setting hosts.new ≡ H.setting hosts.old) }
     ensures nothing { IfOk result (λ r. r ≡ Stepped.Nothing → H.used hosts.new ≡ H.used hosts.old) }
     ensures steps { IfOk result (λ r. r ≡ Stepped.Steps →
         (H.used hosts.old < H.used hosts.new) × (H.used hosts.new ≤ turns)) }
@@ -133,6 +136,7 @@ fn send_one<H: Hosts>(
     is_first: bool,
 ) -> Result<(), NoMemory>
     requires { seed < 2 ^ 63 }
+    ensures setting { OnOk result (H.setting hosts.new ≡ H.setting hosts.old) }
     ensures used { OnOk result (H.used hosts.new ≡ H.used hosts.old) }
     ensures count { OnOk result (H.count hosts.new ≡ H.count hosts.old) }
 {
@@ -157,6 +161,7 @@ fn send_all<H: Hosts>(
     seed: u64,
 ) -> Result<Vec<Sending>, NoMemory>
     requires { seed < 2 ^ 63 }
+    ensures setting { OnOk result (H.setting hosts.new ≡ H.setting hosts.old) }
     ensures used { OnOk result (H.used hosts.new ≡ H.used hosts.old) }
     ensures count { OnOk result (H.count hosts.new ≡ H.count hosts.old) }
 {
@@ -174,6 +179,7 @@ fn send_all<H: Hosts>(
 
 // The thing at a place of the wire comes so often, and is gone then.
 fn bring<H: Hosts>(hosts: &mut H, place: u32, times: u8) -> Result<(), NoMemory>
+    ensures setting { OnOk result (H.setting hosts.new ≡ H.setting hosts.old) }
     ensures used { OnOk result (H.used hosts.new ≡ H.used hosts.old) }
     ensures count { OnOk result (H.count hosts.new ≡ H.count hosts.old) }
 {
@@ -186,6 +192,7 @@ fn bring<H: Hosts>(hosts: &mut H, place: u32, times: u8) -> Result<(), NoMemory>
 
 // What was sent comes, in reverse order.
 fn bring_all<H: Hosts>(hosts: &mut H, mut wire: Vec<Sending>) -> Result<(), NoMemory>
+    ensures setting { OnOk result (H.setting hosts.new ≡ H.setting hosts.old) }
     ensures used { OnOk result (H.used hosts.new ≡ H.used hosts.old) }
     ensures count { OnOk result (H.count hosts.new ≡ H.count hosts.old) }
 {
@@ -197,6 +204,7 @@ fn bring_all<H: Hosts>(hosts: &mut H, mut wire: Vec<Sending>) -> Result<(), NoMe
 
 // Each reader's end answers, and the answer comes.
 fn answer_all<H: Hosts>(alloc: Global, hosts: &mut H) -> Result<(), NoMemory>
+    ensures setting { OnOk result (H.setting hosts.new ≡ H.setting hosts.old) }
     ensures used { OnOk result (H.used hosts.new ≡ H.used hosts.old) }
     ensures count { OnOk result (H.count hosts.new ≡ H.count hosts.old) }
 {
@@ -229,7 +237,8 @@ pub fn drive<H: Hosts>(
     requires seed { seed < 2 ^ 63 }
     requires used { H.used hosts.old ≤ turns }
     requires turns { turns ≤ 1000000000 }
-    ensures ended { IfOk result (λ r. r ≡ Driven.Ended → (H.has_ended hosts.new ≡ true) × (H.used hosts.new ≤ turns)) }
+    ensures setting { OnOk result (H.setting hosts.new ≡ H.setting hosts.old) }
+    ensures ended { IfOk result (λ r. r ≡ Driven.Ended → H.HasEnded hosts.new × (H.used hosts.new ≤ turns)) }
     ensures spent { IfOk result (λ r. r ≡ Driven.Spent → turns < H.used hosts.new) }
 {
     let mut sendings = Sendings::new(alloc);
@@ -248,7 +257,7 @@ pub fn drive<H: Hosts>(
         let wire = send_all(alloc, hosts, &mut sendings, seed)?;
         bring_all(hosts, wire)?;
         answer_all(alloc, hosts)?;
-        if hosts.has_ended() {
+        if hosts.has_ended()? {
             return Ok(Driven::Ended);
         }
     }

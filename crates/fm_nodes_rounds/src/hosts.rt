@@ -1,6 +1,6 @@
 //! What the rounds drive: processes on hosts, their channels as links, and a wire.
 
-ghost use Rattle.std.specs.Prelude.{◌≡◌, ◌↔◌, ◌<◌, ◌≤◌, ◌^◌, ℕ, Bool, true, false, IfSome, IfOk, OnOk, OnErr, IsSome};
+ghost use Rattle.std.specs.Prelude.{◌≡◌, ◌↔◌, ◌<◌, ◌≤◌, ◌^◌, ℕ, true, false, IfSome, IfOk, OnOk, OnErr, IsSome};
 ghost use Rattle.fm_nodes_rounds.specs.Rounds.{is_step};
 
 use fm_base::{ChanName, NoMemory, Path};
@@ -30,8 +30,14 @@ pub trait Hosts: Drop {
     /// How many processes there are.
     ghost count: { Self → ℕ };
 
-    /// Whether no process has a step any more, whatever arrives.
-    ghost has_ended: { Self → Bool };
+    /// No process has a step any more, whatever arrives.
+    ghost HasEnded: { Self → Type 0 };
+
+    /// What no event changes.
+    ghost Setting: { Type 0 };
+
+    /// What no event changes.
+    ghost setting: { Self → Setting };
 
     /// What the steps so far cost.
     fn used(&self) -> u64
@@ -60,13 +66,15 @@ pub trait Hosts: Drop {
     fn wire(&self) -> usize;
 
     /// Whether no process has a step any more, whatever arrives.
-    fn has_ended(&self) -> bool
-        ensures { result ≡ has_ended self.now };
+    fn has_ended(&self) -> Result<bool, NoMemory>
+        ensures ended { IfOk result (λ over. over ≡ true → HasEnded self.now) }
+        ensures goes_on { IfOk result (λ over. over ≡ false → HasEnded self.now → ⊥) };
 
     /// Does what happens, and tells whether it could; what is put on the wire stands last. A step costs a turn at
     /// least, and nothing else costs any; where it couldn't be done, and after want of memory, nothing has changed.
     fn act(&mut self, event: NodeEvent) -> Result<bool, NoMemory>
         requires { is_step event ≡ true → used self.old ≤ 1000000000 }
+        ensures setting { setting self.new ≡ setting self.old }
         ensures pays { IfOk result (λ done. done ≡ true → is_step event ≡ true → used self.old < used self.new) }
         ensures grows { OnOk result (count self.old ≤ count self.new) }
         ensures few { OnOk result (count self.new < 2 ^ 32) }

@@ -1,7 +1,7 @@
 //! Two processes that are driven by rounds: the first one sends numbers over a channel, down to 0, and the second one adds
 //! them up.
 
-ghost use Rattle.std.specs.Prelude.{◌≡◌, IfOk};
+ghost use Rattle.std.specs.Prelude.{◌≡◌, true, IfOk};
 
 use crate::network::{AllHosts, first_word, name, network, send};
 use fm_base::{ChanName, NoMemory, Path};
@@ -82,7 +82,11 @@ impl Hosts for Pair {
 
     ghost count = { λ pair. 2 };
 
-    ghost has_ended = { λ pair. pair.ended };
+    ghost HasEnded = { λ pair. pair.ended ≡ true };
+
+    ghost Setting = { Unit {0} };
+
+    ghost setting = { λ pair. tt };
 
     fn used(&self) -> u64 {
         self.used
@@ -121,8 +125,8 @@ impl Hosts for Pair {
         self.network.wire.len()
     }
 
-    fn has_ended(&self) -> bool {
-        self.ended
+    fn has_ended(&self) -> Result<bool, NoMemory> {
+        Ok(self.ended)
     }
 
     fn act(&mut self, event: NodeEvent) -> Result<bool, NoMemory> {

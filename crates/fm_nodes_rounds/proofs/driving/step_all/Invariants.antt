@@ -7,6 +7,7 @@ abbrev pub invariant-processes : goal.invariant-processes
 invariant-processes g l =
     let used = g.H.Hosts.used in
     record {
+      setting : g.H.Hosts.setting l.hosts ≡ g.H.Hosts.setting l.fn.hosts;
       within : used l.hosts ≤ l.fn.turns;
       so_far : ((l.stepped ≡ Nothing) × (used l.hosts ≡ used l.fn.hosts)) ⊎ ((l.stepped ≡ Steps) × (used l.fn.hosts < used l.hosts));
     }

@@ -8,6 +8,7 @@ invariant-steps g l =
     let used = g.H.Hosts.used in
     let count = g.H.Hosts.count in
     record {
+      setting : g.H.Hosts.setting l.hosts ≡ g.H.Hosts.setting l.fn.hosts;
       within : used l.hosts ≤ l.fn.turns;
       few : count l.fn.hosts < 2 ^ 32 → count l.hosts < 2 ^ 32;
       so_far : ((l.stepped ≡ Nothing) × (used l.hosts ≡ used l.fn.hosts) × (count l.hosts ≡ count l.fn.hosts)) ⊎ ((l.stepped ≡ Steps) × (used l.fn.hosts < used l.hosts));
