@@ -63,14 +63,18 @@ use Rattle.fm_chan.specs.contracts.message.Message.TheInside as inside_message
 use Rattle.fm_chan.specs.contracts.port.Port as port
 use Rattle.fm_chan.specs.contracts.port.Port.TheInside as inside_port
 use Rattle.fm_code.proofs.body.Body.TheSendSync as body
+use Rattle.fm_code.proofs.rare.Rare.TheSendSync as rare
 use Rattle.fm_machine_calls.proofs.looking.Look.TheSendSync as look
+use Rattle.fm_machine_calls.specs.contracts.looking.Look as looked
 use Rattle.fm_machine_instr.proofs.work.Work.TheSendSync as work
+use Rattle.fm_machine_instr.specs.contracts.work.Work as worked
 use Rattle.fm_proc_slots.specs.contracts.slots.Slots as slots
 use Rattle.fm_proc_events.proofs.process.Phase.TheSendSync as phase
 use Rattle.fm_proc_events.specs.contracts.process.Process as process
-use Rattle.fm_net_procs.specs.contracts.processes.Processes as code_procs
 use Rattle.fm_net_procs.specs.contracts.entries.Entries as entries
-use Rattle.fm_net_procs.specs.contracts.entries.Entry as coded_entry
+use Rattle.fm_net_procs.specs.contracts.entries.Entry as kept
+use Rattle.fm_net_procs.specs.contracts.processes.Processes as processes
+use Rattle.fm_procs.specs.contracts.process.CodeProcess as code_process
 use Rattle.fm_run.proofs.history.History.TheSendSync as history
 use Rattle.fm_outcome_code.specs.contracts.compiled.Compiled as compiled
 use Rattle.fm_table.proofs.outside.Taken.TheSendSync as taken
@@ -299,16 +303,20 @@ slots_send : IsSend slots.the_row
 slots_send = search (sendable, crosses, port_send) depth 20
 
 process_send : IsSend process.the_row
-process_send = declared_send process.the_type (search (may_send, phase.the_send, body.the_send, slots_send) depth 12)
+process_send = declared_send process.the_type (search (may_send, phase.the_send, body.the_send, slots_send, rare.the_send) depth 12)
 
-coded_entry_send : IsSend coded_entry.the_row
-coded_entry_send = declared_send coded_entry.the_type (search (may_send, look.the_send, process_send) depth 12)
+code_process_send : IsSend code_process.the_row
+code_process_send = declared_send code_process.the_type (search (may_send, process_send) depth 12)
 
-entries_send : IsSend entries.the_row
-entries_send = search (sendable, crosses, path_send, path_sync, coded_entry_send) depth 20
+-- the types of the table of processes are generic: each has its lemma at the process of code, what it does next and its memory
+kept_send : IsSend (kept.the_row code_process.the_row looked.the_row)
+kept_send = declared_send (kept.the_type code_process.the_row looked.the_row) (search (may_send, look.the_send, code_process_send) depth 12)
 
-code_procs_send : IsSend code_procs.the_row
-code_procs_send = declared_send code_procs.the_type (search (may_send, entries_send, channels_send, work.the_send) depth 12)
+entries_send : IsSend (entries.the_row code_process.the_row looked.the_row)
+entries_send = search (sendable, crosses, path_send, path_sync, kept_send) depth 20
+
+code_procs_send : IsSend (processes.the_row code_process.the_row looked.the_row worked.the_row)
+code_procs_send = declared_send (processes.the_type code_process.the_row looked.the_row worked.the_row) (search (may_send, entries_send, channels_send, work.the_send) depth 12)
 
 compiled_send : IsSend compiled.the_row
 compiled_send = declared_send compiled.the_type (search (may_send, code_procs_send, history.the_send) depth 12)
