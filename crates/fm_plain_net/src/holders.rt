@@ -202,7 +202,8 @@ fn holder_path(alloc: Global, path: &Path, process: &PlainProc) -> Result<Path, 
     }
 }
 
-fn put_process(
+/// Puts the holder of each outport that stands with the process at this path, unless one is known.
+pub fn put_process(
     alloc: Global,
     program: &Program,
     all: &mut Map<Outport, Path>,

@@ -19,6 +19,9 @@ mod ports;
 mod processes;
 mod shown;
 
+pub use holders::put_process;
 pub use net::TreeNet;
+pub use outcome::{line_at, push_fault};
 pub use ports::Ports;
 pub use processes::{Processes, Slot, TreeProc, Trees};
+pub use shown::shown_all;

@@ -31,7 +31,8 @@ use fm_rules::Program;
 use fm_run::{Gathered, join_of, push_lines};
 use std::alloc::Global;
 
-fn push_fault(
+/// Adds the fault of the process at this path, if it has one.
+pub fn push_fault(
     alloc: Global,
     all: &mut Vec<FaultAt>,
     path: &Path,
@@ -137,8 +138,8 @@ fn push_wait(
     }
 }
 
-// The line at which a process stands.
-fn line_at(program: &Program, process: &PlainProc) -> Line
+/// The line at which a process stands.
+pub fn line_at(program: &Program, process: &PlainProc) -> Line
     ensures { result.0 ≡ line_at program.now (proc_of program.now process.now) }
 {
     match top_frame(process) {

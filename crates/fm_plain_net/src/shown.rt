@@ -145,7 +145,7 @@ fn shown_of(
 }
 
 /// What the variables of main hold, in byte order of their names.
-pub(crate) fn shown_all(
+pub fn shown_all(
     alloc: Global,
     program: &Program,
     main: Option<&PlainProc>,
