@@ -5,6 +5,7 @@ pub mod Fewness
 pub mod Paths
 pub mod Outs
 pub mod Standings
+pub mod Bodies
 pub mod Others
 pub mod Tables
 pub mod Runs

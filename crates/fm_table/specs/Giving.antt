@@ -1,13 +1,19 @@
 -- What a table does with a piece that is made outside: taking it, what comes back, and what is called back.
 -- Source: this profile.
-use Rattle.std.specs.Prelude.{◌≡◌, ◌⊎◌, ℕ, ◌+◌, ◌<◌, ◌≤◌, true, cond, Option, Some, List, [], ◌∷◌, ◌++◌}
+use Rattle.std.specs.Prelude.{◌≡◌, ◌⊎◌, ℕ, ◌+◌, ◌<◌, ◌≤◌, true, cond, Option, Some, List, [], ◌∷◌, ◌++◌, slice_get}
+use Rattle.std.specs.FinMap.{get}
 use Rattle.std.specs.List.Sorted.{IsNonDecreasing, IsPermutation}
 use Rattle.fm_base.specs.declared.schedule.Turn.{Turn}
 use Rattle.fm_code.specs.declared.body.Body.{Body}
 use Rattle.fm_machine.specs.declared.done.Done.{Done}
 use Rattle.fm_run.specs.Orders.{others_in}
 use Rattle.fm_run.specs.Pieces.{IsFull}
-use Rattle.fm_run.specs.Runs.{place_of}
+use Rattle.fm_run.specs.Runs.{Stand, place_of}
+use Rattle.fm_mean.specs.Process.{Proc}
+use Rattle.fm_net.specs.Machine.{Place}
+use Rattle.fm_outcome_code.specs.Corresponds.{BodyStands}
+use Rattle.fm_proc_language.specs.Slots.{Slots}
+use Rattle.fm_rules.specs.declared.program.Program.{Program}
 use Rattle.fm_workers.specs.declared.shared.Given.{Given}
 use Rattle.fm_workers.specs.declared.shared.Given.TheVariants.{Played, Stranger, Over}
 use Rattle.fm_table.specs.Planned.{first_of, mapped}
@@ -21,10 +27,16 @@ taken number start a = record { program = a.program; setup = a.setup; history = 
 abbrev pub taken_for : (worker : ℕ) → Told → Option ℕ
 taken_for worker a = first_of (mapped a.program a.setup (stand_of a) worker (ready_of a)) (ready_of a)
 
--- that one is out
-pub record TakesTo (worker number : ℕ) (start : Body) (a b : Told) : Type 0 where
+-- a body of the program's code that stands for the process of this number, whose port words name some slots
+abbrev pub IsBodyOf : Program → Stand → (number : ℕ) → Body → Type 0
+IsBodyOf program a number start = (q : Place) (x : Proc) → slice_get a.places number ≡ Some q → get a.state.procs q ≡ Some x → (slots : Slots) × BodyStands program slots x start
+
+-- that one is out, with its path and with a body that stands for it
+pub record TakesTo (worker number : ℕ) (path : Place) (start : Body) (a b : Told) : Type 0 where
   pub going : cost_of a ≤ a.setup.turns
   pub who : taken_for worker a ≡ Some number
+  pub path_is : slice_get (stand_of a).places number ≡ Some path
+  pub own : IsBodyOf a.program (stand_of a) number start
   pub told : b ≡ taken number start a
 
 -- a process that was out is ready again, behind the others

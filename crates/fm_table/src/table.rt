@@ -1,11 +1,11 @@
 //! The table.
 
-ghost use Rattle.std.specs.Prelude.{◌≡◌, ◌≤◌, ◌<◌, ℕ, nat_lt, true, false, Ok, Some, None, IfErr, IfOk, IfSome, OnErr};
+ghost use Rattle.std.specs.Prelude.{◌≡◌, ◌≤◌, ◌<◌, ℕ, nat_lt, true, false, Ok, Some, None, slice_get, IfErr, IfOk, IfSome, OnErr};
 ghost use Rattle.fm_sched.specs.Schedule.{IsFinal};
 ghost use Rattle.fm_mean.specs.Outcome.{outcome_of};
 ghost use Rattle.fm_mean.specs.Steps.{step};
-ghost use Rattle.fm_run.specs.Orders.{Among, can_at, places_of};
-ghost use Rattle.fm_table.specs.Giving.{CallsBack, GivenTo, TakesTo, taken, taken_for};
+ghost use Rattle.fm_run.specs.Orders.{Among, can_at, place_in, places_of};
+ghost use Rattle.fm_table.specs.Giving.{CallsBack, GivenTo, IsBodyOf, TakesTo, taken, taken_for};
 ghost use Rattle.fm_table.specs.Inside.{EntersTo, IsAsked};
 ghost use Rattle.fm_table.specs.Told.{IsIdle, IsKept, cost_of, first_told, phase_by, phase_of, ready_of, stand_of};
 ghost use Rattle.fm_table.specs.Turning.{PlaysTo, TurnsFor, TurnsTo};
@@ -222,7 +222,7 @@ impl Table {
     /// # Errors
     /// `NoMemory` is want of memory, and changes nothing.
     pub fn take(&mut self, alloc: Global, worker: u32) -> Result<Option<Piece>, NoMemory>
-        ensures taken { IfOk result (λ r. IfSome r (λ p. TakesTo worker p.process p.start.value self.old self.new)) }
+        ensures taken { IfOk result (λ r. IfSome r (λ p. TakesTo worker p.process (place_in p.path) p.start.value self.old self.new)) }
         ensures idle { IfOk result (λ r. r ≡ None → IsIdle self.old × (self.new ≡ self.old)) }
         ensures stays { OnErr result (self.new ≡ self.old) }
     {
@@ -242,6 +242,8 @@ impl Table {
     fn hand_out(&mut self, alloc: Global, number: u32) -> Result<Piece, NoMemory>
         requires { Among number (ready_of self.old) }
         ensures process { IfOk result (λ p. p.process ≡ number) }
+        ensures path { IfOk result (λ p. slice_get (stand_of self.old).places number ≡ Some (place_in p.path)) }
+        ensures own { IfOk result (λ p. IsBodyOf self.old.program (stand_of self.old) number p.start.value) }
         ensures taken { IfOk result (λ p. self.new ≡ taken number p.start.value self.old) }
         ensures stays { OnErr result (self.new ≡ self.old) }
     {

@@ -1,10 +1,13 @@
-use Rattle.std.proofs.Common.{ℕ, List, [], ◌∷◌, sym, subst}
+use Rattle.std.proofs.Common.{ℕ, List, [], ◌∷◌, slice_get, ap, sym, subst, ◌∙◌}
 use Rattle.std.proofs.lemmas.List.{map-append}
 use Rattle.fm_rules.specs.declared.program.Program.{Program}
 use Rattle.fm_run.specs.Orders.{Among}
+use Rattle.fm_table.specs.Giving.{IsBodyOf}
 use Rattle.fm_table.specs.Inside.{IsStanding, IsTable, out_of, outs_of}
-use Rattle.fm_table.specs.Told.{Out, Told, ready_in, ready_of}
+use Rattle.fm_table.specs.Told.{Out, Told, ready_in, ready_of, stand_of}
 use Rattle.fm_table.specs.declared.outside.Taken.{Taken}
+use Rattle.fm_run.specs.Orders.{place_in}
+use Rattle.fm_table.proofs.Bodies.{body_kept, path_kept}
 use Rattle.fm_table.proofs.Tables.{table_same}
 use Rattle.fm_table.proofs.Turns.{table_taken}
 use Rattle.fm_table.proofs.table.Table.hand_out.Goals as goal
@@ -38,3 +41,19 @@ invariant_of-self-2 c =
     let one : Taken = record { number = n; start = c.in_ok-start.field-0.kept } in
     subst (λ (ts : List Taken). IsTable P t.setup new (outs_of ts) t.shares) (sym c.in_ok-push.ensures.items)
     (subst (λ (os : List Out). IsTable P t.setup new os t.shares) (sym (map-append out_of t.out.items (one ∷ []))) (table_taken P t.setup new (outs_of t.out.items) t.shares n c.in_ok-start.field-0.kept.value table here))
+
+pub returns-clause-path : goal.returns-clause-path
+returns-clause-path c =
+    let t = c.self.inside in
+    let new = c.revive.new.self in
+    let live = (subst (λ (p : Program). IsStanding p new) c.deref.ensures c.in_ok-revive.ensures.standing).live c.in_ok-revive.ensures.live in
+    ap (λ (a : Told). slice_get (stand_of a).places c.args.number) (sym c.self.view_is) ∙ path_kept t.program.value t.standing new c.in_ok-revive.ensures.same live c.args.number (place_in c.in_ok-start.field-0.path) c.in_ok-start.ensures.path
+
+pub returns-clause-own : goal.returns-clause-own
+returns-clause-own c =
+    let t = c.self.inside in
+    let new = c.revive.new.self in
+    let b = c.in_ok-start.field-0.start.value in
+    let live = (subst (λ (p : Program). IsStanding p new) c.deref.ensures c.in_ok-revive.ensures.standing).live c.in_ok-revive.ensures.live in
+    subst (λ (a : Told). IsBodyOf a.program (stand_of a) c.args.number b) c.self.view_is
+    (body_kept t.program.value t.standing new c.in_ok-revive.ensures.same live c.args.number b c.in_ok-start.ensures.body)

@@ -1,0 +1,47 @@
+-- The body that a process is handed out with stands for it.
+use Rattle.std.proofs.Common.{◌≡◌, ℕ, Option, Some, None, slice_get, refl, sym, ap, ◌∙◌, subst}
+use Rattle.std.specs.FinMap.{get}
+use Rattle.fm_code.specs.declared.body.Body.{Body}
+use Rattle.fm_net.specs.Correspondence.{BothOrNeither}
+use Rattle.fm_net.specs.Machine.{Place}
+use Rattle.fm_rules.specs.declared.program.Program.{Program}
+use Rattle.fm_mean.specs.Process.{Proc}
+use Rattle.fm_proc_language.specs.Processes.{CodeProc}
+use Rattle.fm_proc_language.specs.Slots.{Slots}
+use Rattle.fm_procs.specs.Readings.{order_of, procs_of}
+use Rattle.fm_outcome_code.specs.Corresponds.{BodyAlike, BodyStands, Corresponds}
+use Rattle.fm_outcome_code.specs.declared.compiled.Compiled.{Compiled}
+use Rattle.fm_run.specs.Runs.{Stand}
+use Rattle.fm_run.specs.declared.player.Player.{Player}
+use Rattle.fm_table.specs.Giving.{IsBodyOf}
+use Rattle.fm_table.specs.Inside.{IsAsItWas, IsLive, stand_in, stand_kept}
+use Rattle.fm_table.specs.declared.standing.Standing.{Standing}
+use Rattle.fm_table.proofs.Standings.{stand_same}
+
+the_body : (a b : Body) → Some a ≡ Some b → a ≡ b
+the_body a b e = cc
+
+-- in memory
+stands_for : (program : Program) (player : Player Compiled) (live : IsLive program player) (n : ℕ) (b : Body)
+    → ((q : Place) (y : CodeProc) → slice_get (order_of player.net.stacks.entries) n ≡ Some q → get (procs_of player.net.stacks.entries) q ≡ Some y → Some b ≡ y.body) → IsBodyOf program (stand_in program player) n b
+stands_for program player live n b of q x at is =
+    go (get (procs_of player.net.stacks.entries) q) refl (subst (BothOrNeither (Corresponds program) (get (procs_of player.net.stacks.entries) q)) is (live.sound.stands.procs q))
+  where
+    by_body : (y : CodeProc) → (o : Option Body) → o ≡ Some b → BodyAlike program y.slots x o → (slots : Slots) × BodyStands program slots x b
+    by_body y None e alike = absurd (cc e)
+    by_body y (Some c) e alike = (y.slots, subst (BodyStands program y.slots x) (the_body c b e) alike)
+
+    go : (o : Option CodeProc) → get (procs_of player.net.stacks.entries) q ≡ o → BothOrNeither (Corresponds program) o (Some x) → (slots : Slots) × BodyStands program slots x b
+    go None e both = absurd both
+    go (Some y) e both = by_body y y.body (sym (of q y at e)) both.body
+
+-- where the schedule leads that was kept
+module _ (program : Program) (old new : Standing) (same : IsAsItWas old new) (live : IsLive program new.player) (n : ℕ) where
+  there : stand_in program new.player ≡ stand_kept program old
+  there = live.stand_is ∙ stand_same program old new same
+
+  pub body_kept : (b : Body) → ((q : Place) (y : CodeProc) → slice_get (order_of new.player.net.stacks.entries) n ≡ Some q → get (procs_of new.player.net.stacks.entries) q ≡ Some y → Some b ≡ y.body) → IsBodyOf program (stand_kept program old) n b
+  body_kept b of = subst (λ (a : Stand). IsBodyOf program a n b) there (stands_for program new.player live n b of)
+
+  pub path_kept : (q : Place) → slice_get (order_of new.player.net.stacks.entries) n ≡ Some q → slice_get (stand_kept program old).places n ≡ Some q
+  path_kept q at = ap (λ (a : Stand). slice_get a.places n) (sym there) ∙ at
