@@ -1,5 +1,5 @@
--- The body that a process is handed out with stands for it.
-use Rattle.std.proofs.Common.{◌≡◌, ℕ, Option, Some, None, slice_get, refl, sym, ap, ◌∙◌, subst}
+-- The body that a process is handed out with stands for it, also behind entries of others.
+use Rattle.std.proofs.Common.{◌≡◌, ℕ, ◌==◌, Bool, true, false, cond, not, Option, Some, None, List, [], ◌∷◌, ◌++◌, slice_get, refl, sym, ap, ◌∙◌, subst}
 use Rattle.std.specs.FinMap.{get}
 use Rattle.fm_code.specs.declared.body.Body.{Body}
 use Rattle.fm_net.specs.Correspondence.{BothOrNeither}
@@ -13,8 +13,8 @@ use Rattle.fm_outcome_code.specs.Corresponds.{BodyAlike, BodyStands, Corresponds
 use Rattle.fm_outcome_code.specs.declared.compiled.Compiled.{Compiled}
 use Rattle.fm_run.specs.Runs.{Stand}
 use Rattle.fm_run.specs.declared.player.Player.{Player}
-use Rattle.fm_table.specs.Giving.{IsBodyOf}
 use Rattle.fm_table.specs.Inside.{IsAsItWas, IsLive, stand_in, stand_kept}
+use Rattle.fm_table.specs.Told.{HaveStarts, IsBodyOf, Out, without}
 use Rattle.fm_table.specs.declared.standing.Standing.{Standing}
 use Rattle.fm_table.proofs.Standings.{stand_same}
 
@@ -45,3 +45,18 @@ module _ (program : Program) (old new : Standing) (same : IsAsItWas old new) (li
 
   pub path_kept : (q : Place) → slice_get (order_of new.player.net.stacks.entries) n ≡ Some q → slice_get (stand_kept program old).places n ≡ Some q
   path_kept q at = ap (λ (a : Stand). slice_get a.places n) (sym there) ∙ at
+
+-- ---- all that are out
+
+module _ (program : Program) (a : Stand) where
+  pub one_more : (out : List Out) (o : Out) → HaveStarts program a out → IsBodyOf program a o.number o.start → HaveStarts program a (out ++ o ∷ [])
+  one_more [] o have own = (own, tt)
+  one_more (x ∷ out) o have own = (have.0, one_more out o have.1 own)
+
+  pub one_less : (n : ℕ) (out : List Out) → HaveStarts program a out → HaveStarts program a (without n out)
+  one_less n [] have = tt
+  one_less n (x ∷ out) have = go (not (x.number == n)) (one_less n out have.1)
+    where
+      go : (b : Bool) → HaveStarts program a (without n out) → HaveStarts program a (cond b (x ∷ without n out) (without n out))
+      go true rest = (have.0, rest)
+      go false rest = rest

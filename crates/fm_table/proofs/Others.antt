@@ -1,5 +1,5 @@
 -- Who is out can step still behind the steps of another.
-use Rattle.std.proofs.Common.{◌≡◌, ◌≢◌, ℕ, ◌≤◌, true, List, [], not, ◌==◌, refl, sym, ap, ◌∙◌, subst}
+use Rattle.std.proofs.Common.{◌≡◌, ◌≢◌, inl, inr, ℕ, ◌≤◌, Bool, true, false, cond, List, [], ◌∷◌, not, ◌==◌, eq-eqb, refl, sym, ap, ◌∙◌, subst}
 use Rattle.std.specs.Prelude.{is_some, slice_get, Option, Some, None}
 use Rattle.std.proofs.lemmas.Option.{get_or_from_slice_get}
 use Rattle.fm_base.specs.declared.schedule.Setup.{Setup}
@@ -22,10 +22,11 @@ use Rattle.fm_run.proofs.Becomes.{first_holds}
 use Rattle.fm_run.proofs.Numbers.{filter_among, in_filter, not_own, once_filter}
 use Rattle.fm_run.proofs.Others.{able_along}
 use Rattle.fm_table.specs.Inside.{HasEntered, HasShares, IsStanding, IsTable, stand_kept, told_in}
-use Rattle.fm_table.specs.Told.{Out, numbers_out, with_entry, without}
+use Rattle.fm_table.specs.Told.{HaveStarts, Out, cost_by, numbers_out, with_entry, without}
 use Rattle.fm_table.specs.declared.shares.Shares.{Shares}
 use Rattle.fm_table.specs.declared.standing.Standing.{Standing}
 use Rattle.fm_table.proofs.Outs.{numbers_without}
+use Rattle.fm_table.proofs.Planned.{body_stays}
 
 module _ (program : Program) (old new : Standing) (s : IsStanding program old) (t : Turn) (h : HasEntered program t old new) where
   abbrev a : Stand
@@ -72,6 +73,17 @@ module _ (program : Program) (old new : Standing) (s : IsStanding program old) (
       let left : Among n (others_in t.number (numbers_out out)) = subst (λ (ns : List ℕ). Among n ns) (numbers_without t.number out) among in
       (in_filter (λ m. not (m == t.number)) (numbers_out out) n left, λ e. cc (sym (filter_among (λ m. not (m == t.number)) (numbers_out out) n left) ∙ ap (λ (m : ℕ). not (m == t.number)) e ∙ not_own t.number))
 
+  -- the others' bodies stand for them still
+  starts_stay : (out : List Out) → ((n : ℕ) → Among n (numbers_out out) → Among n old.player.able.numbers.items) → HaveStarts program a out → HaveStarts program (stand_kept program new) (without t.number out)
+  starts_stay [] queued have = tt
+  starts_stay (x ∷ out) queued have = go (x.number == t.number) refl (starts_stay out (λ n among. queued n (inr among)) have.1)
+    where
+      go : (b : Bool) → (x.number == t.number) ≡ b → HaveStarts program (stand_kept program new) (without t.number out) → HaveStarts program (stand_kept program new) (cond (not b) (x ∷ without t.number out) (without t.number out))
+      go true same rest = rest
+      go false differs rest =
+          let apart : x.number ≢ t.number = λ e. cc (sym (eq-eqb x.number t.number e) ∙ differs) in
+          (body_stays program a (stand_kept program new) t old.player.net.history new.player.net.history (cost_by program old.player.net.history) s.played s.able h.entry h.known x.number x.start (queued x.number (inl refl)) apart have.0, rest)
+
   -- the table with the entry
   pub table_entered : (setup : Setup) (out : List Out) (shares last : Shares) → IsTable program setup old out shares → old.used ≤ setup.turns → IsStanding program new → HasShares program setup (stand_kept program new) last → IsTable program setup new (without t.number out) last
   table_entered setup out shares last table going later shared = record {
@@ -79,6 +91,7 @@ module _ (program : Program) (old new : Standing) (s : IsStanding program old) (
     front = h.front setup.turns going;
     out_able = λ n among. let k = others_out out n among in others_queued n (table.out_able n k.0) k.1 later;
     out_once = subst EachOnce (sym (numbers_without t.number out)) (once_filter (λ m. not (m == t.number)) (numbers_out out) table.out_once);
+    out_start = starts_stay out table.out_able table.out_start;
     shared = shared;
   }
 

@@ -11,6 +11,7 @@ use Rattle.fm_base.specs.declared.schedule.Plan.{Plan}
 use Rattle.fm_base.specs.declared.schedule.Plan.TheVariants.{Cyclic, Block}
 use Rattle.fm_base.specs.declared.schedule.Setup.{Setup}
 use Rattle.fm_base.specs.declared.schedule.Turn.{Turn}
+use Rattle.fm_code.specs.declared.body.Body.{Body}
 use Rattle.fm_map.specs.Placement.{worker_of}
 use Rattle.fm_sched.specs.Schedule.{IsLegal}
 use Rattle.fm_net.specs.Machine.{Place, State}
@@ -27,6 +28,8 @@ use Rattle.fm_mean.specs.Steps.{ask_for, first_proc, language, step}
 use Rattle.fm_mean.proofs.Lawful.{lawful}
 use Rattle.fm_mean.proofs.Laws.{owned_along}
 use Rattle.fm_mean.proofs.Machines.{machines_along}
+use Rattle.fm_outcome_code.specs.Corresponds.{BodyStands}
+use Rattle.fm_proc_language.specs.Slots.{Slots}
 use Rattle.fm_run.specs.Orders.{Among, EachOnce, can_at, can_in, is_new, others_in, ready_after}
 use Rattle.fm_run.specs.Runs.{AreAble, IsEntry, IsPlayedBy, Stand, place_of, steps_of}
 use Rattle.std.specs.List.{range_with_len}
@@ -35,6 +38,7 @@ use Rattle.fm_run.proofs.Becomes.{first_holds}
 use Rattle.fm_run.proofs.Numbers.{filter_among, in_filter, not_own}
 use Rattle.fm_run.proofs.Others.{StaysOrEnded, able_along, others_along}
 use Rattle.fm_table.specs.Planned.{first_of, mapped, node_at, node_in, process_in, worker_at}
+use Rattle.fm_table.specs.Told.{IsBodyOf}
 
 -- ---- workers of nodes
 
@@ -217,6 +221,27 @@ module _ (program : Program) (a b : Stand) (t : Turn) (hs later : List Turn) (pa
       go : (k : There program a hs paid kept able n) → slice_get b.places n ≡ Some k.place → StaysOrEnded k.process (get b.state.procs k.place) → node_at b n ≡ node_at a n
       go k at (inl same) = ap (λ (o : Option Place). node_in (process_in b.state o)) at ∙ ap node_in same ∙ sym (node_is program a hs paid kept able n k)
       go k at (inr ended) = absurd (cc (sym k.can ∙ ended_rests program a.state k.place k.process k.is ended.0))
+
+  -- nor does what their bodies stand for
+  pub body_stays : (n : ℕ) (start : Body) → Among n a.able → n ≢ t.number → IsBodyOf program a n start → IsBodyOf program b n start
+  body_stays n start h differs own q x at is =
+      let k = there program a hs paid kept able n h in
+      let later_at : slice_get b.places n ≡ Some k.place = ap (λ (ps : List Place). slice_get ps n) entry.places_are ∙ longer_at a.places more n k.place k.at in
+      let same : q ≡ k.place = some_place q k.place (sym at ∙ later_at) in
+      go k (subst (λ (r : Place). get b.state.procs r ≡ Some x) same is) (subst (λ (s : State Proc). StaysOrEnded k.process (get s.procs k.place)) (sym entry.state_is) (others_along program own_place t.steps a.state owned entry.can k.place (apart n k.place k.at differs) k.process k.is))
+    where
+      abbrev own_place : Place
+      own_place = place_of a.places t
+
+      some_place : (r p : Place) → Some r ≡ Some p → r ≡ p
+      some_place r p e = cc
+
+      some_process : (y z : Proc) → Some y ≡ Some z → y ≡ z
+      some_process y z e = cc
+
+      go : (k : There program a hs paid kept able n) → get b.state.procs k.place ≡ Some x → StaysOrEnded k.process (get b.state.procs k.place) → (slots : Slots) × BodyStands program slots x start
+      go k here (inl same) = subst (λ (y : Proc). (slots : Slots) × BodyStands program slots y start) (some_process k.process x (sym same ∙ here)) (own k.place k.process k.at k.is)
+      go k here (inr ended) = absurd (cc (sym k.can ∙ ended_rests program a.state k.place k.process k.is ended.0))
 
   pub other_can : (n : ℕ) → Among n a.able → n ≢ t.number → can_at program b.state b.places n ≡ true
   other_can n h differs =

@@ -19,7 +19,7 @@ use Rattle.fm_run.specs.Runs.{AreAble, Follows, IsFrontWithin, IsNext, Stand, af
 use Rattle.fm_run.proofs.Following.{entries_more, follows_more}
 use Rattle.fm_run.proofs.Playing.{front_none, nobody_can, started_all}
 use Rattle.fm_table.specs.Inside.{EntersTo, HasShares, IsAsItWas, IsLive, IsStanding, IsTable, outs_of, stand_in, stand_kept, told_in}
-use Rattle.fm_table.specs.Told.{IsIdle, IsKept, Out, Told, cost_of, has_some, led_by, numbers_out, phase_by, phase_of, ready_in, ready_of, stand_of, told_at, with_entry}
+use Rattle.fm_table.specs.Told.{HaveStarts, IsIdle, IsKept, Out, Told, cost_of, has_some, led_by, numbers_out, phase_by, phase_of, ready_in, ready_of, stand_of, told_at, with_entry}
 use Rattle.fm_table.specs.Turning.{CantStepBehind, MakesSteps, PlaysTo, TurnsTo}
 use Rattle.fm_table.specs.declared.making.Way.{Way}
 use Rattle.fm_table.specs.declared.making.Way.TheVariants as way
@@ -111,7 +111,7 @@ idle_none a b (inr empty) free is none = (within_turns a.setup.turns (cost_of a)
 -- ---- what a table keeps, as it is told
 
 pub table_kept : (program : Program) (setup : Setup) (s : Standing) (out : List Out) (shares : Shares) → IsTable program setup s out shares → IsKept (told_in program setup s out)
-table_kept program setup s out shares t = record { played = t.standing.played; able = t.standing.able; front = t.front; out_able = t.out_able; out_once = t.out_once }
+table_kept program setup s out shares t = record { played = t.standing.played; able = t.standing.able; front = t.front; out_able = t.out_able; out_once = t.out_once; out_start = t.out_start }
 
 pub told_same : (program : Program) (setup : Setup) (old new : Standing) (out : List Out) → IsAsItWas old new → told_in program setup new out ≡ told_in program setup old out
 told_same program setup old new out same = ap₂ (λ (ts : List Turn) (ns : List ℕ). record { program = program; setup = setup; history = ts; queue = ns; out = out }) same.history same.queue
@@ -122,6 +122,7 @@ table_same program setup old new out shares later same standing shared t = recor
   front = subst (λ (a : Told). IsFrontOf a) (sym (told_same program setup old new out same)) t.front;
   out_able = λ n h. subst (λ (ns : List ℕ). Among n ns) (sym same.queue) (t.out_able n h);
   out_once = t.out_once;
+  out_start = subst (λ (b : Stand). HaveStarts program b out) (sym (stand_same program old new same)) t.out_start;
   shared = subst (λ (b : Stand). HasShares program setup b later) (sym (stand_same program old new same)) shared;
 }
   where
@@ -214,6 +215,7 @@ first_table program setup s standing none out free shares shared = record {
   front = front_none program setup.turns s.player.net.history (stand_kept program s).places none;
   out_able = λ n h. absurd (subst (λ (os : List Taken). Among n (numbers_out (outs_of os))) free h);
   out_once = subst (λ (os : List Taken). EachOnce (numbers_out (outs_of os))) (sym free) tt;
+  out_start = subst (λ (os : List Taken). HaveStarts program (stand_kept program s) (outs_of os)) (sym free) tt;
   shared = shared;
 }
 

@@ -16,12 +16,13 @@ use Rattle.fm_run.proofs.Numbers.{among_either, among_filter, among_get, among_i
 use Rattle.fm_outcome_code.specs.declared.compiled.Compiled.{Compiled}
 use Rattle.fm_table.specs.Giving.{GivesTo, taken, taken_for}
 use Rattle.fm_table.specs.Inside.{EntersTo, HasEntered, HasMade, IsAsItWas, IsGivenSo, IsStanding, IsTable, MakesSo, stand_kept, told_in}
-use Rattle.fm_table.specs.Told.{IsKept, Out, Told, cost_of, is_out, led_by, numbers_out, ready_in, ready_of, stand_of, start_in, with_entry, without}
+use Rattle.fm_table.specs.Told.{HaveStarts, IsBodyOf, IsKept, Out, Told, cost_of, is_out, led_by, numbers_out, ready_in, ready_of, stand_of, stand_with, start_in, with_entry, without}
 use Rattle.fm_table.specs.Turning.{TurnsFor, TurnsTo}
 use Rattle.fm_table.specs.declared.making.Way.{Way}
 use Rattle.fm_table.specs.declared.making.Way.TheVariants as way
 use Rattle.fm_table.specs.declared.shares.Shares.{Shares}
 use Rattle.fm_table.specs.declared.standing.Standing.{Standing}
+use Rattle.fm_table.proofs.Bodies.{one_less, one_more}
 use Rattle.fm_table.proofs.Others.{told_entered}
 use Rattle.fm_table.proofs.Outs.{numbers_without, ready_free, ready_queued, start_out}
 use Rattle.fm_table.proofs.Sharing.{none_known}
@@ -109,12 +110,13 @@ some_of n e = some_steps n (isnt (n == 0) e)
 -- ---- who is taken, and who is put back
 
 -- one that is ready is out
-pub table_taken : (program : Program) (setup : Setup) (s : Standing) (out : List Out) (shares : Shares) (n : ℕ) (b : Body) → IsTable program setup s out shares → Among n (ready_in out s.player.able.numbers.items) → IsTable program setup s (out ++ record { number = n; start = b } ∷ []) shares
-table_taken program setup s out shares n b t ready = record {
+pub table_taken : (program : Program) (setup : Setup) (s : Standing) (out : List Out) (shares : Shares) (n : ℕ) (b : Body) → IsTable program setup s out shares → Among n (ready_in out s.player.able.numbers.items) → IsBodyOf program (stand_kept program s) n b → IsTable program setup s (out ++ record { number = n; start = b } ∷ []) shares
+table_taken program setup s out shares n b t ready own = record {
   standing = t.standing;
   front = t.front;
   out_able = λ m h. able (among_either m (numbers_out out) (n ∷ []) (subst (λ (ns : List ℕ). Among m ns) numbers h));
   out_once = subst EachOnce (sym numbers) (once_append (numbers_out out) (n ∷ []) t.out_once ((λ h. h), tt) apart);
+  out_start = one_more program (stand_kept program s) out (record { number = n; start = b }) t.out_start own;
   shared = t.shared;
 }
   where
@@ -135,6 +137,15 @@ pub told_taken : (program : Program) (setup : Setup) (old new : Standing) (out l
 told_taken program setup old new out later n b a view same is =
     ap (told_in program setup new) is ∙ told_same program setup old new (out ++ record { number = n; start = b } ∷ []) same ∙ ap (taken n b) view
 
+-- whose turn it is doesn't matter to the bodies
+have_moved : (program : Program) (old new : Standing) (out : List Out) → new.player.net.history ≡ old.player.net.history → HaveStarts program (stand_kept program old) out → HaveStarts program (stand_kept program new) out
+have_moved program old new out history have =
+    subst (λ (ts : List Turn). HaveStarts program (stand_with program ts new.player.able.numbers.items) out) (sym history) (same out have)
+  where
+    same : (os : List Out) → HaveStarts program (stand_kept program old) os → HaveStarts program (stand_with program old.player.net.history new.player.able.numbers.items) os
+    same [] h = tt
+    same (o ∷ os) h = (h.0, same os h.1)
+
 -- one that was out is ready again
 pub table_back : (program : Program) (setup : Setup) (old new : Standing) (out later : List Out) (shares last : Shares) (n : ℕ) → last.nodes ≡ shares.nodes → last.lists ≡ None → IsTable program setup old out shares → new.player.net ≡ old.player.net → new.player.parents ≡ old.player.parents → new.player.used ≡ old.player.used → new.is_live ≡ old.is_live → new.paths ≡ old.paths → new.used ≡ old.used → new.is_ready ≡ old.is_ready
     → (b : Bool) → is_out out n ≡ b → new.player.able.numbers.items ≡ cond b (others_in n old.player.able.numbers.items ++ n ∷ []) old.player.able.numbers.items → later ≡ cond b (without n out) out
@@ -146,6 +157,7 @@ table_back program setup old new out later shares last n nodes none t net parent
   front = subst (λ (ts : List Turn). IsFrontWithin program setup.turns ts (led_by program ts).places) (sym (ap (λ k. k.history) net)) t.front;
   out_able = λ m h. subst (λ (ns : List ℕ). Among m ns) (sym queue) (t.out_able m (subst (λ (os : List Out). Among m (numbers_out os)) is h));
   out_once = subst (λ (os : List Out). EachOnce (numbers_out os)) (sym is) t.out_once;
+  out_start = have_moved program old new later (ap (λ k. k.history) net) (subst (HaveStarts program (stand_kept program old)) (sym is) t.out_start);
   shared = none_known program setup (stand_kept program new) last (nodes ∙ t.shared.nodes_are) none;
 }
 table_back program setup old new out later shares last n nodes none t net parents paid live paths used ready true busy queue is marks =
@@ -159,6 +171,7 @@ table_back program setup old new out later shares last n nodes none t net parent
       front = subst (λ (ts : List Turn). IsFrontWithin program setup.turns ts (led_by program ts).places) (sym (ap (λ k. k.history) net)) t.front;
       out_able = λ m h. subst (λ (ks : List ℕ). Among m ks) (sym queue) (moved ns m (t.out_able m (in_filter (λ k. not (k == n)) (numbers_out out) m (subst (λ (ks : List ℕ). Among m ks) (numbers_without n out) (subst (λ (os : List Out). Among m (numbers_out os)) is h)))));
       out_once = subst (λ (os : List Out). EachOnce (numbers_out os)) (sym is) (subst EachOnce (sym (numbers_without n out)) (once_filter (λ k. not (k == n)) (numbers_out out) t.out_once));
+      out_start = have_moved program old new later (ap (λ k. k.history) net) (subst (HaveStarts program (stand_kept program old)) (sym is) (one_less program (stand_kept program old) n out t.out_start));
       shared = none_known program setup (stand_kept program new) last (nodes ∙ t.shared.nodes_are) none;
     }
   where

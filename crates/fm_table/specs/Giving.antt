@@ -1,23 +1,18 @@
 -- What a table does with a piece that is made outside: taking it, what comes back, and what is called back.
 -- Source: this profile.
 use Rattle.std.specs.Prelude.{◌≡◌, ◌⊎◌, ℕ, ◌+◌, ◌<◌, ◌≤◌, true, cond, Option, Some, List, [], ◌∷◌, ◌++◌, slice_get}
-use Rattle.std.specs.FinMap.{get}
 use Rattle.std.specs.List.Sorted.{IsNonDecreasing, IsPermutation}
 use Rattle.fm_base.specs.declared.schedule.Turn.{Turn}
 use Rattle.fm_code.specs.declared.body.Body.{Body}
 use Rattle.fm_machine.specs.declared.done.Done.{Done}
 use Rattle.fm_run.specs.Orders.{others_in}
 use Rattle.fm_run.specs.Pieces.{IsFull}
-use Rattle.fm_run.specs.Runs.{Stand, place_of}
-use Rattle.fm_mean.specs.Process.{Proc}
+use Rattle.fm_run.specs.Runs.{place_of}
 use Rattle.fm_net.specs.Machine.{Place}
-use Rattle.fm_outcome_code.specs.Corresponds.{BodyStands}
-use Rattle.fm_proc_language.specs.Slots.{Slots}
-use Rattle.fm_rules.specs.declared.program.Program.{Program}
 use Rattle.fm_workers.specs.declared.shared.Given.{Given}
 use Rattle.fm_workers.specs.declared.shared.Given.TheVariants.{Played, Stranger, Over}
 use Rattle.fm_table.specs.Planned.{first_of, mapped}
-use Rattle.fm_table.specs.Told.{Out, Told, cost_of, is_out, numbers_out, ready_in, ready_of, stand_of, start_in, with_entry, without}
+use Rattle.fm_table.specs.Told.{IsBodyOf, Out, Told, cost_of, is_out, numbers_out, ready_in, ready_of, stand_of, start_in, with_entry, without}
 
 -- a process is out, with this body
 abbrev pub taken : (number : ℕ) → Body → Told → Told
@@ -26,10 +21,6 @@ taken number start a = record { program = a.program; setup = a.setup; history = 
 -- who is taken for a worker: the first one that is ready and that the plan maps to this worker, or else the first one that is ready
 abbrev pub taken_for : (worker : ℕ) → Told → Option ℕ
 taken_for worker a = first_of (mapped a.program a.setup (stand_of a) worker (ready_of a)) (ready_of a)
-
--- a body of the program's code that stands for the process of this number, whose port words name some slots
-abbrev pub IsBodyOf : Program → Stand → (number : ℕ) → Body → Type 0
-IsBodyOf program a number start = (q : Place) (x : Proc) → slice_get a.places number ≡ Some q → get a.state.procs q ≡ Some x → (slots : Slots) × BodyStands program slots x start
 
 -- that one is out, with its path and with a body that stands for it
 pub record TakesTo (worker number : ℕ) (path : Place) (start : Body) (a b : Told) : Type 0 where

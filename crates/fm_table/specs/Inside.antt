@@ -20,7 +20,7 @@ use Rattle.fm_outcome_code.specs.Played.{played}
 use Rattle.fm_outcome_code.specs.Sound.{IsSound}
 use Rattle.fm_outcome_code.specs.declared.compiled.Compiled.{Compiled}
 use Rattle.fm_table.specs.Planned.{mapped}
-use Rattle.fm_table.specs.Told.{Out, Told, cost_by, cost_of, has_some, numbers_out, stand_of, stand_with, with_entry}
+use Rattle.fm_table.specs.Told.{HaveStarts, Out, Told, cost_by, cost_of, has_some, numbers_out, stand_of, stand_with, with_entry}
 use Rattle.fm_table.specs.declared.outside.Taken.{Taken}
 use Rattle.fm_table.specs.declared.shares.Shares.{Shares}
 use Rattle.fm_table.specs.declared.standing.Standing.{Standing}
@@ -137,6 +137,7 @@ pub record IsTable (program : Program) (setup : Setup) (s : Standing) (out : Lis
   pub front : IsFrontWithin program setup.turns s.player.net.history (stand_kept program s).places
   pub out_able : (n : ℕ) → Among n (numbers_out out) → Among n s.player.able.numbers.items
   pub out_once : EachOnce (numbers_out out)
+  pub out_start : HaveStarts program (stand_kept program s) out
   pub shared : HasShares program setup (stand_kept program s) shares
 
 -- so many steps of a process were made, as they were asked for, and are an entry

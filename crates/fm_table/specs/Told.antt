@@ -1,19 +1,24 @@
 -- What a table is seen as: a program, how its run is set up, the schedule that was kept, in which order those that can step are served, and
 -- whose pieces are made outside. Where the schedule leads is a function of it.
 -- Source: this profile.
-use Rattle.std.specs.Prelude.{ℕ, ◌<◌, ◌≤◌, ◌==◌, Bool, true, false, cond, not, nat_lt, ◌⊎◌, ◌≡◌, Option, Some, None, List, [], ◌∷◌, ◌++◌, map, filter}
+use Rattle.std.specs.Prelude.{ℕ, ◌<◌, ◌≤◌, ◌==◌, Bool, true, false, cond, not, nat_lt, ◌⊎◌, ◌≡◌, Option, Some, None, List, [], ◌∷◌, ◌++◌, map, filter, slice_get}
+use Rattle.std.specs.FinMap.{get}
 use Rattle.fm_base.specs.declared.schedule.Setup.{Setup}
 use Rattle.fm_base.specs.declared.schedule.Turn.{Turn}
 use Rattle.fm_sched.specs.Schedule.{used}
+use Rattle.fm_net.specs.Machine.{Place}
 use Rattle.fm_rules.specs.declared.program.Program.{Program}
 use Rattle.fm_mean.specs.Outcome.{outcome_of}
+use Rattle.fm_mean.specs.Process.{Proc}
 use Rattle.fm_mean.specs.Steps.{first, step}
 use Rattle.fm_code.specs.declared.body.Body.{Body}
 use Rattle.fm_run.specs.declared.run.Ending.{Ending}
 use Rattle.fm_run.specs.declared.run.Ending.TheVariants as ending
 use Rattle.fm_run.specs.Orders.{Among, EachOnce, is_among}
 use Rattle.fm_run.specs.Runs.{AreAble, IsFrontWithin, IsPlayedBy, Stand, after_entries, after_entry, first_stand}
+use Rattle.fm_outcome_code.specs.Corresponds.{BodyStands}
 use Rattle.fm_outcome_code.specs.Played.{choices_in}
+use Rattle.fm_proc_language.specs.Slots.{Slots}
 use Rattle.fm_workers.specs.declared.shared.Phase.{Phase}
 use Rattle.fm_workers.specs.declared.shared.Phase.TheVariants.{Going, Ended, Spent}
 
@@ -94,14 +99,25 @@ with_entry a t = record {
 
 -- ---- what is so of every table
 
+-- a body of the program's code that stands for the process of this number, whose port words name some slots
+abbrev pub IsBodyOf : Program → Stand → (number : ℕ) → Body → Type 0
+IsBodyOf program a number start = (q : Place) (x : Proc) → slice_get a.places number ≡ Some q → get a.state.procs q ≡ Some x → (slots : Slots) × BodyStands program slots x start
+
+-- the body with which each one was taken that is out stands for it still
+abbrev pub HaveStarts : Program → Stand → List Out → Type 0
+HaveStarts program a [] = Unit {0}
+HaveStarts program a (o ∷ os) = IsBodyOf program a o.number o.start × HaveStarts program a os
+
 -- the schedule is one of the program, which leads to the stand, where the queue has the processes that can step, each once; those that are out
--- are among them, each once; each entry has a step, and those before the last one cost at most the turns together
+-- are among them, each once, and were taken with bodies that stand for them still; each entry has a step, and those before the last one cost
+-- at most the turns together
 pub record IsKept (a : Told) : Type 0 where
   pub played : IsPlayedBy a.program a.history (stand_of a).places (stand_of a).state (cost_of a)
   pub able : AreAble a.program (stand_of a).state (stand_of a).places a.queue
   pub front : IsFrontWithin a.program a.setup.turns a.history (stand_of a).places
   pub out_able : (n : ℕ) → Among n (numbers_out a.out) → Among n a.queue
   pub out_once : EachOnce (numbers_out a.out)
+  pub out_start : HaveStarts a.program (stand_of a) a.out
 
 -- ---- phases
 

@@ -1,10 +1,9 @@
-use Rattle.std.proofs.Common.{ℕ, List, [], ◌∷◌, slice_get, ap, sym, subst, ◌∙◌}
+use Rattle.std.proofs.Common.{ℕ, List, [], ◌∷◌, slice_get, refl, ap, sym, subst, ◌∙◌}
 use Rattle.std.proofs.lemmas.List.{map-append}
 use Rattle.fm_rules.specs.declared.program.Program.{Program}
 use Rattle.fm_run.specs.Orders.{Among}
-use Rattle.fm_table.specs.Giving.{IsBodyOf}
-use Rattle.fm_table.specs.Inside.{IsStanding, IsTable, out_of, outs_of}
-use Rattle.fm_table.specs.Told.{Out, Told, ready_in, ready_of, stand_of}
+use Rattle.fm_table.specs.Inside.{IsStanding, IsTable, out_of, outs_of, stand_kept}
+use Rattle.fm_table.specs.Told.{IsBodyOf, Out, Told, ready_in, ready_of, stand_of}
 use Rattle.fm_table.specs.declared.outside.Taken.{Taken}
 use Rattle.fm_run.specs.Orders.{place_in}
 use Rattle.fm_table.proofs.Bodies.{body_kept, path_kept}
@@ -39,8 +38,10 @@ invariant_of-self-2 c =
     let ready = subst (λ (a : Told). Among n (ready_of a)) (sym c.self.view_is) c.requires in
     let here = subst (λ (ns : List ℕ). Among n (ready_in (outs_of t.out.items) ns)) (sym same.queue) ready in
     let one : Taken = record { number = n; start = c.in_ok-start.field-0.kept } in
+    let live = (subst (λ (p : Program). IsStanding p new) c.deref.ensures c.in_ok-revive.ensures.standing).live c.in_ok-revive.ensures.live in
+    let own = subst (IsBodyOf P (stand_kept P new) n) (sym c.in_ok-start.ensures.kept) (body_kept P new new (record { history = refl; queue = refl }) live n c.in_ok-start.field-0.start.value c.in_ok-start.ensures.body) in
     subst (λ (ts : List Taken). IsTable P t.setup new (outs_of ts) t.shares) (sym c.in_ok-push.ensures.items)
-    (subst (λ (os : List Out). IsTable P t.setup new os t.shares) (sym (map-append out_of t.out.items (one ∷ []))) (table_taken P t.setup new (outs_of t.out.items) t.shares n c.in_ok-start.field-0.kept.value table here))
+    (subst (λ (os : List Out). IsTable P t.setup new os t.shares) (sym (map-append out_of t.out.items (one ∷ []))) (table_taken P t.setup new (outs_of t.out.items) t.shares n c.in_ok-start.field-0.kept.value table here own))
 
 pub returns-clause-path : goal.returns-clause-path
 returns-clause-path c =
