@@ -5,7 +5,6 @@ use Rattle.fm_code.specs.declared.body.Body.{Body}
 use Rattle.fm_net.specs.Correspondence.{BothOrNeither}
 use Rattle.fm_net.specs.Machine.{Place}
 use Rattle.fm_rules.specs.declared.program.Program.{Program}
-use Rattle.fm_mean.specs.Process.{Proc}
 use Rattle.fm_proc_language.specs.Processes.{CodeProc}
 use Rattle.fm_proc_language.specs.Slots.{Slots}
 use Rattle.fm_procs.specs.Readings.{order_of, procs_of}

@@ -224,15 +224,12 @@ module _ (program : Program) (a b : Stand) (t : Turn) (hs later : List Turn) (pa
 
   -- nor does what their bodies stand for
   pub body_stays : (n : ℕ) (start : Body) → Among n a.able → n ≢ t.number → IsBodyOf program a n start → IsBodyOf program b n start
-  body_stays n start h differs own q x at is =
+  body_stays n start h differs stood q x at is =
       let k = there program a hs paid kept able n h in
       let later_at : slice_get b.places n ≡ Some k.place = ap (λ (ps : List Place). slice_get ps n) entry.places_are ∙ longer_at a.places more n k.place k.at in
       let same : q ≡ k.place = some_place q k.place (sym at ∙ later_at) in
-      go k (subst (λ (r : Place). get b.state.procs r ≡ Some x) same is) (subst (λ (s : State Proc). StaysOrEnded k.process (get s.procs k.place)) (sym entry.state_is) (others_along program own_place t.steps a.state owned entry.can k.place (apart n k.place k.at differs) k.process k.is))
+      go k (subst (λ (r : Place). get b.state.procs r ≡ Some x) same is) (subst (λ (s : State Proc). StaysOrEnded k.process (get s.procs k.place)) (sym entry.state_is) (others_along program own t.steps a.state owned entry.can k.place (apart n k.place k.at differs) k.process k.is))
     where
-      abbrev own_place : Place
-      own_place = place_of a.places t
-
       some_place : (r p : Place) → Some r ≡ Some p → r ≡ p
       some_place r p e = cc
 
@@ -240,7 +237,7 @@ module _ (program : Program) (a b : Stand) (t : Turn) (hs later : List Turn) (pa
       some_process y z e = cc
 
       go : (k : There program a hs paid kept able n) → get b.state.procs k.place ≡ Some x → StaysOrEnded k.process (get b.state.procs k.place) → (slots : Slots) × BodyStands program slots x start
-      go k here (inl same) = subst (λ (y : Proc). (slots : Slots) × BodyStands program slots y start) (some_process k.process x (sym same ∙ here)) (own k.place k.process k.at k.is)
+      go k here (inl same) = subst (λ (y : Proc). (slots : Slots) × BodyStands program slots y start) (some_process k.process x (sym same ∙ here)) (stood k.place k.process k.at k.is)
       go k here (inr ended) = absurd (cc (sym k.can ∙ ended_rests program a.state k.place k.process k.is ended.0))
 
   pub other_can : (n : ℕ) → Among n a.able → n ≢ t.number → can_at program b.state b.places n ≡ true

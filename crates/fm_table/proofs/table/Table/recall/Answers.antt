@@ -1,7 +1,7 @@
 use Rattle.std.proofs.Common.{List, refl, sym, subst, ◌∙◌}
 use Rattle.fm_run.specs.Orders.{Among, EachOnce}
 use Rattle.fm_table.specs.Inside.{outs_of}
-use Rattle.fm_table.specs.Told.{HaveStarts, numbers_out}
+use Rattle.fm_table.specs.Told.{HaveStarts, numbers_out, stand_with}
 use Rattle.fm_table.specs.declared.outside.Taken.{Taken}
 use Rattle.fm_table.proofs.Sharing.{none_known}
 use Rattle.fm_table.proofs.Standings.{requeued}
@@ -17,6 +17,6 @@ invariant_of-self c =
       front = k.front;
       out_able = λ n h. absurd (subst (λ (ts : List Taken). Among n (numbers_out (outs_of ts))) e.out h);
       out_once = subst (λ (ts : List Taken). EachOnce (numbers_out (outs_of ts))) (sym e.out) tt;
-      out_start = subst (λ (ts : List Taken). HaveStarts t.program.value _ (outs_of ts)) (sym e.out) tt;
+      out_start = subst (λ (ts : List Taken). HaveStarts t.program.value (stand_with t.program.value t.standing.player.net.history c.call_back.new.queue.numbers.items) (outs_of ts)) (sym e.out) tt;
       shared = none_known t.program.value t.setup _ c.forget.new.self (c.forget.ensures.nodes ∙ k.shared.nodes_are) c.forget.ensures.none;
     }
