@@ -110,11 +110,7 @@ fn raise(process: &mut PlainProc)
 }
 
 /// Makes the next step of a process where that is its own, and else leaves the process as it was.
-pub fn act(
-    alloc: Global,
-    program: &Program,
-    process: &mut PlainProc,
-) -> Result<Acted, NoMemory>
+pub fn act(alloc: Global, program: &Program, process: &mut PlainProc) -> Result<Acted, NoMemory>
     ensures acts { IfOk result (λ a. IsActed program.now (action_of program.now (proc_of program.now process.old)) (proc_of program.now process.old) a (proc_of program.now process.new)) }
     ensures err { OnErr result (proc_of program.now process.new ≡ proc_of program.now process.old) }
 {
