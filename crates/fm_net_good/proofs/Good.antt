@@ -213,9 +213,12 @@ module _ {Proc : Type 0} (language : Language Proc) (IsGood : Proc → Type 0) (
 
   asks_bare : (s : State (Good IsGood)) (p : Place) (x : Proc) (a : Ask Proc) (step : IsGoodAsk language IsGood x a) → AsksCorrespond Bare (ComesIn goods s) p a (good_ask language IsGood x a step)
   asks_bare s p x Stop step = tt
-  asks_bare s p x (Go need f) step = (refl, λ r u comes same.
-    subst (λ (r : Reply Proc). OnwardsCorrespond Bare (f (made p need) r) (good_going language IsGood x need f step (made p need) u (is_served need u.message) refl)) (sym (replies_bare r u same))
-    (onward_bare x need f step (made p need) u (is_served need u.message) refl (comes_within s p need u comes)))
+  asks_bare s p x (Go need f) step = (
+    refl,
+    λ r u comes same.
+        subst (λ (r : Reply Proc). OnwardsCorrespond Bare (f (made p need) r) (good_going language IsGood x need f step (made p need) u (is_served need u.message) refl)) (sym (replies_bare r u same))
+        (onward_bare x need f step (made p need) u (is_served need u.message) refl (comes_within s p need u comes)),
+  )
 
   pub goods_correspond : IsCorrespondence Bare Anyway goods language
   goods_correspond = record {
