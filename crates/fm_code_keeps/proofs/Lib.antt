@@ -1,0 +1,9 @@
+pub mod Masks
+pub mod Sorted
+pub mod Along
+pub mod Endings
+pub mod Statements
+pub mod Passing
+pub mod Giving
+pub mod Keeps
+pub mod Sample

@@ -1,0 +1,4 @@
+pub mod Weights
+pub mod Rooms
+pub mod Standing
+pub mod Endings
