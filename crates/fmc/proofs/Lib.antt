@@ -1,3 +1,4 @@
 pub mod AnswerLaws
 pub mod ReplayLaws
 pub mod OneReplay
+pub mod WordLaws

@@ -4,4 +4,5 @@ pub mod Listing
 pub mod Replay
 pub mod OneReplay
 pub mod Answer
+pub mod Calling
 pub mod Reply
