@@ -8,7 +8,7 @@ use Rattle.fm_values.specs.Operations.{is_arithmetic}
 use Rattle.fm_values.specs.Places.{Bounds}
 use Rattle.fm_tree.specs.Tree.{Tree, Trees, Number, Truth, Named, Ref, Paren, Signed, Not, Binary, NoTrees, More, trees_from}
 use Rattle.fm_tree.specs.References.{applied, applied_each, in_var, in_vars}
-use Rattle.fm_tree.specs.PortFields.{PortFields, FieldKind, Integer, Logical, In, Out}
+use Rattle.fm_tree.specs.PortFields.{FieldKind, Integer, Logical, In, Out}
 use Rattle.fm_tree.specs.PortReading.{kind_of}
 use Rattle.fm_tree.specs.declared.port_type.Kind.{Kind}
 use Rattle.fm_tree.specs.declared.port_type.Kind.TheVariants as kind
@@ -36,7 +36,9 @@ use Rattle.fm_gen_relation.specs.Targets.{target_words}
 use Rattle.fm_gen_operands.specs.Code.{trees_count, named_code, expression_code}
 use Rattle.fm_gen_operands.specs.Places.{whole_span, pass_whole, pass_at, pass_value, named_argument, value_argument, reference_argument, argument_code, arguments_code, target_by, target_code, targets_code}
 use Rattle.fm_gen_operands.proofs.Follows.{IsAt, IsReferenceAt, named_at, reference_at}
-use Rattle.fm_gen_kinds.specs.Types.{sort_by, number_in}
+use Rattle.fm_object.specs.declared.image.FieldImage.{FieldImage}
+use Rattle.fm_image.specs.Types.{number_in}
+use Rattle.fm_gen_kinds.specs.Types.{sort_by}
 use Rattle.fm_gen_kinds.specs.Along.{then_on, along, LeavesOperand, LeavesOperands}
 use Rattle.fm_gen_kinds.specs.Counted.{FitsCount, IsCounted, AreCounted, VariableFits, VarFits}
 use Rattle.fm_gen_kinds.specs.Passed.{IsArgument, AreArguments, IsTarget, IsTargetOf, AreTargets}
@@ -102,7 +104,7 @@ typed x = Some x
 the_type : (x y : FieldKind × ℕ) → typed x ≡ typed y → x ≡ y
 the_type x y e = cc
 
-module _ (ts : List PortFields) (all : List Cell) where
+module _ (ts : List (List FieldImage)) (all : List Cell) where
   abbrev Room : Passed → FieldKind × ℕ → Type 0
   Room o x = fits_room all (sort_by ts x.0) x.1 o ≡ true
 
@@ -126,7 +128,7 @@ element_operand kind.Logical s = pass.WordIn s
 element_operand (kind.In t) s = pass.PortIn s
 element_operand (kind.Out t) s = pass.PortIn s
 
-module _ (p : Program) (u : ProgramUnit) (sound : IsSoundUnit u) (ts : List PortFields) (n : ℕ) where
+module _ (p : Program) (u : ProgramUnit) (sound : IsSoundUnit u) (ts : List (List FieldImage)) (n : ℕ) where
   abbrev mine : List Variable
   mine = u.names.variables
 

@@ -32,10 +32,12 @@ use Rattle.fm_gen_relation.specs.Sound.{IsSoundUnit, IsVariable}
 use Rattle.fm_gen_relation.specs.Targets.{target_words}
 use Rattle.fm_gen_operands.specs.Places.{var_code, targets_code}
 use Rattle.fm_gen_statements.specs.Statements.{channel_code, merger_code, close_code, two_code}
+use Rattle.fm_object.specs.declared.image.FieldImage.{FieldImage}
 use Rattle.fm_gen_kinds.specs.Along.{LeavesPlace}
 use Rattle.fm_gen_kinds.specs.Counted.{AreCounted, VarFits}
 use Rattle.fm_gen_kinds.specs.Passed.{AreTargets}
-use Rattle.fm_gen_kinds.specs.Types.{sort_by, number_in}
+use Rattle.fm_image.specs.Types.{number_in}
+use Rattle.fm_gen_kinds.specs.Types.{sort_by}
 use Rattle.fm_gen_kinds.specs.Units.{shape_by}
 use Rattle.fm_gen_kinds.specs.Walks.{Walks}
 use Rattle.fm_gen_kinds.proofs.Straight.{then_more}
@@ -79,7 +81,7 @@ module _ (all : List Cell) where
 pub same_place : (v w : ℕ × Variable) → Some v ≡ Some w → v ≡ w
 same_place v w e = cc
 
-module _ (p : Program) (u : ProgramUnit) (sound : IsSoundUnit u) (ts : List PortFields) (n : ℕ) (ss : Shapes) (Good : ℕ → Type 0) where
+module _ (p : Program) (u : ProgramUnit) (sound : IsSoundUnit u) (ts : List (List FieldImage)) (n : ℕ) (ss : Shapes) (Good : ℕ → Type 0) where
   abbrev me : Shape
   me = shape_by ts u
 

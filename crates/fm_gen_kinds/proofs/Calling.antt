@@ -5,7 +5,6 @@ use Rattle.std.proofs.lemmas.Bool.{eqb-true}
 use Rattle.std.proofs.lemmas.List.{reverse-reverse}
 use Rattle.fm_tree.specs.Tree.{Trees, NoTrees, More, trees_from}
 use Rattle.fm_tree.specs.References.{applied_each, in_place}
-use Rattle.fm_tree.specs.PortFields.{PortFields}
 use Rattle.fm_tree.specs.declared.form.UnitKind.{UnitKind}
 use Rattle.fm_tree.specs.declared.form.UnitKind.TheVariants as unit_kind
 use Rattle.fm_tree.specs.declared.program_unit.Unit as tree
@@ -35,9 +34,11 @@ use Rattle.fm_gen_relation.proofs.Numbered.{formals_numbered}
 use Rattle.fm_gen_operands.specs.Code.{trees_count}
 use Rattle.fm_gen_operands.specs.Places.{arguments_code, seat_code}
 use Rattle.fm_gen_statements.specs.Statements.{call_by, start_by}
+use Rattle.fm_object.specs.declared.image.FieldImage.{FieldImage}
 use Rattle.fm_gen_kinds.specs.Counted.{AreCounted}
 use Rattle.fm_gen_kinds.specs.Passed.{AreArguments}
-use Rattle.fm_gen_kinds.specs.Types.{sort_by, types_of}
+use Rattle.fm_image.specs.Types.{types_of}
+use Rattle.fm_gen_kinds.specs.Types.{sort_by}
 use Rattle.fm_gen_kinds.specs.Units.{cell_by, cells_by, heading_by, shape_by, shapes_by, shapes_of}
 use Rattle.fm_gen_kinds.specs.Walks.{Walks}
 use Rattle.fm_gen_kinds.proofs.Straight.{then_more, operands_results}
@@ -77,11 +78,11 @@ at_least i n (v ∷ vs) = go (v.formal == n) (omega (arith, at_least (suc i) n v
     go false more = more
 
 -- the formal with a number, among the variables and among the cells
-record IsFormalAt (ts : List PortFields) (vs : List Variable) (n : ℕ) (v : Variable) : Type 0 where
+record IsFormalAt (ts : List (List FieldImage)) (vs : List Variable) (n : ℕ) (v : Variable) : Type 0 where
   number : v.formal ≡ n
   cell : formal_at (cells_by ts vs) n ≡ Some (cell_by ts v)
 
-formal_here : (ts : List PortFields) (i n k : ℕ) (vs : List Variable) (v : Variable) → formal_from i n vs ≡ i + k → slice_get vs k ≡ Some v → IsFormalAt ts vs n v
+formal_here : (ts : List (List FieldImage)) (i n k : ℕ) (vs : List Variable) (v : Variable) → formal_from i n vs ≡ i + k → slice_get vs k ≡ Some v → IsFormalAt ts vs n v
 formal_here ts i n k [] v e at = absurd cc
 formal_here ts i n zero (w ∷ vs) v e at = go (w.formal == n) refl e
   where
@@ -109,7 +110,7 @@ record IsOfVariable (vs : List Variable) (n : ℕ) : Type 0 where
   there : slice_get vs place ≡ Some variable
   number : variable.formal ≡ n
 
-variable_found : (ts : List PortFields) (vs : List Variable) (n : ℕ) (c : Cell) → formal_at (cells_by ts vs) n ≡ Some c → IsOfVariable vs n
+variable_found : (ts : List (List FieldImage)) (vs : List Variable) (n : ℕ) (c : Cell) → formal_at (cells_by ts vs) n ≡ Some c → IsOfVariable vs n
 variable_found ts [] n c e = absurd cc
 variable_found ts (v ∷ vs) n c e = go (v.formal == n) refl e (λ f. variable_found ts vs n c f)
   where
@@ -121,7 +122,7 @@ formal_some : (n : ℕ) → 1 ≤ n → is_formal n ≡ true
 formal_some zero h = absurd (omega (arith, h))
 formal_some (suc n) h = refl
 
-module _ (p : Program) (ts : List PortFields) where
+module _ (p : Program) (ts : List (List FieldImage)) where
   -- no formal has a greater number than there are formals
   none_behind : (k : ℕ) (callee : ProgramUnit) → unit_at p k ≡ Some callee → (n : ℕ) → n ≡ suc (length (formals_among callee.names.variables)) → is_no_cell (formal_at (cells_by ts callee.names.variables) n) ≡ true
   none_behind k callee is n e = go (formal_at (cells_by ts callee.names.variables) n) refl
@@ -155,7 +156,7 @@ module _ (p : Program) (ts : List PortFields) where
 
 -- ---- units by their numbers
 
-shapes_there : (ts : List PortFields) (us : List tree.Unit) (ns : List UnitNames) (k : ℕ) (u : ProgramUnit) → unit_with (slice_get us k) (slice_get ns k) ≡ Some u → slice_get (shapes_by ts us ns) k ≡ Some (shape_by ts u)
+shapes_there : (ts : List (List FieldImage)) (us : List tree.Unit) (ns : List UnitNames) (k : ℕ) (u : ProgramUnit) → unit_with (slice_get us k) (slice_get ns k) ≡ Some u → slice_get (shapes_by ts us ns) k ≡ Some (shape_by ts u)
 shapes_there ts [] ns k u e = absurd (no (slice_get ns k) e)
   where
     no : (o : Option UnitNames) → unit_with None o ≡ Some u → ⊥
@@ -175,7 +176,7 @@ pub unit_shape : (p : Program) (k : ℕ) (u : ProgramUnit) → unit_at p k ≡ S
 unit_shape p k u is = shapes_there (types_of p) p.units.units p.names.units k u is
 
 module _ (p : Program) (u : ProgramUnit) (sound : IsSoundUnit u) (n : ℕ) (Good : ℕ → Type 0) where
-  abbrev ts : List PortFields
+  abbrev ts : List (List FieldImage)
   ts = types_of p
 
   abbrev ss : Shapes

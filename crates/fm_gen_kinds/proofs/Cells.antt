@@ -3,7 +3,6 @@ use Rattle.std.proofs.Common.{◌≡◌, ℕ, zero, suc, ◌+◌, ◌<◌, ◌�
 use Rattle.std.specs.Prelude.{slice_get, nat_lt, nat_le}
 use Rattle.std.proofs.lemmas.Bool.{lt-ltb, le-leb}
 use Rattle.std.proofs.lemmas.Bool.Decides.{nat_tests}
-use Rattle.fm_tree.specs.PortFields.{PortFields}
 use Rattle.fm_tree.specs.PortReading.{kind_of}
 use Rattle.fm_symbols.specs.declared.names.Variable.{Variable}
 use Rattle.fm_mean.specs.Layout.{AreLaidOut}
@@ -12,6 +11,7 @@ use Rattle.fm_code_kinds.specs.declared.sorts.Cell.{Cell}
 use Rattle.fm_code_kinds.specs.Shapes.{sort_in, sort_at, words_of}
 use Rattle.fm_code_kinds.specs.Effects.{placed}
 use Rattle.fm_gen_relation.specs.Sound.{words_among}
+use Rattle.fm_object.specs.declared.image.FieldImage.{FieldImage}
 use Rattle.fm_gen_kinds.specs.Types.{sort_by}
 use Rattle.fm_gen_kinds.specs.Units.{cell_by, cells_by}
 
@@ -24,7 +24,7 @@ pub record IsPart (v : Variable) (s : Span) : Type 0 where
   pub high : s.first + s.count ≤ v.first + v.words
   pub some : 0 < s.count
 
-pub cells_words : (ts : List PortFields) (vs : List Variable) → words_of (cells_by ts vs) ≡ words_among vs
+pub cells_words : (ts : List (List FieldImage)) (vs : List Variable) → words_of (cells_by ts vs) ≡ words_among vs
 cells_words ts [] = refl
 cells_words ts (v ∷ vs) = ap (λ n. v.words + n) (cells_words ts vs)
 
@@ -37,7 +37,7 @@ laid_within n (u ∷ vs) (suc i) v laid e =
     let h = laid_within (n + u.words) vs i v laid.1 e in
     (omega (arith, h.0), omega (arith, h.1))
 
-in_own : (ts : List PortFields) (v : Variable) (s : Span) → IsPart v s → sort_in (cell_by ts v) s ≡ Some (sort_by ts (kind_of v.kind))
+in_own : (ts : List (List FieldImage)) (v : Variable) (s : Span) → IsPart v s → sort_in (cell_by ts v) s ≡ Some (sort_by ts (kind_of v.kind))
 in_own ts v s p =
     let low : nat_le v.first s.first ≡ true = le-leb v.first s.first p.low in
     let high : nat_le (s.first + s.count) (v.first + v.words) ≡ true = le-leb (s.first + s.count) (v.first + v.words) p.high in
@@ -47,7 +47,7 @@ in_own ts v s p =
 not_less : (a b : ℕ) → b ≤ a → nat_lt a b ≡ false
 not_less a b h = grind (arith, nat_tests)
 
-pub sort_there : (ts : List PortFields) (n : ℕ) (vs : List Variable) (i : ℕ) (v : Variable) (s : Span) → AreLaidOut n vs → slice_get vs i ≡ Some v → IsPart v s
+pub sort_there : (ts : List (List FieldImage)) (n : ℕ) (vs : List Variable) (i : ℕ) (v : Variable) (s : Span) → AreLaidOut n vs → slice_get vs i ≡ Some v → IsPart v s
     → sort_at (cells_by ts vs) s ≡ Some (sort_by ts (kind_of v.kind))
 sort_there ts n [] i v s laid e p = absurd (cc)
 sort_there ts n (u ∷ vs) zero v s laid e p =

@@ -7,7 +7,7 @@ use Rattle.std.proofs.lemmas.Bool.{lt-ltb, eq-eqb}
 use Rattle.fm_values.specs.Values.{word_of}
 use Rattle.fm_tree.specs.Tree.{Tree, Trees, Number, Truth, Named, Ref, Paren, Signed, Not, Binary, NoTrees, More}
 use Rattle.fm_tree.specs.References.{applied, applied_each, in_item, in_loop, in_optional}
-use Rattle.fm_tree.specs.PortFields.{PortFields, FieldKind, Integer}
+use Rattle.fm_tree.specs.PortFields.{FieldKind, Integer}
 use Rattle.fm_tree.specs.PortReading as reading
 use Rattle.fm_tree.specs.declared.form.UnitKind.{UnitKind}
 use Rattle.fm_tree.specs.declared.form.UnitKind.TheVariants as unit_kind
@@ -43,6 +43,7 @@ use Rattle.fm_gen_operands.specs.Code.{place_code, trees_count, expression_code,
 use Rattle.fm_gen_operands.specs.Places.{locate, whole_span}
 use Rattle.fm_gen_operands.proofs.Follows.{IsAt, named_at}
 use Rattle.fm_gen_statements.specs.Statements.{goto, holds_word, variable_meant, first_store, locate_code, element_store, assigned_code, letters, show, words_shown, variable_shown, named_shown, value_shown, tree_shown, item_code, refs_in_item, items_code, print_code, is_logical_constant, is_logical, step_code, bounds_code, first_in, loop_word, loop_code, do_code, test_code, result_word, return_code, block_code}
+use Rattle.fm_object.specs.declared.image.FieldImage.{FieldImage}
 use Rattle.fm_gen_kinds.specs.Along.{then_on, straight, along, LeavesWord}
 use Rattle.fm_gen_kinds.specs.Counted.{IsCounted, AreCounted, VariableFits}
 use Rattle.fm_gen_kinds.specs.Units.{heading_by, shape_by}
@@ -74,7 +75,7 @@ first_true : (a b : Bool) → (a && b) ≡ true → a ≡ true
 first_true true b e = refl
 first_true false b e = absurd cc
 
-module _ (p : Program) (u : ProgramUnit) (sound : IsSoundUnit u) (ts : List PortFields) (n : ℕ) (ss : Shapes) (Good : ℕ → Type 0) where
+module _ (p : Program) (u : ProgramUnit) (sound : IsSoundUnit u) (ts : List (List FieldImage)) (n : ℕ) (ss : Shapes) (Good : ℕ → Type 0) where
   abbrev pub me : Shape
   me = shape_by ts u
 

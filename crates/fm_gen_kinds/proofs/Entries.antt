@@ -6,7 +6,6 @@ use Rattle.std.proofs.lemmas.Bool.{eq-eqb}
 use Rattle.std.proofs.lemmas.Option.{slice_get_within}
 use Rattle.fm_tree.specs.Tree.{Trees, Ref}
 use Rattle.fm_tree.specs.References.{applied_each, applied_in, reference_at}
-use Rattle.fm_tree.specs.PortFields.{PortFields}
 use Rattle.fm_tree.specs.declared.program_unit.Entry as tree
 use Rattle.fm_tree.specs.declared.statement.Stmt.{Stmt}
 use Rattle.fm_rules.specs.Links.{marks_of, links_at, links_of}
@@ -36,8 +35,9 @@ use Rattle.fm_gen.specs.Units.{entries_at, loop_count, unit_of_code}
 use Rattle.fm_gen.proofs.LineLaws.{addresses_rise}
 use Rattle.fm_gen.proofs.ReferenceLaws.{references_same, all_references}
 use Rattle.fm_gen.proofs.UnitLaws.{entries_length, standing, entry_there}
+use Rattle.fm_object.specs.declared.image.FieldImage.{FieldImage}
 use Rattle.fm_gen_kinds.specs.Counted.{AreCounted}
-use Rattle.fm_gen_kinds.specs.Types.{types_of}
+use Rattle.fm_image.specs.Types.{types_of}
 use Rattle.fm_gen_kinds.specs.Units.{heading_by, shape_by, shapes_of}
 use Rattle.fm_gen_kinds.specs.Walks.{behind, IsNotEmpty, Next, StepsWell, Joined, Steps, Walks, walked}
 use Rattle.fm_gen_kinds.proofs.Straight.{operands_results}
@@ -82,7 +82,7 @@ pub record IsReference (p : Program) (u : ProgramUnit) (s : Stmt) (j place : ℕ
   pub full : IsFull callee arguments
 
 module _ (p : Program) (u : ProgramUnit) (sound : IsSoundUnit u) (n : ℕ) where
-  abbrev ts : List PortFields
+  abbrev ts : List (List FieldImage)
   ts = types_of p
 
   abbrev ss : Shapes

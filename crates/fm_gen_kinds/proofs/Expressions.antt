@@ -8,7 +8,6 @@ use Rattle.fm_base.specs.declared.token.Op.TheVariants as op
 use Rattle.fm_values.specs.Places.{Bounds, extent, size}
 use Rattle.fm_tree.specs.Tree.{Tree, Trees, Number, Truth, Named, Ref, Paren, Signed, Not, Binary, NoTrees, More}
 use Rattle.fm_tree.specs.References.{applied, applied_each}
-use Rattle.fm_tree.specs.PortFields.{PortFields}
 use Rattle.fm_tree.specs.PortReading.{kind_of}
 use Rattle.fm_tree.specs.declared.port_type.Kind.{Kind}
 use Rattle.fm_tree.specs.declared.port_type.Kind.TheVariants as kind
@@ -30,6 +29,7 @@ use Rattle.fm_code_kinds.specs.Shapes.{single, sort_at, is_word_sort, are_words,
 use Rattle.fm_code_kinds.specs.Effects.{word, first_words, shifted, scaled, placed, given_where, without_words, results_in}
 use Rattle.fm_gen_relation.specs.Sound.{IsSoundUnit, is_word}
 use Rattle.fm_gen_operands.specs.Code.{push, first_load, variable_code, named_code, dimension_code, dimensions_code, no_element, place_code, element_code, sign_code, reference_code, trees_count, expression_code, expressions_code}
+use Rattle.fm_object.specs.declared.image.FieldImage.{FieldImage}
 use Rattle.fm_gen_kinds.specs.Types.{sort_by}
 use Rattle.fm_gen_kinds.specs.Units.{cells_by}
 use Rattle.fm_gen_kinds.specs.Along.{then_on, along, LeavesWord, AreWordsOver, LeavesWords}
@@ -89,7 +89,7 @@ module _ (cs : List Cell) (n : ℕ) where
 
 -- ---- expressions
 
-module _ (p : Program) (u : ProgramUnit) (sound : IsSoundUnit u) (ts : List PortFields) (n : ℕ) where
+module _ (p : Program) (u : ProgramUnit) (sound : IsSoundUnit u) (ts : List (List FieldImage)) (n : ℕ) where
   abbrev pub vars : List Variable
   vars = u.names.variables
 

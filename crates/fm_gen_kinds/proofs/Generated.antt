@@ -32,7 +32,7 @@ use Rattle.fm_gen.specs.Entries.{address_of, entry_code}
 use Rattle.fm_gen.specs.Units.{loop_count, unit_of_code}
 use Rattle.fm_gen.proofs.UnitLaws.{entry_there}
 use Rattle.fm_gen_kinds.specs.Counted.{IsCounted, AreCounted, VariablesFit}
-use Rattle.fm_gen_kinds.specs.Types.{types_of}
+use Rattle.fm_image.specs.Types.{types_of}
 use Rattle.fm_gen_kinds.specs.Units.{shape_by, shapes_of}
 use Rattle.fm_gen_kinds.specs.Walks.{Walks}
 use Rattle.fm_gen_kinds.proofs.Expressions.{Kinds}

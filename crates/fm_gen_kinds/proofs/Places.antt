@@ -3,7 +3,6 @@ use Rattle.std.proofs.Common.{◌≡◌, ℕ, ◌+◌, ◌≤◌, Option, Some, 
 use Rattle.std.specs.Prelude.{slice_get}
 use Rattle.fm_tree.specs.Tree.{Tree, Trees, NoTrees, More, trees_from}
 use Rattle.fm_tree.specs.References.{applied, applied_each, in_exprs, in_var}
-use Rattle.fm_tree.specs.PortFields.{PortFields}
 use Rattle.fm_tree.specs.PortReading.{kind_of}
 use Rattle.fm_tree.specs.declared.statement.Var.{Var}
 use Rattle.fm_symbols.specs.declared.names.Variable.{Variable}
@@ -20,6 +19,7 @@ use Rattle.fm_gen_relation.specs.Sound.{IsSoundUnit}
 use Rattle.fm_gen_operands.specs.Code.{place_code, trees_count, expressions_code}
 use Rattle.fm_gen_operands.specs.Places.{locate, located_code, place_by, var_code}
 use Rattle.fm_gen_operands.proofs.Follows.{IsAt, named_at}
+use Rattle.fm_object.specs.declared.image.FieldImage.{FieldImage}
 use Rattle.fm_gen_kinds.specs.Types.{sort_by}
 use Rattle.fm_gen_kinds.specs.Along.{along, LeavesPlace}
 use Rattle.fm_gen_kinds.specs.Counted.{AreCounted, VariableFits, VarFits}
@@ -31,7 +31,7 @@ pub each_of : (l : List Tree) → applied_each (trees_from l) ≡ in_exprs l
 each_of [] = refl
 each_of (t ∷ l) = ap (λ r. applied t ++ r) (each_of l)
 
-module _ (p : Program) (u : ProgramUnit) (sound : IsSoundUnit u) (ts : List PortFields) (n : ℕ) where
+module _ (p : Program) (u : ProgramUnit) (sound : IsSoundUnit u) (ts : List (List FieldImage)) (n : ℕ) where
   abbrev mine : List Variable
   mine = u.names.variables
 

@@ -43,11 +43,13 @@ use Rattle.fm_gen_relation.specs.Sound.{IsSoundUnit, IsVariable}
 use Rattle.fm_gen_relation.specs.Targets.{target_words, HasWords, TargetsFit}
 use Rattle.fm_gen_operands.specs.Places.{var_code, targets_code}
 use Rattle.fm_gen_statements.specs.Statements.{extras_code, refs_behind, receive_end, receive_code}
+use Rattle.fm_object.specs.declared.image.FieldImage.{FieldImage}
 use Rattle.fm_gen_kinds.specs.Along.{then_on, along}
 use Rattle.fm_gen_kinds.specs.Counted.{IsCounted, AreCounted, VarFits, ExtraFits}
 use Rattle.fm_gen_kinds.specs.Passed.{IsTarget, AreTargets}
 use Rattle.fm_gen_kinds.specs.Sized.{is_one_integer, holds_words, is_true_at, size_stands, sizes_stand}
-use Rattle.fm_gen_kinds.specs.Types.{sort_by, number_in, types_of, field_by, fields_by}
+use Rattle.fm_image.specs.Types.{number_in, types_of}
+use Rattle.fm_gen_kinds.specs.Types.{sort_by, field_by, fields_by}
 use Rattle.fm_gen_kinds.specs.Units.{shape_by, shapes_of}
 use Rattle.fm_gen_kinds.specs.Walks.{Walks}
 use Rattle.fm_gen_kinds.proofs.Straight.{then_more}
@@ -61,7 +63,7 @@ use Rattle.fm_gen_kinds.proofs.TypeNumbers.{IsOf, fields_there}
 use Rattle.fm_gen_kinds.proofs.SizedTypes.{in_sizes}
 use Rattle.fm_gen_kinds.proofs.Walks.{IsApart, closes}
 
-pub word_field : (ts : List PortFields) (k : FieldKind) → holds_words k ≡ true → is_word (sort_by ts k) ≡ true
+pub word_field : (ts : List (List FieldImage)) (k : FieldKind) → holds_words k ≡ true → is_word (sort_by ts k) ≡ true
 word_field ts Integer e = refl
 word_field ts Logical e = refl
 word_field ts (In t) e = absurd cc
@@ -93,7 +95,7 @@ takes all s words (pass.WordIn t) target holds room = holds_second (words == 1) 
 takes all s words (pass.PortIn t) target holds room = absurd (no_port s holds (holds_first (is_port s) (sized 1 words (sort_at all t) s) room))
 takes all s words (pass.Sized k) target holds room = absurd cc
 
-module _ (ts : List PortFields) (all : List Cell) (u : ProgramUnit) where
+module _ (ts : List (List FieldImage)) (all : List Cell) (u : ProgramUnit) where
   one_received : (w : Variable) (k : FieldKind) (words : ℕ) (bounds : List Bound) (es : List Bool) (o : Passed) (size : Option ℕ) → IsTarget ts all w words o → reading.kind_of w.kind ≡ k → HasWords words size bounds → size_stands es k size ≡ true
       → fits_received all (field_by ts k bounds size) o ≡ true
   one_received w k words bounds es o None is kind has stands =
@@ -130,7 +132,7 @@ behind_is s (extra.End l ∷ es) n = behind_is s es n
 behind_is s (extra.Iostat v ∷ es) n = let rest = behind_is s es (n + refs_in_var s v) in omega (arith, rest)
 
 module _ (p : Program) (number : ℕ) (u : ProgramUnit) (here : unit_at p number ≡ Some u) (sound : IsSoundUnit u) (n : ℕ) (Good : ℕ → Type 0) where
-  abbrev ts : List PortFields
+  abbrev ts : List (List FieldImage)
   ts = types_of p
 
   abbrev ss : Shapes

@@ -2,7 +2,6 @@
 use Rattle.std.proofs.Common.{◌≡◌, ℕ, ◌+◌, ◌≤◌, Option, Some, None, List, [], ◌∷◌, ◌++◌, refl, arith}
 use Rattle.fm_tree.specs.Tree.{trees_from}
 use Rattle.fm_tree.specs.References.{applied, in_place}
-use Rattle.fm_tree.specs.PortFields.{PortFields}
 use Rattle.fm_tree.specs.declared.statement.Where.{Where}
 use Rattle.fm_tree.specs.declared.statement.Where.TheVariants as put_at
 use Rattle.fm_rules.specs.declared.program.Program.{Program}
@@ -18,6 +17,7 @@ use Rattle.fm_code_kinds.specs.Effects.{results_in}
 use Rattle.fm_gen_relation.specs.Sound.{IsSoundUnit}
 use Rattle.fm_gen_operands.specs.Code.{trees_count, expression_code, expressions_code}
 use Rattle.fm_gen_operands.specs.Places.{seat_code}
+use Rattle.fm_object.specs.declared.image.FieldImage.{FieldImage}
 use Rattle.fm_gen_kinds.specs.Along.{along}
 use Rattle.fm_gen_kinds.specs.Counted.{IsCounted, AreCounted}
 use Rattle.fm_gen_kinds.proofs.Straight.{then_one, then_more, words_taken}
@@ -30,7 +30,7 @@ refs_in_place s None = 0
 refs_in_place s (Some (put_at.Location ks)) = refs_in_all s (trees_from ks)
 refs_in_place s (Some (put_at.Submachine a b)) = refs_in s a + refs_in s b
 
-module _ (p : Program) (u : ProgramUnit) (sound : IsSoundUnit u) (ts : List PortFields) (n : ℕ) where
+module _ (p : Program) (u : ProgramUnit) (sound : IsSoundUnit u) (ts : List (List FieldImage)) (n : ℕ) where
   abbrev all : List Cell
   all = cs p u sound ts n
 

@@ -37,11 +37,13 @@ use Rattle.fm_code_kinds.specs.Effects.{Over, Ill, Taken, only_results, results_
 use Rattle.fm_gen_relation.specs.Sound.{IsSoundUnit}
 use Rattle.fm_gen_operands.specs.Places.{var_code, arguments_code}
 use Rattle.fm_gen_statements.specs.Statements.{cut_one, cuts_code, send_code}
+use Rattle.fm_object.specs.declared.image.FieldImage.{FieldImage}
 use Rattle.fm_gen_kinds.specs.Along.{then_on, along}
 use Rattle.fm_gen_kinds.specs.Counted.{AreCounted, VarFits}
 use Rattle.fm_gen_kinds.specs.Passed.{IsArgument, AreArguments}
 use Rattle.fm_gen_kinds.specs.Sized.{is_one_integer, holds_words, is_true_at, size_stands, sizes_stand}
-use Rattle.fm_gen_kinds.specs.Types.{sort_by, number_in, types_of, field_by, fields_by}
+use Rattle.fm_image.specs.Types.{number_in, types_of}
+use Rattle.fm_gen_kinds.specs.Types.{sort_by, field_by, fields_by}
 use Rattle.fm_gen_kinds.specs.Units.{shape_by, shapes_of}
 use Rattle.fm_gen_kinds.specs.Walks.{Walks}
 use Rattle.fm_gen_kinds.proofs.Straight.{some_list, then_more}
@@ -87,7 +89,7 @@ either (x ∷ es) b (suc i) e = go (either es b i e)
     go (inl h) = inl h
     go (inr h) = inr (ap suc h.0, h.1)
 
-module _ (ts : List PortFields) (all : List Cell) where
+module _ (ts : List (List FieldImage)) (all : List Cell) where
   -- an item fits a field; any number of words where an earlier field sizes it
   abbrev pub FieldFits : FieldKind → (size : Option ℕ) → List Bound → Passed → Type 0
   FieldFits k None bounds o = fits_room all (sort_by ts k) (elements_in bounds) o ≡ true
@@ -235,7 +237,7 @@ module _ (ts : List PortFields) (all : List Cell) where
       (λ i. one i && fit_fields (fits_sent all) (fields_by ts rest) (cut rest os)) ∙ fit_sent rest os (es ++ is_one_integer k bounds ∷ []) fits.1 (holds_second here more stands)
 
 module _ (p : Program) (number : ℕ) (u : ProgramUnit) (here : unit_at p number ≡ Some u) (sound : IsSoundUnit u) (n : ℕ) (Good : ℕ → Type 0) where
-  abbrev ts : List PortFields
+  abbrev ts : List (List FieldImage)
   ts = types_of p
 
   abbrev ss : Shapes

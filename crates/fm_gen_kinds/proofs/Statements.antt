@@ -7,7 +7,7 @@ use Rattle.std.specs.FinMap.{get}
 use Rattle.fm_net.specs.Typed.{AllIn}
 use Rattle.fm_tree.specs.Tree.{Tree, trees_from}
 use Rattle.fm_tree.specs.References.{applied, applied_each, applied_in, in_exprs, in_optional, in_var, in_vars, in_item, in_place, in_arguments, in_call, in_loop, in_simple}
-use Rattle.fm_tree.specs.PortFields.{PortFields, FieldKind, Integer, Out}
+use Rattle.fm_tree.specs.PortFields.{FieldKind, Integer, Out}
 use Rattle.fm_tree.specs.PortReading as reading
 use Rattle.fm_tree.specs.declared.port_type.Kind.{Kind}
 use Rattle.fm_tree.specs.declared.port_type.Kind.TheVariants as kind
@@ -50,8 +50,10 @@ use Rattle.fm_gen.specs.Entries.{address_of, entry_code}
 use Rattle.fm_gen.specs.Units.{loop_count}
 use Rattle.fm_gen.proofs.Ends.{IsEnded}
 use Rattle.fm_gen.proofs.UnitLaws.{entry_there, statement_ended}
+use Rattle.fm_object.specs.declared.image.FieldImage.{FieldImage}
 use Rattle.fm_gen_kinds.specs.Counted.{IsCounted, AreCounted, VariableFits, VariablesFit}
-use Rattle.fm_gen_kinds.specs.Types.{sort_by, types_of}
+use Rattle.fm_image.specs.Types.{types_of}
+use Rattle.fm_gen_kinds.specs.Types.{sort_by}
 use Rattle.fm_gen_kinds.specs.Units.{shape_by, shapes_of}
 use Rattle.fm_gen_kinds.specs.Walks.{IsNotEmpty, Walks}
 use Rattle.fm_gen_kinds.proofs.Expressions.{Kinds}
@@ -74,13 +76,13 @@ word_kind_of kind.Logical h = refl
 word_kind_of (kind.In t) h = absurd h
 word_kind_of (kind.Out t) h = absurd h
 
-word_sort : (ts : List PortFields) (q : Kind) → is_word q ≡ true → shapes.is_word (sort_by ts (reading.kind_of q)) ≡ true
+word_sort : (ts : List (List FieldImage)) (q : Kind) → is_word q ≡ true → shapes.is_word (sort_by ts (reading.kind_of q)) ≡ true
 word_sort ts kind.Integer e = refl
 word_sort ts kind.Logical e = refl
 word_sort ts (kind.In t) e = absurd cc
 word_sort ts (kind.Out t) e = absurd cc
 
-port_sort : (ts : List PortFields) (q : Kind) → is_word q ≡ false → is_port_sort (Some (sort_by ts (reading.kind_of q))) ≡ true
+port_sort : (ts : List (List FieldImage)) (q : Kind) → is_word q ≡ false → is_port_sort (Some (sort_by ts (reading.kind_of q))) ≡ true
 port_sort ts kind.Integer e = absurd cc
 port_sort ts kind.Logical e = absurd cc
 port_sort ts (kind.In t) e = refl

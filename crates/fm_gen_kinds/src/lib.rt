@@ -1,6 +1,6 @@
 //! Kinds of operands of the code that is generated for a program.
 //!
-//! `specs/Types` numbers the types of ports, `specs/Units` says what is known of the units of a program beside their code. A
+//! `specs/Types` tells sorts by the numbers of the types of ports, `specs/Units` what is known of units beside their code. A
 //! list of kinds is followed along code that goes on (`specs/Along`), and through statements (`specs/Walks`); `specs/Counted`,
 //! `specs/Passed` and `specs/Sized` are what the rules of a checked program say for that. There is no code here: each function
 //! has an empty body, and its contract is a law.
@@ -13,7 +13,7 @@ ghost use Rattle.fm_code_kinds.specs.Bodies.{coded};
 ghost use Rattle.fm_code_kinds.specs.Kinded.{Kinded};
 ghost use Rattle.fm_code_kinds.specs.Leading.{JoinsStand};
 ghost use Rattle.fm_gen.specs.Units.{unit_of_code};
-ghost use Rattle.fm_gen_kinds.specs.Types.{types_of};
+ghost use Rattle.fm_image.specs.Types.{types_of};
 ghost use Rattle.fm_gen_kinds.specs.Units.{shape_by, shapes_of};
 
 /// The code of each unit of a program has its kinds: each instruction finds what it takes, each statement begins with nothing

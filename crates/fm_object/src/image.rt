@@ -5,7 +5,7 @@ use fm_base::{Name, Seq};
 use fm_code::{Entry, Instr};
 
 /// A field of a port type.
-#[derive(Clone, Copy)]
+#[derive(Clone, Copy, PartialEq, Eq, Hash)]
 pub struct FieldImage {
     /// 0 integer, 1 logical, 2 inport, 3 outport.
     pub kind: u32,

@@ -4,7 +4,6 @@ use Rattle.std.specs.Prelude.{filter, nat_le}
 use Rattle.std.specs.List.{AllByRecursion}
 use Rattle.std.proofs.lemmas.Bool.{eqb-true}
 use Rattle.std.proofs.lemmas.Bool.Decides.{nat_tests}
-use Rattle.fm_tree.specs.PortFields.{PortFields}
 use Rattle.fm_symbols.specs.declared.names.Variable.{Variable}
 use Rattle.fm_rules.specs.declared.program.Program.{Program}
 use Rattle.fm_mean.specs.Calls as calls
@@ -13,7 +12,8 @@ use Rattle.fm_gen_relation.specs.Sound.{formals_among}
 use Rattle.fm_gen_relation.proofs.Numbered.{formals_numbered}
 use Rattle.fm_object.specs.declared.image.Cell.{Cell}
 use Rattle.fm_verify_law.specs.Typed.{FormalsHavePlaces, how_many, is_formal}
-use Rattle.fm_verify.specs.ImageOf.{cell_image}
+use Rattle.fm_object.specs.declared.image.FieldImage.{FieldImage}
+use Rattle.fm_image.specs.ImageOf.{cell_image}
 
 the_variable : (a b : Variable) → Some a ≡ Some b → a ≡ b
 the_variable a b e = cc
@@ -188,11 +188,11 @@ module _ (p : Program) (number : ℕ) (u : ProgramUnit) (here : unit_at p number
       go true e = ap suc e
       go false e = e
 
-  module _ (ts : List PortFields) where
+  module _ (ts : List (List FieldImage)) where
     abbrev cells : List Cell
     cells = map (cell_image ts) vs
 
-    as_many : how_many is_formal cells ≡ length (formals_among vs)
+    pub as_many : how_many is_formal cells ≡ length (formals_among vs)
     as_many = counted_map (cell_image ts) is_formal vs ∙ many_are vs
 
     low_cells : (m : ℕ) (ws : List Variable) → AllByRecursion (λ (v : Variable). v.formal ≤ m) ws → AllByRecursion (λ (c : Cell). c.formal ≤ m) (map (cell_image ts) ws)

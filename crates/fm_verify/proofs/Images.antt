@@ -2,7 +2,6 @@
 use Rattle.std.proofs.Common.{◌≡◌, ℕ, zero, suc, ◌≤◌, ◌<◌, Some, List, [], ◌∷◌, length, slice_get, refl, sym, ap, subst, ◌∙◌, arith, length-append}
 use native.Mathlib.Nat.{ℕ_set}
 use Rattle.std.proofs.lemmas.List.{length-map}
-use Rattle.fm_tree.specs.PortFields.{PortFields}
 use Rattle.fm_tree.specs.declared.program_unit.Unit as tree
 use Rattle.fm_symbols.specs.declared.names.UnitNames.{UnitNames}
 use Rattle.fm_rules.specs.FunctionTitles.{titles_of}
@@ -21,14 +20,15 @@ use Rattle.fm_code_kinds.specs.Kinded.{Kinded}
 use Rattle.fm_gen.specs.Programs.{code_of, unit_if, units_of_code}
 use Rattle.fm_gen.specs.Units.{unit_of_code}
 use Rattle.fm_gen.proofs.ProgramLaws.{unit_there}
-use Rattle.fm_gen_kinds.specs.Types.{types_of}
+use Rattle.fm_object.specs.declared.image.FieldImage.{FieldImage}
+use Rattle.fm_image.specs.ImageOf.{image_of, unit_image, units_image}
+use Rattle.fm_image.specs.Types.{types_of}
 use Rattle.fm_gen_kinds.specs.Units as program
 use Rattle.fm_gen_kinds.specs.Units.{shape_by}
 use Rattle.fm_gen_kinds.proofs.Generated.{generated_kinded}
 use Rattle.fm_gen_kinds.proofs.Loops.{LoopsBelow, with_loops}
 use Rattle.fm_object.specs.declared.image.UnitImage.{UnitImage}
 use Rattle.fm_verify_law.specs.Shapes.{coded_of, loop_of, loops_of, shape_of, shapes_of}
-use Rattle.fm_verify.specs.ImageOf.{unit_image, units_image, image_of}
 use Rattle.fm_verify.proofs.Shapes.{shape_alike, shapes_alike}
 
 -- ---- units
@@ -57,7 +57,7 @@ all_coded p = coded_so_far p (length p.units.units) (omega arith)
 pub shapes_same : (p : Program) → shapes_of (image_of p (code_of p)) ≡ program.shapes_of p
 shapes_same p = shapes_alike p (code_of p) (all_coded p)
 
-as_long : (ts : List PortFields) (us : List tree.Unit) (ns : List UnitNames) (cs : List code_unit.Unit) → length ns ≡ length us → length cs ≡ length us → length (units_image ts us ns cs) ≡ length us
+as_long : (ts : List (List FieldImage)) (us : List tree.Unit) (ns : List UnitNames) (cs : List code_unit.Unit) → length ns ≡ length us → length cs ≡ length us → length (units_image ts us ns cs) ≡ length us
 as_long ts [] ns cs e f = refl
 as_long ts (u ∷ us) [] cs e f = absurd (omega (arith, e))
 as_long ts (u ∷ us) (n ∷ ns) [] e f = absurd (omega (arith, f))
@@ -67,7 +67,7 @@ pub units_same : (p : Program) → length (image_of p (code_of p)).units ≡ len
 units_same p = as_long (types_of p) p.units.units p.names.units (code_of p).units (as_many p) (all_coded p)
 
 -- what a unit of an image is made of
-pub record IsMade (ts : List PortFields) (us : List tree.Unit) (ns : List UnitNames) (cs : List code_unit.Unit) (k : ℕ) (v : UnitImage) : Type 0 where
+pub record IsMade (ts : List (List FieldImage)) (us : List tree.Unit) (ns : List UnitNames) (cs : List code_unit.Unit) (k : ℕ) (v : UnitImage) : Type 0 where
   pub unit : tree.Unit
   pub names : UnitNames
   pub code : code_unit.Unit
@@ -76,7 +76,7 @@ pub record IsMade (ts : List PortFields) (us : List tree.Unit) (ns : List UnitNa
   pub code_there : slice_get cs k ≡ Some code
   pub is : unit_image ts unit names code ≡ v
 
-pub made : (ts : List PortFields) (us : List tree.Unit) (ns : List UnitNames) (cs : List code_unit.Unit) (k : ℕ) (v : UnitImage) → slice_get (units_image ts us ns cs) k ≡ Some v → IsMade ts us ns cs k v
+pub made : (ts : List (List FieldImage)) (us : List tree.Unit) (ns : List UnitNames) (cs : List code_unit.Unit) (k : ℕ) (v : UnitImage) → slice_get (units_image ts us ns cs) k ≡ Some v → IsMade ts us ns cs k v
 made ts [] ns cs k v e = absurd cc
 made ts (u ∷ us) [] cs k v e = absurd cc
 made ts (u ∷ us) (n ∷ ns) [] k v e = absurd cc

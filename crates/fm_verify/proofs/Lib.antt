@@ -7,3 +7,4 @@ pub mod PortTypes
 pub mod TypeOrder
 pub mod Mains
 pub mod Makes
+pub mod Codes

@@ -9,7 +9,6 @@ use Rattle.fm_net.specs.Typed.{AllIn}
 use Rattle.fm_tree.specs.Blocks.{behind, head_of, innermost}
 use Rattle.fm_tree.specs.Labels.{first_executable}
 use Rattle.fm_tree.specs.Layout.{ends_behind, fitted, is_parallel, label_left, laid_behind, laid_out, marks_of, own_forms, with_statement}
-use Rattle.fm_tree.specs.PortFields.{PortFields}
 use Rattle.fm_tree.specs.Structure.{bracket_of, contained_form, form_of, is_end, is_process_loop, simple_form_of}
 use Rattle.fm_tree.specs.Units.{cut_of, form_at, put_first, unit_of}
 use Rattle.fm_tree.specs.declared.entry_mark.EntryMark.{EntryMark}
@@ -43,7 +42,8 @@ use Rattle.fm_mean.proofs.Unbroken.{Unbroken, from_rules, left_empty, right_empt
 use Rattle.fm_code.specs.declared.code.Unit as code_unit
 use Rattle.fm_verify_law.specs.Typed as typed
 use Rattle.fm_verify_law.specs.Typed.{how_many}
-use Rattle.fm_verify.specs.ImageOf.{heading_number, unit_image, units_image}
+use Rattle.fm_object.specs.declared.image.FieldImage.{FieldImage}
+use Rattle.fm_image.specs.ImageOf.{heading_number, unit_image, units_image}
 
 never : true ≡ false → ⊥
 never e = absurd cc
@@ -256,7 +256,7 @@ same_main unit_kind.Process = refl
 same_main unit_kind.Subroutine = refl
 same_main unit_kind.Function = refl
 
-pub mains_alike : (ts : List PortFields) (us : List tree.Unit) (ns : List UnitNames) (cs : List code_unit.Unit) → length ns ≡ length us → length cs ≡ length us → how_many typed.is_main (units_image ts us ns cs) ≡ how_many is_main us
+pub mains_alike : (ts : List (List FieldImage)) (us : List tree.Unit) (ns : List UnitNames) (cs : List code_unit.Unit) → length ns ≡ length us → length cs ≡ length us → how_many typed.is_main (units_image ts us ns cs) ≡ how_many is_main us
 mains_alike ts [] ns cs e f = refl
 mains_alike ts (u ∷ us) [] cs e f = absurd (omega (arith, e))
 mains_alike ts (u ∷ us) (n ∷ ns) [] e f = absurd (omega (arith, f))

@@ -1,10 +1,8 @@
 -- The image of a program makes sense, where the names of its variables are names of the language.
 use Rattle.std.proofs.Common.{◌≡◌, ℕ, zero, suc, ◌<◌, Some, List, [], ◌∷◌, map, length, slice_get, refl, sym, ap, ◌∙◌, subst, arith}
 use Rattle.std.specs.List.{AllByRecursion}
-use Rattle.std.proofs.lemmas.List.{length-map}
 use Rattle.std.proofs.lemmas.Option.{slice_get_within}
 use Rattle.fm_net.specs.Typed.{AllIn}
-use Rattle.fm_tree.specs.PortFields.{PortFields}
 use Rattle.fm_tree.specs.PortReading.{kind_of}
 use Rattle.fm_symbols.specs.Headings.{heading_kind}
 use Rattle.fm_symbols.specs.declared.names.UnitNames.{UnitNames}
@@ -20,7 +18,9 @@ use Rattle.fm_gen.specs.Entries.{address_of}
 use Rattle.fm_gen.specs.Programs.{code_of}
 use Rattle.fm_gen.specs.Units.{unit_of_code}
 use Rattle.fm_gen.proofs.ProgramLaws.{unit_there}
-use Rattle.fm_gen_kinds.specs.Types.{types_of, number_in}
+use Rattle.fm_object.specs.declared.image.FieldImage.{FieldImage}
+use Rattle.fm_image.specs.ImageOf.{NamesAreNames, cell_image, image_of, unit_image}
+use Rattle.fm_image.specs.Types.{types_of}
 use Rattle.fm_gen_kinds.specs.Units as program
 use Rattle.fm_gen_kinds.specs.Units.{shape_by}
 use Rattle.fm_gen_kinds.proofs.Generated.{generated_joins, generated_kinded}
@@ -31,7 +31,6 @@ use Rattle.fm_object.specs.declared.image.Image.{Image}
 use Rattle.fm_object.specs.declared.image.UnitImage.{UnitImage}
 use Rattle.fm_verify_law.specs.Shapes.{coded_of, loops_of, shape_of, shapes_of}
 use Rattle.fm_verify_law.specs.Typed.{CellsAreTyped, Typed, UnitIsTyped}
-use Rattle.fm_verify.specs.ImageOf.{NamesAreNames, cell_image, fields_image, unit_image, image_of}
 use Rattle.fm_verify.proofs.Formals.{places}
 use Rattle.fm_verify.proofs.Images.{all_coded, as_many, found, image_kinded, made}
 use Rattle.fm_verify.proofs.Machines.{machine_typed}
@@ -53,7 +52,7 @@ each_from P [] h = tt
 each_from P (x ∷ xs) h = (h zero x refl, each_from P xs (λ i y at. h (suc i) y at))
 
 module _ (p : Program) where
-  abbrev ts : List PortFields
+  abbrev ts : List (List FieldImage)
   ts = types_of p
 
   abbrev image : Image
@@ -61,13 +60,12 @@ module _ (p : Program) where
 
   module _ (number : ℕ) (u : ProgramUnit) (here : unit_at p number ≡ Some u) where
     numbered : AllIn (IsNumbered ts) u.names.variables
-    numbered = all_from (IsNumbered ts) u.names.variables (λ i v at t is. slice_get_within ts (number_in ts t) t (number_there p number u here i v at t is))
+    numbered = all_from (IsNumbered ts) u.names.variables (λ i v at t is. number_there p number u here i v at t is)
 
     cells : AllIn (λ (v : Variable). IsName v.name) u.names.variables → CellsAreTyped (length image.types) 0 (map (cell_image ts) u.names.variables)
     cells named =
         let s = sound_unit p number u here in
-        let many : length ts ≡ length image.types = sym (length-map ts (fields_image ts)) in
-        subst (λ (n : ℕ). CellsAreTyped n 0 (map (cell_image ts) u.names.variables)) many (cells_typed ts 0 u.names.variables s.laid s.some named numbered (omega (arith, s.counted, s.few)))
+        cells_typed ts 0 u.names.variables s.laid s.some named numbered (omega (arith, s.counted, s.few))
 
     joins : (loops : ℕ) → JoinsStand (record { entries = (coded (unit_of_code p u)).entries; loops = loops; code = (unit_of_code p u).code })
     joins loops = let h = generated_joins p number u here in record { behind = h.behind; alone = h.alone; entries = h.entries }

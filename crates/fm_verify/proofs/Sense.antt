@@ -41,14 +41,15 @@ use Rattle.fm_gen.specs.Entries.{address_of}
 use Rattle.fm_gen.specs.Units.{entries_at, loop_count}
 use Rattle.fm_gen.proofs.LineLaws.{addresses_rise}
 use Rattle.fm_gen.proofs.UnitLaws.{entry_there}
-use Rattle.fm_gen_kinds.specs.Types.{number_in}
+use Rattle.fm_object.specs.declared.image.FieldImage.{FieldImage}
+use Rattle.fm_image.specs.ImageOf.{back_of, cell_image, heading_number}
+use Rattle.fm_image.specs.Types.{kind_number, number_in, type_number}
 use Rattle.fm_gen_kinds.proofs.Loops.{LoopsBelow}
 use Rattle.fm_gen_kinds.proofs.TypeNumbers.{IsOf}
 use Rattle.fm_object.specs.Texts.{IsName}
 use Rattle.fm_object.specs.declared.image.Cell.{Cell}
 use Rattle.fm_verify_law.specs.Shapes.{loop_in, loop_of, loops_of}
 use Rattle.fm_verify_law.specs.Typed.{HasType, CellsAreTyped, AreApart, Rise, BeginAt}
-use Rattle.fm_verify.specs.ImageOf.{back_of, cell_image, heading_number, kind_number, type_number}
 
 never : true ≡ false → ⊥
 never e = absurd cc
@@ -73,16 +74,16 @@ back_none : (v : Variable) → v.formal ≡ 0 → back_of v ≡ 0
 back_none v none = ap (λ b. cond b 0 (cond v.input 0 1)) (eq-eqb v.formal 0 none)
 
 -- the type of a port is one of those that there are
-abbrev pub IsNumbered : List PortFields → Variable → Type 0
+abbrev pub IsNumbered : List (List FieldImage) → Variable → Type 0
 IsNumbered ts v = (t : PortFields) → IsOf (kind_of v.kind) t → number_in ts t < length ts
 
-kind_typed : (ts : List PortFields) (k : FieldKind) → ((t : PortFields) → IsOf k t → number_in ts t < length ts) → HasType (kind_number k) (type_number ts k) (length ts)
+kind_typed : (ts : List (List FieldImage)) (k : FieldKind) → ((t : PortFields) → IsOf k t → number_in ts t < length ts) → HasType (kind_number k) (type_number ts k) (length ts)
 kind_typed ts Integer h = refl
 kind_typed ts Logical h = refl
 kind_typed ts (In p) h = h p refl
 kind_typed ts (Out p) h = h p refl
 
-pub cells_typed : (ts : List PortFields) (w : ℕ) (vs : List Variable) → AreLaidOut w vs → AllIn (λ (v : Variable). 0 < v.words) vs → AllIn (λ (v : Variable). IsName v.name) vs → AllIn (IsNumbered ts) vs → w + words_among vs ≤ 65536
+pub cells_typed : (ts : List (List FieldImage)) (w : ℕ) (vs : List Variable) → AreLaidOut w vs → AllIn (λ (v : Variable). 0 < v.words) vs → AllIn (λ (v : Variable). IsName v.name) vs → AllIn (IsNumbered ts) vs → w + words_among vs ≤ 65536
     → CellsAreTyped (length ts) w (map (cell_image ts) vs)
 cells_typed ts w [] laid some named numbered few = omega (arith, few)
 cells_typed ts w (v ∷ vs) laid some named numbered few = (
@@ -128,7 +129,7 @@ module _ (p : Program) (number : ℕ) (u : ProgramUnit) (here : unit_at p number
       let os = variables_among titles u.tree.heading.stmt s s.first in
       apart_laid s 0 os (variables_distinct titles u.tree rules.clean) a b v w (subst (λ (n : UnitNames). slice_get n.variables a ≡ Some v) rules.names_are x) (subst (λ (n : UnitNames). slice_get n.variables b ≡ Some w) rules.names_are y) e)
 
-  pub names_apart : (ts : List PortFields) → AreApart (map (cell_image ts) u.names.variables)
+  pub names_apart : (ts : List (List FieldImage)) → AreApart (map (cell_image ts) u.names.variables)
   names_apart ts a b c d x y e =
       let v = from_map (cell_image ts) u.names.variables a c x in
       let w = from_map (cell_image ts) u.names.variables b d y in

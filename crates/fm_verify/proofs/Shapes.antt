@@ -1,39 +1,30 @@
 -- What an image of a program says of its units and types is what kinds are told by.
-use Rattle.std.proofs.Common.{◌≡◌, ℕ, suc, Bool, true, false, cond, ◌&&◌, not, Option, Some, None, List, [], ◌∷◌, length, map, refl, arith}
+use Rattle.std.proofs.Common.{◌≡◌, Bool, true, false, cond, ◌&&◌, not, List, [], ◌∷◌, length, map, refl, arith}
 use Rattle.std.specs.Prelude.{◌==◌}
-use Rattle.fm_tree.specs.PortFields.{PortFields, FieldKind, NoFields, FieldThen, Integer, Logical, In, Out}
 use Rattle.fm_tree.specs.PortReading.{kind_of}
 use Rattle.fm_tree.specs.declared.form.UnitKind.{UnitKind}
 use Rattle.fm_tree.specs.declared.form.UnitKind.TheVariants as unit_kind
-use Rattle.fm_tree.specs.declared.port_type.Bound.{Bound}
 use Rattle.fm_tree.specs.declared.program_unit.Unit as tree
 use Rattle.fm_symbols.specs.Headings.{heading_kind}
 use Rattle.fm_symbols.specs.declared.names.UnitNames.{UnitNames}
 use Rattle.fm_symbols.specs.declared.names.Variable.{Variable}
-use Rattle.fm_rules.specs.PortTypes.{sizing_place}
 use Rattle.fm_rules.specs.declared.program.Program.{Program}
-use Rattle.fm_mean.specs.Fits.{elements_in}
 use Rattle.fm_code.specs.declared.code.Code.{Code}
 use Rattle.fm_code.specs.declared.code.Unit as code_unit
 use Rattle.fm_object.specs.declared.image.FieldImage.{FieldImage}
-use Rattle.fm_gen_kinds.specs.Types.{sort_by, field_by, fields_by, types_of}
+use Rattle.fm_gen_kinds.proofs.TypeNumbers.{sorts_alike}
 use Rattle.fm_gen_kinds.specs.Units as program
 use Rattle.fm_gen_kinds.specs.Units.{cell_by, cells_by, heading_by, shape_by, shapes_by}
-use Rattle.fm_verify_law.specs.Shapes.{sort_of, heading_of, cell_of, field_of, shape_of, shapes_of}
-use Rattle.fm_verify.specs.ImageOf.{kind_number, type_number, field_with, fields_image, cell_image, heading_number, unit_image, units_image, image_of}
-
-sorts_alike : (ts : List PortFields) (k : FieldKind) → sort_of (kind_number k) (type_number ts k) ≡ sort_by ts k
-sorts_alike ts Integer = refl
-sorts_alike ts Logical = refl
-sorts_alike ts (In p) = refl
-sorts_alike ts (Out p) = refl
+use Rattle.fm_verify_law.specs.Shapes.{heading_of, cell_of, field_of, shape_of, shapes_of}
+use Rattle.fm_image.specs.ImageOf.{cell_image, heading_number, image_of, unit_image, units_image}
+use Rattle.fm_image.specs.Types.{types_of}
 
 backs_alike : (formal input : Bool) → (cond formal 0 (cond input 0 1) == 1) ≡ (not formal && not input)
 backs_alike true input = refl
 backs_alike false true = refl
 backs_alike false false = refl
 
-cell_alike : (ts : List PortFields) (v : Variable) → cell_of (cell_image ts v) ≡ cell_by ts v
+cell_alike : (ts : List (List FieldImage)) (v : Variable) → cell_of (cell_image ts v) ≡ cell_by ts v
 cell_alike ts v = λ i. record {
   sort = sorts_alike ts (kind_of v.kind) i;
   first = v.first;
@@ -42,7 +33,7 @@ cell_alike ts v = λ i. record {
   back = backs_alike (v.formal == 0) v.input i;
 }
 
-cells_alike : (ts : List PortFields) (vs : List Variable) → map cell_of (map (cell_image ts) vs) ≡ cells_by ts vs
+pub cells_alike : (ts : List (List FieldImage)) (vs : List Variable) → map cell_of (map (cell_image ts) vs) ≡ cells_by ts vs
 cells_alike ts [] = refl
 cells_alike ts (v ∷ vs) = λ i. cell_alike ts v i ∷ cells_alike ts vs i
 
@@ -53,22 +44,10 @@ headings_alike unit_kind.Subroutine = refl
 headings_alike unit_kind.Function = refl
 
 -- a unit's image has its shape
-pub shape_alike : (ts : List PortFields) (u : tree.Unit) (n : UnitNames) (c : code_unit.Unit) → shape_of (unit_image ts u n c) ≡ shape_by ts (record { tree = u; names = n })
+pub shape_alike : (ts : List (List FieldImage)) (u : tree.Unit) (n : UnitNames) (c : code_unit.Unit) → shape_of (unit_image ts u n c) ≡ shape_by ts (record { tree = u; names = n })
 shape_alike ts u n c = λ i. record { heading = headings_alike (heading_kind u.heading.stmt) i; cells = cells_alike ts n.variables i }
 
-field_alike : (ts : List PortFields) (k : FieldKind) (bounds : List Bound) (o : Option ℕ) → field_of (field_with ts k bounds o) ≡ field_by ts k bounds o
-field_alike ts k bounds None = λ i. record { sort = sorts_alike ts k i; words = elements_in bounds; size = 0 }
-field_alike ts k bounds (Some place) = λ i. record { sort = sorts_alike ts k i; words = 0; size = suc place }
-
-pub fields_alike : (ts : List PortFields) (t : PortFields) → map field_of (fields_image ts t) ≡ fields_by ts t
-fields_alike ts NoFields = refl
-fields_alike ts (FieldThen k name bounds rest) = λ i. field_alike ts k bounds (sizing_place bounds) i ∷ fields_alike ts rest i
-
-types_alike : (ts us : List PortFields) → map (λ (fs : List FieldImage). map field_of fs) (map (fields_image ts) us) ≡ map (fields_by ts) us
-types_alike ts [] = refl
-types_alike ts (t ∷ us) = λ i. fields_alike ts t i ∷ types_alike ts us i
-
-units_alike : (ts : List PortFields) (us : List tree.Unit) (ns : List UnitNames) (cs : List code_unit.Unit) → length cs ≡ length us → map shape_of (units_image ts us ns cs) ≡ shapes_by ts us ns
+units_alike : (ts : List (List FieldImage)) (us : List tree.Unit) (ns : List UnitNames) (cs : List code_unit.Unit) → length cs ≡ length us → map shape_of (units_image ts us ns cs) ≡ shapes_by ts us ns
 units_alike ts [] ns cs e = refl
 units_alike ts (u ∷ us) [] cs e = refl
 units_alike ts (u ∷ us) (n ∷ ns) [] e = absurd (omega (arith, e))
@@ -78,6 +57,5 @@ units_alike ts (u ∷ us) (n ∷ ns) (c ∷ cs) e = let more = units_alike ts us
 pub shapes_alike : (p : Program) (c : Code) → length c.units ≡ length p.units.units → shapes_of (image_of p c) ≡ program.shapes_of p
 shapes_alike p c e =
     let ts = types_of p in
-    let types = types_alike ts ts in
     let units = units_alike ts p.units.units p.names.units c.units e in
-    λ i. record { types = types i; units = units i }
+    λ i. record { types = map (λ (fs : List FieldImage). map field_of fs) ts; units = units i }
