@@ -11,7 +11,7 @@ pub(crate) struct Row {
     text: &'static [u8],
 }
 
-pub(crate) const ROWS: [Row; 13] = [
+const ROWS: [Row; 13] = [
     Row {
         source: b"C     The primes up to 60, by the sieve of Eratosthenes.
       PROGRAM SIEVE
@@ -455,9 +455,14 @@ C     it.
     },
 ];
 
+/// The programs. A constant is proved anew wherever it is named; the table is named here alone.
+pub(crate) fn rows() -> &'static [Row] {
+    &ROWS
+}
+
 #[test]
 fn examples_write_their_output(rt: HostRuntime) -> Result<(), Fail> {
-    for (i, row) in ROWS.iter().enumerate() {
+    for (i, row) in rows().iter().enumerate() {
         let (ran, text) = answer(rt.alloc(), &["run"], row.source)?;
         assert_eq!(rt; text.as_slice(), row.text, "row {i}");
         assert_eq!(rt; ran.exit, row.exit, "row {i}");

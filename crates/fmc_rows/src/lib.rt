@@ -24,6 +24,8 @@ mod pieces;
 #[cfg(test)]
 mod placement;
 #[cfg(test)]
+mod plain;
+#[cfg(test)]
 mod pools;
 #[cfg(test)]
 mod programs;

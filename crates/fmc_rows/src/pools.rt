@@ -4,7 +4,7 @@
 ghost use Rattle.std.specs.Thread.{IsSync};
 
 use crate::answers::{answer, answer_by};
-use crate::programs::{RUNS, Row};
+use crate::programs::{Row, run_rows};
 use fm_base::NoMemory;
 use fm_hub_pool::HubPool;
 use fm_machine::Done;
@@ -222,7 +222,7 @@ fn is_answered<W: Workers<Table>>(alloc: Global, row: &Row, workers: &W) -> Resu
 fn first_wrong<W: Workers<Table>>(alloc: Global, workers: &W) -> Result<Option<usize>, Fail>
     requires { W.crosses }
 {
-    'rows: for (number, row) in RUNS.iter().enumerate() {
+    'rows: for (number, row) in run_rows().iter().enumerate() {
         if !is_answered(alloc, row, workers)? {
             return Ok(Some(number));
         }

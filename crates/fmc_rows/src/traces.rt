@@ -1,7 +1,7 @@
 //! Traces of runs, and what they are replayed to.
 
 use crate::answers::answer;
-use crate::examples::ROWS as EXAMPLES;
+use crate::examples;
 use fmc::Exit;
 use std::alloc::Global;
 use std::test::Fail;
@@ -170,7 +170,7 @@ fn least_program_is_traced(rt: HostRuntime) -> Result<(), Fail> {
 #[test]
 fn examples_are_replayed(rt: HostRuntime) -> Result<(), Fail> {
     let alloc = rt.alloc();
-    for (i, row) in EXAMPLES.iter().enumerate() {
+    for (i, row) in examples::rows().iter().enumerate() {
         let (run, told) = answer(alloc, &["run", "--vars"], row.source)?;
         let (traced, trace) = answer(alloc, &["trace", "--vars"], row.source)?;
         let (replayed, text) = answer(alloc, &["replay", "--vars"], &trace)?;

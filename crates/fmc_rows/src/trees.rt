@@ -58,21 +58,21 @@ fn first_other(alloc: Global, source: &[u8], exit: Exit) -> Result<Option<u32>, 
 
 #[test]
 fn trees_tell_the_same(rt: HostRuntime) -> Result<(), Fail> {
-    for (i, row) in language::ROWS.iter().enumerate() {
+    for (i, row) in language::rows().iter().enumerate() {
         assert_eq!(rt;
             first_other(rt.alloc(), row.source, row.exit)?,
             None,
             "language row {i}"
         );
     }
-    for (i, row) in programs::RUNS.iter().enumerate() {
+    for (i, row) in programs::run_rows().iter().enumerate() {
         assert_eq!(rt;
             first_other(rt.alloc(), row.source, row.exit)?,
             None,
             "programs row {i}"
         );
     }
-    for (i, row) in examples::ROWS.iter().enumerate() {
+    for (i, row) in examples::rows().iter().enumerate() {
         assert_eq!(rt;
             first_other(rt.alloc(), row.source, row.exit)?,
             None,
