@@ -1,10 +1,12 @@
 -- How many children have ended, told by their numbers.
-use Rattle.std.proofs.Common.{◌≡◌, ℕ, ◌+◌, ◌-◌, ◌<◌, ◌≤◌, Bool, true, false, Some, refl, sym, ap, ◌∙◌, arith}
+use Rattle.std.proofs.Common.{◌≡◌, ◌⊎◌, inl, inr, ℕ, ◌+◌, ◌-◌, ◌<◌, ◌≤◌, Bool, true, false, refl, sym, ap, ◌∙◌, arith}
+use Rattle.std.proofs.lemmas.Bool.{cases_lt}
 use Rattle.std.specs.Prelude.{is_some}
 use Rattle.std.specs.FinMap.{get}
 use Rattle.fm_net.specs.Endings.{IsCounted}
 use Rattle.fm_net.specs.Machine.{Place, child, gathered}
 use Rattle.fm_net_procs.specs.declared.entries.Entries.{Entries}
+use Rattle.fm_net_procs.specs.Awaited.{EndedSoFar, HaveEnded, child_ended}
 use Rattle.fm_net_procs.specs.Kept.{AreChildren}
 use Rattle.fm_net_procs.specs.Readings.{ended_at, order_of, over_in, procs_of}
 use Rattle.fm_net_procs.proofs.Families.{child_number}
@@ -31,6 +33,19 @@ module _ {P L X : Type 0} (seen : P → X) (over : P → Bool) (has_ended : X �
           let inside : k < count = omega (arith, less, low, c.high) in
           sym (child_over k inside) ∙ c.ended k low less) known
 
-      -- where there are more, not all have
+      -- where there are more, the next one hasn't, and so not all have
+      pub counted_next : n < count → child_ended has_ended (procs_of seen x) q b (n + 1) ≡ false
+      counted_next low = sym (child_over n low) ∙ c.next low
+
       pub counted_all : n < count → is_some (gathered has_ended (procs_of seen x) q b 1 count) ≡ false
-      counted_all low = not_all_ended has_ended (procs_of seen x) q b n count low (sym (child_over n low) ∙ c.next low)
+      counted_all low = not_all_ended has_ended (procs_of seen x) q b n count low (counted_next low)
+
+      pub counted_so_far : HaveEnded (child_ended has_ended (procs_of seen x) q) b count before → EndedSoFar (child_ended has_ended (procs_of seen x) q) b count n
+      counted_so_far known = record { first = record { within = within; ended = λ i low. each i low (cases_lt i before) }; next = counted_next }
+        where
+          within : n ≤ count
+          within = counted_within c known.within
+
+          each : (i : ℕ) → i < n → (i < before) ⊎ (before ≤ i) → child_ended has_ended (procs_of seen x) q b (i + 1) ≡ true
+          each i low (inl early) = known.ended i early
+          each i low (inr late) = sym (child_over i (omega (arith, low, within))) ∙ c.ended i late low

@@ -2,6 +2,7 @@ pub mod Maps
 pub mod Families
 pub mod Family
 pub mod Counting
+pub mod Awaiting
 pub mod Listed
 pub mod Steps
 pub mod Slices

@@ -1,5 +1,5 @@
 -- In a lawful language what a process makes next is new.
-use Rattle.std.proofs.Common.{◌≡◌, ◌<◌, ◌≤◌, ℕ, Option, Some, None, replicate, refl, ap, subst, arith}
+use Rattle.std.proofs.Common.{◌≡◌, ℕ, Option, Some, None, replicate, refl, ap, subst, arith}
 use Rattle.std.specs.FinMap.{get}
 use Rattle.fm_base.specs.Channels.{Chan}
 use Rattle.fm_finmap.specs.Sums.{value_or_zero}

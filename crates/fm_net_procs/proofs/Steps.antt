@@ -16,7 +16,7 @@ use Rattle.fm_net_procs.specs.Kept.{AreChildren, HasFamily, count_awaited}
 use Rattle.fm_net_procs.specs.Pieces.{Makes}
 use Rattle.fm_net_procs.specs.Waiting.{JoinsBlock, channel_needed, channel_popped, channel_waited, need_in, need_of}
 
-some_map : {A B : Type 0} (f : A → B) (o : Option A) → is_some (option_map f o) ≡ is_some o
+pub some_map : {A B : Type 0} (f : A → B) (o : Option A) → is_some (option_map f o) ≡ is_some o
 some_map f None = refl
 some_map f (Some x) = refl
 

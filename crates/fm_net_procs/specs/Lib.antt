@@ -1,5 +1,6 @@
 pub mod Readings
 pub mod Kept
+pub mod Awaited
 pub mod Waiting
 pub mod Pieces
 pub mod Stepping

@@ -5,7 +5,7 @@ use Rattle.std.specs.FinMap.{get}
 use Rattle.fm_base.specs.Channels.{Chans}
 use Rattle.fm_sched.specs.Schedule.{play, IsLegal, Leads}
 use Rattle.fm_net.specs.Language.{Language, language_step}
-use Rattle.fm_net.specs.Machine.{Place, State, Need, New, child}
+use Rattle.fm_net.specs.Machine.{Place, State, New, child}
 use Rattle.fm_net.specs.Starts.{child_places, starts_along, starts_at}
 use Rattle.fm_net_procs.specs.declared.piece.Piece.{Piece}
 use Rattle.fm_net_procs.specs.Waiting.{need_of}

@@ -8,6 +8,7 @@ ghost use Rattle.fm_finmap.specs.Rows.{numbered_map, place_at};
 ghost use Rattle.fm_net.specs.Machine.{Place, State, child, child_changes, gathered, start_changes};
 ghost use Rattle.fm_net.specs.Starts.{child_places};
 ghost use Rattle.fm_net_procs.specs.declared.entries.Entry as declared_entry;
+ghost use Rattle.fm_net_procs.specs.Awaited.{AreKnown, EndedSoFar, HasOneLeft, HaveEnded, IsAwaited, child_ended};
 ghost use Rattle.fm_net_procs.specs.Kept.{AreChildren, AreFamilies, AreFamiliesBut, AreToldBut, HasFamily, count_awaited};
 ghost use Rattle.fm_net_procs.specs.Readings.{IsActor, actor_place, ended_at, order_of, proc_in, procs_of};
 
@@ -17,6 +18,15 @@ use fm_base::NoMemory;
 use fm_net::{Endings, Family, child_path, count_ended, number_behind};
 use std::alloc::Global;
 use std::sync::Arc;
+
+/// What is known of the children that a process waits for.
+#[derive(Clone, Copy)]
+pub struct Awaited {
+    /// How many of them are known to have ended, from the first on.
+    pub ended: usize,
+    /// Whether it waits for one of them still.
+    pub waits: bool,
+}
 
 impl<L: Drop, P: Proc<Look = L>> Endings for Entries<P, L> {
     ghost use Rattle.fm_net_procs.specs.Readings.{over_in};
@@ -57,6 +67,10 @@ impl<L: Drop, P: Proc<Look = L>> Entries<P, L> {
             is_some (gathered (P.language p).has_ended (procs_of (P.seen p) self.now) q b 1 r) ≡ true) }
         ensures not_all { IfOk result (λ r. (p : P.Program) (q : Place) (b : ℕ) → AreChildren (order_of self.now) family.first q b family.count →
             r < family.count → is_some (gathered (P.language p).has_ended (procs_of (P.seen p) self.now) q b 1 family.count) ≡ false) }
+        ensures next { IfOk result (λ r. (p : P.Program) (q : Place) (b : ℕ) → AreChildren (order_of self.now) family.first q b family.count →
+            r < family.count → child_ended (P.language p).has_ended (procs_of (P.seen p) self.now) q b (r + 1) ≡ false) }
+        ensures so_far { IfOk result (λ r. (p : P.Program) (q : Place) (b : ℕ) → AreChildren (order_of self.now) family.first q b family.count →
+            HaveEnded (child_ended (P.language p).has_ended (procs_of (P.seen p) self.now) q) b family.count from → EndedSoFar (child_ended (P.language p).has_ended (procs_of (P.seen p) self.now) q) b family.count r) }
     {
         count_ended(self, family, from)
     }
@@ -80,6 +94,22 @@ impl<L: Drop, P: Proc<Look = L>> Entries<P, L> {
             Some(entry) => entry.family(),
             None => Family::new(0, 0),
         }
+    }
+
+    /// What is known of the children that the process of a number waits for, where so many of them, from the first on, are
+    /// known to have ended.
+    pub fn awaited(&self, number: u32, before: usize) -> Result<Awaited, NoMemory>
+        ensures told { IfOk result (λ r. (p : P.Program) (q : Place) (y : P.Seen) → AreFamilies (P.seen p) P.awaits self.now → place_at self.now.rows number ≡ Some q → get (procs_of (P.seen p) self.now) q ≡ Some y →
+            AreKnown (child_ended (P.language p).has_ended (procs_of (P.seen p) self.now) q) (P.awaits y) before → IsAwaited (child_ended (P.language p).has_ended (procs_of (P.seen p) self.now) q) (P.awaits y) r) }
+        ensures left { IfOk result (λ r. (p : P.Program) (q : Place) (y : P.Seen) → AreFamilies (P.seen p) P.awaits self.now → place_at self.now.rows number ≡ Some q → get (procs_of (P.seen p) self.now) q ≡ Some y →
+            r.waits ≡ true → HasOneLeft (child_ended (P.language p).has_ended (procs_of (P.seen p) self.now) q) (P.awaits y)) }
+    {
+        let family = self.family(number);
+        let ended = self.count_ended(family, before)?;
+        Ok(Awaited {
+            ended,
+            waits: ended < family.count,
+        })
     }
 
     /// The number of the block that a process starts next.

@@ -75,6 +75,16 @@ impl<L: Drop, P: Proc<Look = L>> Entries<P, L> {
         }
     }
 
+    /// A copy of the path of a number, if it's one of a process.
+    pub fn path_of(&self, alloc: Global, number: u32) -> Result<Option<Path>, NoMemory>
+        ensures { IfOk result (λ o. o ≡ place_at self.now.rows number) }
+    {
+        match self.rows.path(number) {
+            Some(path) => Ok(Some(path.copy(alloc)?)),
+            None => Ok(None),
+        }
+    }
+
     /// The process of a number, as one that makes a piece.
     pub fn actor(&self, number: u32) -> Result<Actor, NoMemory>
         requires { is_some (place_at self.now.rows number) ≡ true }

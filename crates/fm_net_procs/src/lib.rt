@@ -17,7 +17,9 @@ mod processes;
 mod ready;
 mod stepping;
 
+pub use children::Awaited;
 pub use entries::{Actor, Entries, Entry};
 pub use piece::{Advanced, Done, Piece, Stop};
+pub use pieces::local_piece;
 pub use process::{JoiningProc, Proc};
 pub use processes::Processes;

@@ -2,7 +2,6 @@
 
 ghost use Rattle.std.specs.Prelude.{◌≡◌, ◌≤◌, ◌+◌, ◌++◌, true, is_some, Some, None, IfOk, OnOk};
 ghost use Rattle.std.specs.FinMap.{get};
-ghost use Rattle.fm_chan.specs.Bodies.{chans_of};
 ghost use Rattle.fm_chan.specs.Woken.{WakesAll};
 ghost use Rattle.fm_net.specs.Language.{language_step};
 ghost use Rattle.fm_net.specs.Starts.{child_places};
@@ -18,7 +17,8 @@ use crate::stepping::Stepped;
 use fm_base::NoMemory;
 use std::alloc::Global;
 
-fn local_piece(steps: u32, cost: u64) -> Piece
+/// So many steps of a process, which start nobody, at this cost.
+pub fn local_piece(steps: u32, cost: u64) -> Piece
     ensures { result ≡ record { steps = steps; cost = cost; block = 0; started = 0 } }
 {
     Piece {

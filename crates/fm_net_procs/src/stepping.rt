@@ -1,11 +1,10 @@
 //! One event of a process, with the children that it starts and those that it joins.
 
-ghost use Rattle.std.specs.Prelude.{◌≡◌, ◌++◌, ◌≤◌, true, false, is_some, Some, None, [], map, IfOk, OnOk};
+ghost use Rattle.std.specs.Prelude.{◌≡◌, ◌++◌, ◌≤◌, true, false, is_some, Some, None, map, IfOk, OnOk};
 ghost use Rattle.std.specs.FinMap.{get, insert};
 ghost use Rattle.fm_chan.specs.Bodies.{chans_of};
 ghost use Rattle.fm_chan.specs.Woken.{WakesAll};
 ghost use Rattle.fm_net.specs.Language.{language_step};
-ghost use Rattle.fm_net.specs.Machine.{Place};
 ghost use Rattle.fm_net.specs.Starts.{child_places, starts_at};
 ghost use Rattle.fm_net_procs.specs.Kept.{AreFamilies, AreFamiliesBut, AreToldBut};
 ghost use Rattle.fm_net_procs.specs.Pieces.{IsNewAt};

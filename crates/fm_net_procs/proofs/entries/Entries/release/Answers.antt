@@ -1,4 +1,4 @@
-use Rattle.std.proofs.Common.{◌≡◌, Some, None, ap, sym, subst, inr, ◌∙◌}
+use Rattle.std.proofs.Common.{Some, None, ap, sym, subst, inr, ◌∙◌}
 use Rattle.std.specs.Prelude.{option_map}
 use Rattle.fm_finmap.specs.Rows.{numbered_map, places}
 use Rattle.fm_net_procs.specs.Readings.{ended_at, order_of, procs_of}

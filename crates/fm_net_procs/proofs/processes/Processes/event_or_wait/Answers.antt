@@ -6,7 +6,7 @@ use Rattle.fm_chan.specs.Bodies.{chans_of}
 use Rattle.fm_chan.proofs.Waking.{wakes_nobody}
 use Rattle.fm_net.specs.Starts.{child_places}
 use Rattle.fm_net_procs.specs.declared.piece.Piece.{Piece}
-use Rattle.fm_net_procs.specs.Readings.{actor_place, order_of, procs_of, state_of}
+use Rattle.fm_net_procs.specs.Readings.{actor_place, order_of, state_of}
 use Rattle.fm_net_procs.specs.Waiting.{can_in}
 use Rattle.fm_net_procs.proofs.processes.Processes.event_or_wait.Goals as goal
 

@@ -1,8 +1,6 @@
-use Rattle.std.proofs.Common.{◌≡◌, ℕ, false, Option, Some, None, refl, sym, ap, ◌∙◌}
+use Rattle.std.proofs.Common.{Some, sym, ap, ◌∙◌}
 use Rattle.std.proofs.lemmas.Result.{IfOk-weaker}
-use Rattle.fm_net.specs.Machine.{Place}
-use Rattle.fm_finmap.specs.Rows.{place_at}
-use Rattle.fm_net_procs.specs.Readings.{order_of, proc_in, state_of}
+use Rattle.fm_net_procs.specs.Readings.{proc_in, state_of}
 use Rattle.fm_net_procs.specs.Waiting.{can_in}
 use Rattle.fm_net_procs.proofs.Maps.{found, placed, there}
 use Rattle.fm_net_procs.proofs.Nobody.{nobody_can}

@@ -1,4 +1,4 @@
-use Rattle.std.proofs.Common.{◌≡◌, ◌++◌, false, List, Some, None, inl, ap, sym, subst, ◌∙◌}
+use Rattle.std.proofs.Common.{◌≡◌, ◌++◌, false, List, inl, ap, sym, subst, ◌∙◌}
 use Rattle.std.proofs.lemmas.Result.{IfOk-weaker}
 use Rattle.std.specs.Prelude.{IfSome, is_some, slice_get}
 use Rattle.std.specs.FinMap.{get}
@@ -7,7 +7,7 @@ use Rattle.fm_net.specs.Language.{language_step}
 use Rattle.fm_net.specs.Machine.{Place}
 use Rattle.fm_net.specs.Starts.{child_places}
 use Rattle.fm_net_procs.specs.Pieces.{IsNewAlong, IsNewAt, IsPiece, StepsOrWaits, is_local_in}
-use Rattle.fm_net_procs.specs.Readings.{actor_place, procs_of, state_of}
+use Rattle.fm_net_procs.specs.Readings.{actor_place, state_of}
 use Rattle.fm_net_procs.proofs.Slices.{one_piece}
 use Rattle.fm_net_procs.proofs.Steps.{steps_there}
 use Rattle.fm_net_procs.proofs.processes.Processes.make_piece.Goals as goal

@@ -1,11 +1,11 @@
-use Rattle.std.proofs.Common.{Some, ap, arith, length, List, map, refl, subst, sym, ℕ, ◌++◌, ◌∙◌, ◌≡◌}
+use Rattle.std.proofs.Common.{Some, ap, arith, length, List, map, subst, sym, ℕ, ◌++◌, ◌∙◌, ◌≡◌}
 use Rattle.std.proofs.lemmas.List.{length-map}
 use Rattle.std.specs.Prelude.{slice_get}
 use Rattle.std.specs.FinMap.{get, insert}
 use Rattle.fm_chan.specs.Bodies.{chans_of}
 use Rattle.fm_finmap.specs.Changes.{alters}
 use Rattle.fm_finmap.proofs.Inserts.{insert_here, insert_there}
-use Rattle.fm_net.specs.Machine.{Place, Procs, State, child, start_changes}
+use Rattle.fm_net.specs.Machine.{Place, child, start_changes}
 use Rattle.fm_net.specs.Starts.{child_places}
 use Rattle.fm_net.proofs.Children.{not_own_child}
 use Rattle.fm_net.proofs.Keys.{path_order}
