@@ -8,15 +8,12 @@ use Rattle.fm_chan.specs.Received.{pops_at}
 use Rattle.fm_net.specs.Machine.{Place, State, Need, Nothing, Event, New, Children, Ask, Stop, Go, act, act_of, reply_at, gathered, served, served_at, finished}
 use Rattle.fm_net.specs.Owned.{IsOwned}
 use Rattle.fm_net.proofs.Holders.{event_channel}
+use Rattle.fm_net_procs.proofs.Steps.{some_map}
 use Rattle.fm_rules.specs.declared.program.Program.{Program}
 use Rattle.fm_mean.specs.Process.{Proc, has_ended, emptied}
 use Rattle.fm_mean.specs.Outcome.{need_in, need_of}
 use Rattle.fm_mean.specs.Steps.{ask, language, step}
 use Rattle.fm_mean.proofs.Lawful.{lawful}
-
-pub some_map : {A B : Type 0} (f : A → B) (o : Option A) → is_some (option_map f o) ≡ is_some o
-some_map f None = refl
-some_map f (Some x) = refl
 
 pub pops_served : (limits : Limits) (o : Option Chan) → is_some (served_at {Proc = Proc} (Pop limits) o) ≡ pops_at o
 pops_served limits None = refl

@@ -3,6 +3,7 @@ pub mod Able
 pub mod Numbers
 pub mod Results
 pub mod Playing
+pub mod Awaiting
 pub mod Firsts
 pub mod Following
 pub mod Others

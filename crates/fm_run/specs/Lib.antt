@@ -1,4 +1,5 @@
 pub mod Pieces
+pub mod Awaited
 pub mod Entries
 pub mod Orders
 pub mod Noted

@@ -1,6 +1,6 @@
 //! Who became able to step by a piece of a process, and who is noted then.
 
-ghost use Rattle.std.specs.Prelude.{◌≡◌, ◌≢◌, ◌≤◌, ◌<◌, ◌++◌, ◌∷◌, ◌==◌, ◌&&◌, ℕ, true, false, cond, not, [], Some, List, Contains, filter, is_some, length, option_to_list, slice_get, slice_index_or, IfOk, OnErr, OnOk};
+ghost use Rattle.std.specs.Prelude.{◌≡◌, ◌≢◌, ◌↔◌, ◌≤◌, ◌<◌, ◌++◌, ◌∷◌, ◌==◌, ◌&&◌, ℕ, true, false, cond, not, [], Some, List, Contains, filter, is_some, length, option_to_list, slice_get, slice_index_or, IfOk, OnErr, OnOk};
 ghost use Rattle.std.specs.FinMap.{get};
 ghost use Rattle.std.specs.List.{range_with_len};
 ghost use Rattle.std.specs.List.Sorted.{IsNonDecreasing};
@@ -12,10 +12,11 @@ ghost use Rattle.fm_rules.specs.declared.program.Program as declared;
 ghost use Rattle.fm_mean.specs.Outcome.{ended_at};
 ghost use Rattle.fm_mean.specs.Process.{Proc};
 ghost use Rattle.fm_mean.specs.Steps.{language, step};
+ghost use Rattle.fm_run.specs.Awaited.{AreKnown, HasOneLeft};
 ghost use Rattle.fm_run.specs.Noted.{AreNotedBut, IsNoted, OwnOrLeft};
 ghost use Rattle.fm_run.specs.Orders.{Among, AreMarked, EachOnce, KeepsFront, can_at, newly, others_in};
 
-use crate::net::{Awaited, Net};
+use crate::net::Net;
 use crate::orders::Queue;
 use fm_base::NoMemory;
 use fm_rules::Program;
@@ -70,12 +71,15 @@ fn as_count(known: usize) -> Result<u32, NoMemory>
 // Whether the process of a number doesn't wait for a child that hasn't ended. The children that have ended,
 // from the first on, are counted, and aren't looked at again.
 fn awaits_nobody<N: Net>(net: &N, ended: &mut [u32], number: u32) -> Result<bool, NoMemory>
-    ensures { IfOk result (λ r. (p : declared.Program) → N.IsSound p net.now → can_at p (N.state p net.now) (N.order net.now) number ≡ true → r ≡ true) }
+    ensures able { IfOk result (λ r. (p : declared.Program) → N.IsSound p net.now → can_at p (N.state p net.now) (N.order net.now) number ≡ true → r ≡ true) }
+    ensures left { IfOk result (λ r. (p : declared.Program) (q : Place) (x : Proc) → N.IsSound p net.now → slice_get (N.order net.now) number ≡ Some q → get (N.state p net.now).procs q ≡ Some x
+        → AreKnown (N.state p net.now) q x (slice_index_or ended.old number 0) → (r ≡ false) ↔ HasOneLeft (N.state p net.now) q x) }
 {
     let before = count_at(ended, number);
-    let Awaited { ended: now, waits } = net.awaits(number, before as usize)?;
-    keep_count(ended, number, as_count(now)?);
-    Ok(!waits)
+    let known = net.awaits(number, before as usize)?;
+    let count = as_count(known.ended)?;
+    keep_count(ended, number, count);
+    Ok(!known.waits)
 }
 
 // The one that started the process of a number, if this has ended, and it waits for no other child.

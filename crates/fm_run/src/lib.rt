@@ -18,12 +18,12 @@ mod outside;
 mod player;
 mod run;
 
-pub use fm_net_procs::Piece;
+pub use fm_net_procs::{Awaited, Piece};
 pub use gathering::{
     Gathered, holders_in_order, join_of, push_lines, put_outport, variables_in_order,
 };
 pub use history::{History, put_piece};
-pub use net::{Awaited, Kind, Net};
+pub use net::{Kind, Net};
 pub use orders::Queue;
 pub use outside::OutsideNet;
 pub use player::Player;

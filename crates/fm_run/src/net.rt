@@ -15,6 +15,7 @@ ghost use Rattle.fm_rules.specs.declared.program.Program as declared;
 ghost use Rattle.fm_mean.specs.Outcome.{ended_at, outcome_of};
 ghost use Rattle.fm_mean.specs.Process.{Proc};
 ghost use Rattle.fm_mean.specs.Steps.{first, language, step};
+ghost use Rattle.fm_run.specs.Awaited.{AreKnown, IsAwaited};
 ghost use Rattle.fm_run.specs.Entries.{EndsWith, with_piece};
 ghost use Rattle.fm_run.specs.Noted.{IsNoted};
 ghost use Rattle.fm_run.specs.Orders.{can_at, places_of};
@@ -23,7 +24,7 @@ ghost use Rattle.fm_run.specs.Pieces.{IsPiece};
 use crate::history::History;
 use fm_base::{NoMemory, Path};
 use fm_mean::Outcome;
-use fm_net_procs::Piece;
+use fm_net_procs::{Awaited, Piece};
 use fm_rules::Program;
 use std::alloc::Global;
 use std::sync::Arc;
@@ -35,15 +36,6 @@ pub struct Kind {
     pub spare: bool,
     /// Whether it joins the last entry, which is of its process.
     pub joins: bool,
-}
-
-/// What is known of the children that a process waits for.
-#[derive(Clone, Copy)]
-pub struct Awaited {
-    /// How many of them are known to have ended, from the first on.
-    pub ended: usize,
-    /// Whether it waits for one of them still.
-    pub waits: bool,
 }
 
 /// The processes of a run by their numbers, in the order of starting, also those that have ended, with
@@ -137,9 +129,11 @@ pub trait Net: Drop {
         ensures { (p : declared.Program) (q : Place) → IsSound p self.now → slice_get (order self.now) number ≡ Some q → result ≡ ended_at (get (state p self.now).procs q) };
 
     /// What is known of the children that the process of a number waits for, where so many of them, from the
-    /// first on, are known to have ended. One that can step waits for nobody.
+    /// first on, are known to have ended: how many have, up to one that hasn't, and whether one hasn't. One that
+    /// can step waits for nobody.
     fn awaits(&self, number: u32, before: usize) -> Result<Awaited, NoMemory>
-        ensures { IfOk result (λ r. (p : declared.Program) → IsSound p self.now → can_at p (state p self.now) (order self.now) number ≡ true → r.waits ≡ false) };
+        ensures children { IfOk result (λ r. (p : declared.Program) (q : Place) (x : Proc) → IsSound p self.now → slice_get (order self.now) number ≡ Some q → get (state p self.now).procs q ≡ Some x → AreKnown (state p self.now) q x before → IsAwaited (state p self.now) q x r) }
+        ensures able { IfOk result (λ r. (p : declared.Program) → IsSound p self.now → can_at p (state p self.now) (order self.now) number ≡ true → r.waits ≡ false) };
 
     /// What the run shows when it has ended at this cost in turns.
     fn outcome(&self, alloc: Global, program: &Program, used: u64) -> Result<Outcome, NoMemory>
