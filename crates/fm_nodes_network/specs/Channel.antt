@@ -1,9 +1,10 @@
 -- A channel in memory as the two ends of its link.
 -- Source: this profile.
-use Rattle.std.specs.Prelude.{◌+◌, ◌^◌, ◌<◌, ◌≤◌}
+use Rattle.std.specs.Prelude.{◌+◌, ◌^◌, ◌<◌, ◌≤◌, Bool, true, false, Option, Some, None, List, [], ◌∷◌}
 use Rattle.fm_link.specs.Ends.{pushes, behind_first}
 use Rattle.fm_link.specs.Boxes.{outgoing_of, incoming_of, room_of}
-use Rattle.fm_link_law.specs.Channels.{LinkedChan}
+use Rattle.fm_link.specs.declared.load.Load.{Load}
+use Rattle.fm_link_law.specs.Channels.{LinkedChan, loads_left}
 use Rattle.fm_nodes_network.specs.declared.channel.Channel.{Channel}
 
 -- the two ends, and whether each lives, as plain data
@@ -18,3 +19,16 @@ with_first_taken l = record { outgoing = l.outgoing; incoming = behind_first l.i
 pub record HasRoom (c : Channel) : Type 0 where
   pub room : 2 ≤ room_of c.outbox
   pub few : pushes (outgoing_of c.outbox) + 1 < 2 ^ 63
+
+-- something is there
+abbrev pub is_some_left : List Load → Bool
+is_some_left [] = false
+is_some_left (x ∷ xs) = true
+
+-- a load was pushed that wasn't taken
+abbrev pub is_left : LinkedChan → Bool
+is_left l = is_some_left (loads_left l)
+
+abbrev pub is_left_at : Option LinkedChan → Bool
+is_left_at None = false
+is_left_at (Some l) = is_left l

@@ -1,6 +1,6 @@
 //! A channel: the two ends of its link.
 
-ghost use Rattle.std.specs.Prelude.{◌≡◌, ◌^◌, ◌<◌, ◌≤◌, ◌+◌, cond, true, map, IfOk, OnOk, OnErr, option_copied};
+ghost use Rattle.std.specs.Prelude.{◌≡◌, ◌^◌, ◌<◌, ◌≤◌, ◌+◌, ◌-◌, cond, true, map, IfOk, OnOk, OnErr, is_some, option_copied, slice_get};
 ghost use Rattle.fm_link.specs.Ends.{first_of, number_of, packet_of, pushes, with_load};
 ghost use Rattle.fm_link.specs.Boxes.{outgoing_of, room_of};
 
@@ -49,7 +49,7 @@ fn push(outbox: &mut Outbox, load: Load)
 impl Channel {
     ghost use Rattle.fm_base.specs.Channels.{Words};
     ghost use Rattle.fm_link_law.specs.Channels.{new_linked, pushed, closed, gone, packet_comes, ack_comes};
-    ghost use Rattle.fm_nodes_network.specs.Channel.{linked_of, with_first_taken, HasRoom};
+    ghost use Rattle.fm_nodes_network.specs.Channel.{is_left, linked_of, with_first_taken, HasRoom};
 
     /// A channel that was just made, with one writer or none. With none it is at its end.
     pub fn new(alloc: Global, has_writer: bool) -> Result<Channel, NoMemory>
@@ -109,6 +109,29 @@ impl Channel {
         ensures { option_copied result ≡ first_of (linked_of self.now).incoming }
     {
         self.inbox.first()
+    }
+
+    // Whether a load that waits at the writer's end hasn't arrived.
+    fn is_under_way(&self) -> bool
+        ensures { result ≡ is_some (slice_get (linked_of self.now).outgoing.waiting ((linked_of self.now).incoming.arrived - (linked_of self.now).outgoing.acknowledged)) }
+    {
+        match self.outbox.number(0) {
+            Some(first) => {
+                let ahead = self.inbox.ack().next.saturating_sub(first);
+                self.outbox.number(ahead as usize).is_some()
+            }
+            None => false,
+        }
+    }
+
+    /// Whether a load was pushed that wasn't taken. Takes no memory.
+    pub fn is_left(&self) -> bool
+        ensures { result ≡ is_left (linked_of self.now) }
+    {
+        match self.inbox.first() {
+            Some(_) => true,
+            None => self.is_under_way(),
+        }
     }
 
     /// Takes the oldest load that has arrived and wasn't taken. Takes no memory.

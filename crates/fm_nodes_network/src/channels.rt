@@ -1,11 +1,11 @@
 //! The channels by their names.
 
-ghost use Rattle.std.specs.Prelude.{◌≡◌, ◌^◌, ◌<◌, true, cond, map, Some, OnOk, OnErr, is_some, option_copied, option_map};
+ghost use Rattle.std.specs.Prelude.{◌≡◌, ◌^◌, ◌<◌, true, cond, map, Some, OnOk, OnErr, is_some, option_copied, option_map, slice_get};
 ghost use Rattle.std.specs.FinMap as finite;
 ghost use Rattle.fm_base.specs.Channels.{Words};
 ghost use Rattle.fm_finmap.specs.Changes.{adjust};
 ghost use Rattle.fm_link_law.specs.Channels.{LinkedChan, new_linked, pushed, closed, gone, packet_comes, ack_comes};
-ghost use Rattle.fm_nodes_network.specs.Channel.{linked_of, with_first_taken};
+ghost use Rattle.fm_nodes_network.specs.Channel.{is_left_at, linked_of, with_first_taken};
 
 use crate::channel::Channel;
 use fm_base::{ChanName, NoMemory, Seq};
@@ -42,6 +42,34 @@ impl Channels {
         ensures { option_map linked_of (option_copied result) ≡ finite.get (linked_chans_of self.now) name.now }
     {
         self.by_name.get(name)
+    }
+
+    /// How many there are. Takes no memory.
+    pub fn len(&self) -> usize
+        ensures { result ≡ finite.len (linked_chans_of self.now) }
+    {
+        self.by_name.len()
+    }
+
+    /// The name at a place, from 0, in the order of the makers' paths and then of the numbers; none where there are fewer. Takes no
+    /// memory.
+    pub fn name(&self, at: usize) -> Option<&ChanName>
+        ensures { option_copied result ≡ slice_get (map (λ e. e.0) (finite.entries (linked_chans_of self.now))) at }
+    {
+        match self.by_name.iter().nth(at) {
+            Some(entry) => Some(entry.0),
+            None => None,
+        }
+    }
+
+    /// Whether something was pushed into a channel that wasn't taken. Takes no memory.
+    pub fn is_left(&self, name: &ChanName) -> bool
+        ensures { result ≡ is_left_at (finite.get (linked_chans_of self.now) name.now) }
+    {
+        match self.get(name) {
+            Some(channel) => channel.is_left(),
+            None => false,
+        }
     }
 
     /// Whether there is a channel of a name.
