@@ -1,7 +1,8 @@
 -- For which children a process waits, by its phase.
-use Rattle.std.proofs.Common.{◌≡◌, ℕ, Option, Some, None, List, [], ◌∷◌, length, refl, sym, ap, ◌∙◌}
+use Rattle.std.proofs.Common.{◌≡◌, ℕ, Some, None, List, [], ◌∷◌, length, refl, sym, ap, ◌∙◌}
 use Rattle.std.specs.List.{AllByRecursion}
 use Rattle.fm_net_procs.specs.Kept.{count_awaited}
+use Rattle.fm_net_procs.proofs.Awaiting.{two}
 use Rattle.fm_proc_language.specs.Processes.{CodeProc, Ended, Faulted, Joining, Kid, Phase, Running}
 use Rattle.fm_procs.specs.Readings.{awaited_in, awaits}
 use Rattle.fm_procs.specs.Waiting.{kids_in}
@@ -12,12 +13,6 @@ kids_awaited Running = refl
 kids_awaited (Joining block kids) = refl
 kids_awaited Ended = refl
 kids_awaited (Faulted line fault) = refl
-
-inside : {X : Type 0} {x y : X} → Some x ≡ Some y → x ≡ y
-inside e = cc e
-
-two : {x y u v : ℕ} → ◌≡◌ {A = Option (ℕ × ℕ)} (Some (x, y)) (Some (u, v)) → (x ≡ u) × (y ≡ v)
-two {x} {y} {u} {v} e = let same : ◌≡◌ {A = ℕ × ℕ} (x, y) (u, v) = inside e in (ap (λ (z : ℕ × ℕ). z.0) same, ap (λ (z : ℕ × ℕ). z.1) same)
 
 -- whoever waits so waits for children that are told by its phase
 pub waits_by_phase : (phase : Phase) (block n : ℕ) → ((b : ℕ) (kids : List Kid) → phase ≡ Joining b kids → (b ≡ block) × (length kids ≡ n)) → (b k : ℕ) → awaited_in phase ≡ Some (b, k) → (b ≡ block) × (k ≡ n)

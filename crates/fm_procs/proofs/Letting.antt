@@ -29,7 +29,7 @@ use Rattle.fm_code.specs.declared.instr.Meet.TheVariants as meet
 use Rattle.fm_code.specs.declared.scratch.Place.{Place}
 use Rattle.fm_code.specs.declared.scratch.Scratch.{Scratch}
 use Rattle.fm_code.specs.Acts as acts
-use Rattle.fm_code.specs.Acts.{StatementEnd, Act, On, Over, with_one, with_two, with_three, with_words, found, gives, at_word, spanned, by_port, at_port, evaluates, dimension, builds, ends, stored, counted, enters, ends_trip, meets, receives, closes, act, then_work, work, nothing}
+use Rattle.fm_code.specs.Acts.{StatementEnd, Act, On, Over, with_one, with_two, with_three, found, gives, at_word, by_port, at_port, evaluates, builds, ends, ends_trip, meets, act, then_work, work, nothing}
 use Rattle.fm_code.specs.Passing.{backs_fit}
 use Rattle.fm_code.specs.Statements as code
 use Rattle.fm_code.specs.Statements.{Action, CodeUnit, action_by, action_of, statement_end_of, calls, refers, is_passed, unit_at, code_in, seat_of, fitted_in, gives_back, results_in, starts, starts_at}

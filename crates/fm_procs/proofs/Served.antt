@@ -8,7 +8,8 @@ use Rattle.fm_base.specs.declared.port.PortValue.TheVariants.{Writer, Reader}
 use Rattle.fm_base.specs.Channels.{Chan, Chans, Limits, Message, Push, Pop, Look, is_ready}
 use Rattle.fm_chan.specs.Received.{pops_at}
 use Rattle.fm_net.specs.Machine as net
-use Rattle.fm_net.specs.Machine.{Place, Procs, State, Nothing, Event, New, Children, Stop, Go, Reply, act, act_of, finished, gathered, served_at, reply_at}
+use Rattle.fm_net.specs.Machine.{Place, Procs, State, Nothing, Event, New, Children, Stop, Go, act, act_of, finished, served_at, reply_at}
+use Rattle.fm_net_procs.proofs.Steps.{some_map}
 use Rattle.fm_code.specs.declared.ask.Ask.{Ask}
 use Rattle.fm_code.specs.declared.ask.Ask.TheVariants as ask
 use Rattle.fm_code.specs.declared.ask.Operand.{Operand}
@@ -27,10 +28,6 @@ use Rattle.fm_proc_events.specs.Told.{is_joining, is_running, look_by, look_of}
 use Rattle.fm_procs.specs.Readings.{code_step}
 use Rattle.fm_procs.specs.Waiting.{channel_needed, channel_waited, inport_in, is_join, is_served, probes_at, receives_at, sends_at, served_asked}
 use Rattle.fm_procs.proofs.Letting.{lets_go, never_lets}
-
-some_map : {A B : Type 0} (f : A → B) (o : Option A) → is_some (option_map f o) ≡ is_some o
-some_map f None = refl
-some_map f (Some x) = refl
 
 -- ---- steps of the machine
 

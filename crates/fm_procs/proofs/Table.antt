@@ -1,5 +1,5 @@
 -- Processes of stack code, in the words of the table of processes.
-use Rattle.std.proofs.Common.{◌≡◌, ◌≢◌, ◌≤◌, ◌+◌, ℕ, Bool, true, false, Option, Some, None, List, [], length, refl, sym, ap, ap₂, subst, ◌∙◌}
+use Rattle.std.proofs.Common.{◌≡◌, ◌≢◌, ◌≤◌, ℕ, Bool, true, false, Option, Some, None, List, length, refl, sym, ap, ap₂, subst, ◌∙◌}
 use Rattle.std.specs.Prelude.{IfNone, IfSome, is_some}
 use Rattle.std.specs.FinMap.{get, insert}
 use Rattle.fm_base.specs.Channels.{Chans}

@@ -1,6 +1,6 @@
 -- Pieces of a run of stack code: several steps of one process.
 -- Source: this profile.
-use Rattle.std.specs.Prelude.{◌≡◌, ◌⊎◌, ℕ, ◌+◌, Bool, true, false, ◌==◌, ◌&&◌, not, Option, Some, None, List, replicate}
+use Rattle.std.specs.Prelude.{◌≡◌, ◌⊎◌, ℕ, Bool, true, false, ◌==◌, ◌&&◌, not, Option, Some, None, List, replicate}
 use Rattle.std.specs.FinMap.{get}
 use Rattle.fm_sched.specs.Schedule.{IsLegal}
 use Rattle.fm_net.specs.Machine.{Place, State, child}

@@ -18,7 +18,7 @@ use fm_base::NoMemory;
 use fm_machine::Done;
 use fm_machine_calls::Look;
 use fm_machine_instr::Work;
-use fm_net_procs::{Actor, Piece};
+use fm_net_procs::{Actor, Piece, local_piece};
 use fm_proc::{Advanced, put_end};
 use std::alloc::Global;
 
@@ -42,17 +42,6 @@ fn put_end_of(
     match entries.rows.get_mut(actor.number) {
         Some(entry) => put_end(alloc, work, &mut entry.process.held, done),
         None => unreachable!(),
-    }
-}
-
-fn local_piece(steps: u32, cost: u64) -> Piece
-    ensures { result ≡ record { steps = steps; cost = cost; block = 0; started = 0 } }
-{
-    Piece {
-        steps,
-        cost,
-        block: 0,
-        started: 0,
     }
 }
 

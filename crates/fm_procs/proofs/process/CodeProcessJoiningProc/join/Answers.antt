@@ -1,4 +1,4 @@
-use Rattle.std.proofs.Common.{◌≡◌, ap, sym, ◌∙◌}
+use Rattle.std.proofs.Common.{ap, sym, ◌∙◌}
 use Rattle.fm_procs.specs.Stepping.{joined_next}
 use Rattle.fm_procs.proofs.Born.{join_told}
 use Rattle.fm_procs.proofs.Table.{the_join}

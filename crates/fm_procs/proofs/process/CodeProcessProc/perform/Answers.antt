@@ -1,4 +1,4 @@
-use Rattle.std.proofs.Common.{◌≡◌, List, map, ap, sym, subst, ◌∙◌}
+use Rattle.std.proofs.Common.{◌≡◌, List, map, ap, sym, subst}
 use Rattle.fm_base.specs.Channels.{Chans}
 use Rattle.fm_chan.specs.Bodies.{chans_of}
 use Rattle.fm_net_procs.specs.Stepping.{StepsTo}
