@@ -1,20 +1,14 @@
 -- The first of some children that hasn't ended.
-use Rattle.std.proofs.Common.{◌≡◌, ℕ, suc, ◌+◌, ◌-◌, ◌<◌, true, false, cond, Option, Some, None, List, refl, ap, ◌∙◌, arith}
-use Rattle.std.specs.Prelude.{slice_get}
+use Rattle.std.proofs.Common.{◌≡◌, ℕ, suc, ◌+◌, ◌-◌, ◌<◌, true, false, cond, Option, Some, None, refl, ap, ◌∙◌, arith}
 use Rattle.std.specs.FinMap.{get}
 use Rattle.fm_net.specs.Machine.{Place, Procs, child}
 use Rattle.fm_proc_language.specs.Processes.{CodeProc}
-use Rattle.fm_procs.specs.Kept.{AreChildren}
 use Rattle.fm_procs.specs.Waiting as stacks
 use Rattle.fm_outcome_code.specs.Shown.{awaited, ended_at}
 
 pub same_ended : (o : Option CodeProc) → stacks.ended_at o ≡ ended_at o
 same_ended None = refl
 same_ended (Some y) = refl
-
--- the number of a child
-pub child_number : (ps : List Place) (first : ℕ) (p : Place) (b count : ℕ) → AreChildren ps first p b count → (i n : ℕ) → i < count → n ≡ first + i → slice_get ps n ≡ Some (child p b (i + 1))
-child_number ps first p b count all i n low is = ap (slice_get ps) is ∙ all i low
 
 module _ (m : Procs CodeProc) (p : Place) (b : ℕ) where
   -- where one child more has ended, another is waited for

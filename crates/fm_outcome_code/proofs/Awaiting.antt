@@ -1,72 +1,59 @@
--- Who can step waits for no children.
-use Rattle.std.proofs.Common.{◌≡◌, ◌≤◌, ◌<◌, ◌⊎◌, inl, inr, ℕ, true, false, Option, Some, None, List, length, refl, sym, ap, subst, ◌∙◌, arith}
-use Rattle.std.specs.Prelude.{is_some, option_map}
+-- The children for which a process of stack code waits are those for which that of the meaning does, and the same of them have ended.
+use Rattle.std.proofs.Common.{◌≡◌, ℕ, Bool, Option, Some, List, refl, sym, ap₂, subst, ◌∙◌}
 use Rattle.std.specs.FinMap.{get}
-use Rattle.fm_net.specs.Machine as net
-use Rattle.fm_net.specs.Machine.{Go, Place, State, Stop, act, act_of, finished, gathered, reply_with}
-use Rattle.fm_code.specs.declared.ask.Ask.{Ask}
-use Rattle.fm_code.specs.declared.ask.Ask.TheVariants as ask
-use Rattle.fm_code.specs.declared.body.Body.{Body}
-use Rattle.fm_code.specs.Statements as code
-use Rattle.fm_code.specs.Statements.{Action, action_of}
-use Rattle.fm_proc_language.specs.Processes.{CodeProc, Ended, Faulted, Joining, Kid, Phase, Running, asks, asks_by, emptied, has_ended, joining_by, joins_by}
-use Rattle.fm_procs.specs.Kept.{AreChildren, HasFamily}
-use Rattle.fm_procs.specs.Readings.{awaited_in, code_step}
-use Rattle.fm_procs.specs.Waiting.{kids_in, served_asked}
-use Rattle.fm_run.proofs.Able.{some_map}
+use Rattle.fm_symbols.specs.declared.names.Variable.{Variable}
+use Rattle.fm_net.specs.Correspondence.{StandsFor}
+use Rattle.fm_net.specs.Machine.{Place, State, child}
+use Rattle.fm_net_procs.specs.declared.children.Awaited.{Awaited}
+use Rattle.fm_net_procs.specs.Awaited as children
+use Rattle.fm_net_procs.proofs.Awaiting.{known_alike, left_alike, told_alike}
+use Rattle.fm_rules.specs.declared.program.Program.{Program}
+use Rattle.fm_mean.specs.Process as mean
+use Rattle.fm_mean.specs.Process.{Ended, Faulted, Joining, Proc, Running}
+use Rattle.fm_proc_language.specs.Processes as code
+use Rattle.fm_proc_language.specs.Processes.{CodeProc}
+use Rattle.fm_procs.specs.Readings as stacks
+use Rattle.fm_run.specs.Awaited as run
+use Rattle.fm_run.proofs.Awaiting.{ended_there}
+use Rattle.fm_outcome_code.specs.Corresponds.{Corresponds, IsLive, PhaseStands, first_variables}
+use Rattle.fm_outcome_code.proofs.Joins.{as_many_kids}
+use Rattle.fm_outcome_code.proofs.Standing.{ended_alike}
 
-module _ (t : State CodeProc) (q : Place) where
-  acts_served : (k : net.Ask CodeProc) → is_some (option_map finished (act asks has_ended emptied t.procs t.chans q k)) ≡ served_asked t.procs t.chans q k
-  acts_served Stop = refl
-  acts_served (Go need f) = some_map _ _ ∙ some_map _ _
+-- the same children, by the phases
+phases_await : (p : Program) (mine : List Variable) (a : mean.Phase) (b : code.Phase) → PhaseStands p mine a b → stacks.awaited_in b ≡ run.awaited_in a
+phases_await p mine Running code.Running stand = refl
+phases_await p mine Running (code.Joining block kids) stand = absurd stand
+phases_await p mine Running code.Ended stand = absurd stand
+phases_await p mine Running (code.Faulted line fault) stand = absurd stand
+phases_await p mine (Joining b ks) code.Running stand = absurd stand
+phases_await p mine (Joining b ks) (code.Joining block kids) stand = ap₂ (λ (u v : ℕ). Some (u, v)) stand.0 (as_many_kids p mine ks kids stand.1)
+phases_await p mine (Joining b ks) code.Ended stand = absurd stand
+phases_await p mine (Joining b ks) (code.Faulted line fault) stand = absurd stand
+phases_await p mine Ended code.Running stand = absurd stand
+phases_await p mine Ended (code.Joining block kids) stand = absurd stand
+phases_await p mine Ended code.Ended stand = refl
+phases_await p mine Ended (code.Faulted line fault) stand = absurd stand
+phases_await p mine (Faulted l f) code.Running stand = absurd stand
+phases_await p mine (Faulted l f) (code.Joining block kids) stand = absurd stand
+phases_await p mine (Faulted l f) code.Ended stand = absurd stand
+phases_await p mine (Faulted l f) (code.Faulted line fault) stand = refl
 
-  -- who can step and waits for children can since these have ended
-  module _ (y : CodeProc) (b : Body) (block : ℕ) (kids : List Kid) where
-    asked_ended : (k : Ask) → served_asked t.procs t.chans q (joins_by y b block kids k) ≡ true → is_some (gathered has_ended t.procs q block 1 (length kids)) ≡ true
-    asked_ended (ask.Fail line fault) e = absurd (cc e)
-    asked_ended (ask.LetGo slots) e = absurd (cc e)
-    asked_ended (ask.Channel inport outport next) e = absurd (cc e)
-    asked_ended (ask.Merger inport outports next) e = absurd (cc e)
-    asked_ended (ask.Send slot items next) e = absurd (cc e)
-    asked_ended (ask.Receive slot items status at_end next) e = absurd (cc e)
-    asked_ended (ask.Probe slot empty next) e = absurd (cc e)
-    asked_ended (ask.Begin next) e = absurd (cc e)
-    asked_ended (ask.Join next) e = sym (some_map (reply_with {Proc = CodeProc}) (gathered has_ended t.procs q block 1 (length kids))) ∙ e
-    asked_ended ask.End e = absurd (cc e)
+module _ (p : Program) (s : State Proc) (t : State CodeProc) (stands : StandsFor (Corresponds p) (IsLive p) t s) (q : Place) (x : Proc) (y : CodeProc) (alike : Corresponds p y x) where
+  abbrev over : ℕ → ℕ → Bool
+  over b i = children.child_ended code.has_ended t.procs q b i
 
-    joined_ended : (a : Action) → served_asked t.procs t.chans q (joining_by y b block kids a) ≡ true → is_some (gathered has_ended t.procs q block 1 (length kids)) ≡ true
-    joined_ended code.Stuck e = absurd (cc e)
-    joined_ended (code.Own after lines drops cost) e = absurd (cc e)
-    joined_ended (code.Meets k) e = asked_ended k e
+  same_children : stacks.awaits y ≡ run.awaits x
+  same_children = phases_await p (first_variables p x.execution.frames) x.phase y.phase alike.phase
 
-  module _ (y : CodeProc) (is : get t.procs q ≡ Some y) (can : is_some (code_step t q) ≡ true) where
-    served : served_asked t.procs t.chans q (asks y) ≡ true
-    served = sym (ap (λ o. is_some (option_map finished (act_of asks has_ended emptied t.procs t.chans q o))) is ∙ acts_served (asks y)) ∙ can
+  ends_alike : (b i : ℕ) → over b i ≡ run.child_ended s q b i
+  ends_alike b i = ended_alike p s t stands (child q b i) ∙ sym (ended_there (get s.procs (child q b i)))
 
-    all_ended : (block : ℕ) (kids : List Kid) → y.phase ≡ Joining block kids → is_some (gathered has_ended t.procs q block 1 (length kids)) ≡ true
-    all_ended block kids phase = go y.body (sym (ap (λ (ph : Phase). served_asked t.procs t.chans q (asks_by y ph y.body)) phase) ∙ served)
-      where
-        go : (o : Option Body) → served_asked t.procs t.chans q (asks_by y (Joining block kids) o) ≡ true → is_some (gathered has_ended t.procs q block 1 (length kids)) ≡ true
-        go None e = absurd (cc e)
-        go (Some b) e = joined_ended y b block kids (action_of b) e
+  pub known_there : (k : ℕ) → run.AreKnown s q x k → children.AreKnown over (stacks.awaits y) k
+  known_there k known =
+      subst (λ (o : Option (ℕ × ℕ)). children.AreKnown over o k) (sym same_children) (known_alike (run.child_ended s q) over (λ b i. sym (ends_alike b i)) (run.awaits x) k known)
 
-    -- all children for which it waits are among those that are counted
-    pub all_counted_on : (ps : List Place) (first count counted : ℕ) → HasFamily ps q y.phase first → count ≡ length (kids_in y.phase)
-        → ((b : ℕ) → AreChildren ps first q b count → counted < count → is_some (gathered has_ended t.procs q b 1 count) ≡ false) → count ≤ counted
-    all_counted_on ps first count counted family count_is not_all = go y.phase refl
-      where
-        nobody : (phase : Phase) → y.phase ≡ phase → length (kids_in phase) ≡ 0 → count ≤ counted
-        nobody phase ph none = let e : count ≡ 0 = count_is ∙ ap (λ (v : Phase). length (kids_in v)) ph ∙ none in omega (arith, e)
+  pub left_back : children.HasOneLeft over (stacks.awaits y) → run.HasOneLeft s q x
+  left_back left = left_alike over (run.child_ended s q) ends_alike (run.awaits x) (subst (λ (o : Option (ℕ × ℕ)). children.HasOneLeft over o) same_children left)
 
-        joins : (block : ℕ) (kids : List Kid) → y.phase ≡ Joining block kids → (counted < count) ⊎ (count ≤ counted) → count ≤ counted
-        joins block kids ph (inr high) = high
-        joins block kids ph (inl low) =
-            let many : count ≡ length kids = count_is ∙ ap (λ (v : Phase). length (kids_in v)) ph in
-            let open_yet = not_all block (subst (λ (n : ℕ). AreChildren ps first q block n) (sym many) (family block (length kids) (ap awaited_in ph))) low in
-            absurd (cc (sym open_yet ∙ ap (λ (n : ℕ). is_some (gathered has_ended t.procs q block 1 n)) many ∙ all_ended block kids ph))
-
-        go : (phase : Phase) → y.phase ≡ phase → count ≤ counted
-        go Running ph = nobody Running ph refl
-        go Ended ph = nobody Ended ph refl
-        go (Faulted line fault) ph = nobody (Faulted line fault) ph refl
-        go (Joining block kids) ph = joins block kids ph (grind arith)
+  pub told_back : (r : Awaited) → children.IsAwaited over (stacks.awaits y) r → run.IsAwaited s q x r
+  told_back r told = told_alike over (run.child_ended s q) ends_alike (run.awaits x) r (subst (λ (o : Option (ℕ × ℕ)). children.IsAwaited over o r) same_children told)

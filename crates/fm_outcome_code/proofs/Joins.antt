@@ -66,7 +66,7 @@ words_of_kids p mine (k ∷ ks) (c ∷ cs) stand =
     ap (λ n. n + code.joining_words cs) (ap back_words stand.0.backs.same ∙ words_back mine stand.0.unit.names.variables k.backs)
     ∙ ap (λ n. mean_calls.back_words k.backs + n) (words_of_kids p mine ks cs stand.1)
 
-as_many_kids : (p : Program) (mine : List Variable) (kids : List mean.Kid) (cs : List Kid) → KidsStand p mine kids cs → length cs ≡ length kids
+pub as_many_kids : (p : Program) (mine : List Variable) (kids : List mean.Kid) (cs : List Kid) → KidsStand p mine kids cs → length cs ≡ length kids
 as_many_kids p mine [] [] stand = refl
 as_many_kids p mine [] (c ∷ cs) stand = absurd stand
 as_many_kids p mine (k ∷ ks) [] stand = absurd stand

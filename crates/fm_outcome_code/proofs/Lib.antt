@@ -3,7 +3,6 @@ pub mod Pieces
 pub mod Waiting
 pub mod Histories
 pub mod FirstProcess
-pub mod KeptByPath
 pub mod Sound
 pub mod Awaiting
 mod Needed

@@ -1,21 +1,16 @@
 -- Processes one after the other, in path order.
-use Rattle.std.proofs.Common.{Bor, ◌≡◌, ◌+◌, ◌<◌, ◌≤◌, ℕ, Some, List, [], ◌∷◌, ◌++◌, Bool, true, false, true≢false, suc, arith, T, ◌&&◌, ◌==◌, cond, not, None, Option, append-nil, get_or, length, map, refl, sym, ap, take, ◌∙◌}
+use Rattle.std.proofs.Common.{Bor, ◌≡◌, ◌<◌, ◌≤◌, ℕ, Some, List, [], ◌∷◌, ◌++◌, Bool, true, false, true≢false, suc, arith, ◌&&◌, ◌==◌, cond, not, None, Option, get_or, length, map, refl, sym, ap, take, ◌∙◌}
 use Rattle.std.proofs.lemmas.Bool.Decides.{nat_tests}
 use Rattle.std.specs.Prelude.{filter, is_some, option_map, option_to_list, slice_get}
 use Rattle.std.specs.List.{AllByRecursion, flat_map}
 use Rattle.std.specs.Map.Iter.{deref_pair}
-use Rattle.std.specs.FinMap.{entries, entries_sorted, get-entries}
-use Rattle.std.specs.FinMap.Entries.{find, is_sorted}
-use Rattle.std.proofs.lemmas.Grind.{flat_map-append}
-use Rattle.std.proofs.lemmas.List.{map-append, take_all, take_more}
+use Rattle.std.specs.FinMap.{entries}
+use Rattle.std.proofs.lemmas.List.{take_all}
 use Rattle.std.proofs.lemmas.Option.{slice_get-map, slice_get_read}
 use Rattle.fm_base.specs.declared.path.Path.{Path}
-use Rattle.fm_base.specs.PathOrder.{path_cmp}
-use Rattle.fm_finmap.proofs.Entries.{find_first, find_later}
 use Rattle.fm_finmap.specs.Rows.{numbered_map}
 use Rattle.fm_finmap.proofs.Rows.{all_at}
 use Rattle.fm_net.specs.Machine.{Ask, Place, Procs, Stop}
-use Rattle.fm_net.proofs.Keys.{path_order}
 use Rattle.fm_mean.specs.declared.outcome.At.{At}
 use Rattle.fm_mean.specs.Holders.{holding}
 use Rattle.fm_code.specs.declared.body.Body.{Body}
@@ -23,42 +18,20 @@ use Rattle.fm_proc_language.specs.Needs.{need_in}
 use Rattle.fm_proc_language.specs.Processes.{CodeProc, Phase, Running, Joining, Ended, Faulted, asks_by, has_ended, held_by, is_ended}
 use Rattle.fm_proc_language.specs.Slots.{Slots}
 use Rattle.fm_outcome_code.specs.Shown.{fault_at, fault_in, holder_path, holdings_at, line_in, lines_at, wait_at, waits_by}
-use Rattle.fm_procs.specs.Kept.{AreKept, HasFamily, IsTold}
-use Rattle.fm_procs.specs.Readings.{code_of, Entries, Entry, order_of, proc_in, procs_of}
+use Rattle.fm_procs.specs.Kept.{AreKept, IsNext}
+use Rattle.fm_procs.specs.Readings.{awaits, code_of, Entries, Entry, proc_in, procs_of}
 use Rattle.fm_outcome_code.specs.declared.rows.Part.{Part}
 use Rattle.fm_outcome_code.specs.declared.rows.Part.TheVariants as part
 use Rattle.fm_outcome_code.specs.Parts.{gives, row_gives}
+use Rattle.fm_net_procs.proofs.Listed as shared
 use Rattle.fm_net_procs.proofs.Maps as table
 
 abbrev pub entries_of : List (Place × Entry) → List (Place × CodeProc)
-entries_of es = map (λ e. (e.0, proc_in e.1)) es
-
-entries_are : (x : Entries) → entries (procs_of x) ≡ entries_of (entries (numbered_map x.rows))
-entries_are x = table.entries_are code_of x
+entries_of es = table.entries_of code_of es
 
 -- what each of them does next is told, and its children
 abbrev pub IsListed : Entries → Place × Entry → Type 0
-IsListed x e = IsTold e.1 × HasFamily (order_of x) e.0 (proc_in e.1).phase e.1.first_child
-
-abbrev pub EachListed : Entries → List (Place × Entry) → Type 0
-EachListed x es = AllByRecursion (IsListed x) es
-
-snd : (a b : Bool) → T (a && b) → T b
-snd true b p = p
-snd false b p = absurd p
-
-sorted_tail : (e : Place × Entry) (es : List (Place × Entry)) → T (is_sorted path_cmp (e ∷ es)) → T (is_sorted path_cmp es)
-sorted_tail e es h = snd _ _ h
-
-each_listed : (x : Entries) (es : List (Place × Entry)) → T (is_sorted path_cmp es) → ((q : Place) (s : Entry) → find path_cmp q es ≡ Some s → IsListed x (q, s)) → EachListed x es
-each_listed x [] h all = tt
-each_listed x (e ∷ es) h all =
-    (all e.0 e.1 (find_first path_order e es), each_listed x es (sorted_tail e es h) (λ q s is. all q s (find_later path_order e es h q s is)))
-
-listed : (x : Entries) → AreKept x → EachListed x (entries (numbered_map x.rows))
-listed x kept =
-    each_listed x (entries (numbered_map x.rows)) (entries_sorted (numbered_map x.rows)) (λ q s is.
-    let at = get-entries (numbered_map x.rows) q ∙ is in (kept.told q s at, kept.families q s at))
+IsListed x e = shared.IsListed code_of IsNext awaits x e
 
 all_kept : {X : Type 0} (P : X → Type 0) (keep : X → Bool) (xs : List X) → AllByRecursion P xs → AllByRecursion P (filter keep xs)
 all_kept P keep [] all = tt
@@ -70,21 +43,11 @@ all_kept P keep (x ∷ xs) all = go (keep x) (all_kept P keep xs all.1)
 
 -- ---- rows as they are shown, one after the other
 
-pub flat_more : {A B : Type 0} (f : A → List B) (xs : List A) (x : A) → flat_map f (xs ++ x ∷ []) ≡ flat_map f xs ++ f x
-flat_more f xs x = flat_map-append f xs (x ∷ []) ∙ ap (λ ys. flat_map f xs ++ ys) (append-nil (f x))
-
 module _ (rows : List (Bor Path × Bor Entry)) (i : ℕ) (row : Bor Path × Bor Entry) (within : i < length rows) (is : row ≡ get_or rows i row) where
-  pub entries_more : entries_of (map (deref_pair {K = Path} {X = Entry}) (take (i + 1) rows)) ≡ entries_of (map (deref_pair {K = Path} {X = Entry}) (take i rows)) ++ (row.0.now, proc_in row.1.now) ∷ []
-  entries_more =
-      let show = deref_pair {K = Path} {X = Entry} in
-      ap (λ (rs : List (Bor Path × Bor Entry)). entries_of (map show rs)) (take_more rows i row within ∙ ap (λ (r : Bor Path × Bor Entry). take i rows ++ r ∷ []) (sym is))
-      ∙ ap entries_of (map-append show (take i rows) (row ∷ []))
-      ∙ map-append (λ (e : Place × Entry). (e.0, proc_in e.1)) (map show (take i rows)) ((row.0.now, row.1.now) ∷ [])
-
   pub row_listed : (part : Part) (x : Entries) → AreKept x → map (deref_pair {K = Path} {X = Entry}) rows ≡ filter (row_gives part) (entries (numbered_map x.rows)) → IsListed x (row.0.now, row.1.now)
   row_listed part x kept all =
       let show = deref_pair {K = Path} {X = Entry} in
-      all_at (IsListed x) (filter (row_gives part) (entries (numbered_map x.rows))) i (row.0.now, row.1.now) (all_kept (IsListed x) (row_gives part) (entries (numbered_map x.rows)) (listed x kept))
+      all_at (IsListed x) (filter (row_gives part) (entries (numbered_map x.rows))) i (row.0.now, row.1.now) (all_kept (IsListed x) (row_gives part) (entries (numbered_map x.rows)) (shared.listed code_of IsNext awaits x kept.told kept.families))
       (ap (λ (es : List (Place × Entry)). slice_get es i) (sym all) ∙ slice_get-map show rows i ∙ ap (option_map show) (slice_get_read rows (length rows) i row refl within is))
 
 module _ {B : Type 0} (f : Place × CodeProc → List B) (part : Part) (nothing : (q : Place) (y : CodeProc) → gives part y ≡ false → f (q, y) ≡ []) where
@@ -102,7 +65,7 @@ module _ {B : Type 0} (f : Place × CodeProc → List B) (part : Part) (nothing 
       → flat_map f (entries_of (map (deref_pair {K = Path} {X = Entry}) (take i rows))) ≡ flat_map f (entries (procs_of x))
   entries_all x rows i past all =
       ap (λ (rs : List (Bor Path × Bor Entry)). flat_map f (entries_of (map (deref_pair {K = Path} {X = Entry}) rs))) (take_all i rows past) ∙ ap (λ (es : List (Place × Entry)). flat_map f (entries_of es)) all
-      ∙ only_givers (entries (numbered_map x.rows)) ∙ ap (flat_map f) (sym (entries_are x))
+      ∙ only_givers (entries (numbered_map x.rows)) ∙ ap (flat_map f) (sym (table.entries_are code_of x))
 
 -- ---- what a process that gives nothing to a part shows
 

@@ -27,7 +27,7 @@ use Rattle.fm_mean.specs.declared.place.Span.{Span}
 use Rattle.fm_mean.specs.Evaluate.{Scope, Reference, Element, Call, Built, Unknown, reference_of}
 use Rattle.fm_mean.specs.Process.{Frame, Execution}
 use Rattle.fm_mean.specs.Actions as action
-use Rattle.fm_mean.specs.Actions.{Event, Fail, Make, Send, Receive, Probe, Begin, Join, End, Action, Rest, Own, Meets, fails, Receiving, Loop, Counted, While, NoLoop, scalar_place}
+use Rattle.fm_mean.specs.Actions.{Event, Fail, Make, Send, Receive, Probe, Begin, Join, End, Action, Rest, Own, Meets, Receiving, Loop, Counted, While, NoLoop, scalar_place}
 
 -- what a statement meets: others begin no starts, and none joins
 abbrev pub MayMeet : Stmt → Event → Type 0

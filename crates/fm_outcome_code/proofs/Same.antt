@@ -11,7 +11,7 @@ use Rattle.fm_symbols.specs.declared.names.Variable.{Variable}
 use Rattle.fm_rules.specs.declared.program.Program.{Program}
 use Rattle.fm_mean.specs.Names.{ProgramUnit, unit_at}
 use Rattle.fm_mean.specs.Process as mean
-use Rattle.fm_mean.specs.Process.{started_ports, frame_ports, frames_ports}
+use Rattle.fm_mean.specs.Process.{frame_ports, frames_ports}
 use Rattle.fm_code.specs.declared.body.Body.{Body}
 use Rattle.fm_code.specs.declared.body.Frame.{Frame}
 use Rattle.fm_code.specs.declared.body.Start.{Start}

@@ -15,7 +15,7 @@ use Rattle.fm_symbols.specs.declared.names.Variable.{Variable}
 use Rattle.fm_rules.specs.PortTypes.{sizing_place}
 use Rattle.fm_mean.specs.Names.{ProgramUnit}
 use Rattle.fm_mean.specs.Layout.{AreLaidOut}
-use Rattle.fm_mean.specs.Places.{written, exchange_all, live, stored_all}
+use Rattle.fm_mean.specs.Places.{written, live, stored_all}
 use Rattle.fm_mean.specs.Places as mean
 use Rattle.fm_mean.specs.Evaluate.{Scope, refs_in_var, place_of, places_of}
 use Rattle.fm_mean.specs.Fits.{Types, ItemFits, FieldsFit, MessageFits, elements_behind}

@@ -1,6 +1,6 @@
 -- Of which processes a part of an outcome has something.
 -- Source: this profile.
-use Rattle.std.specs.Prelude.{ℕ, Bool, ◌&&◌, ◌==◌, not, is_some, length}
+use Rattle.std.specs.Prelude.{Bool, ◌&&◌, ◌==◌, not, is_some, length}
 use Rattle.fm_net.specs.Machine.{Place}
 use Rattle.fm_proc_language.specs.Processes.{CodeProc, has_ended}
 use Rattle.fm_procs.specs.Readings.{Entry, proc_in}

@@ -89,12 +89,7 @@ impl Net for Compiled {
     }
 
     fn awaits(&self, number: u32, before: usize) -> Result<Awaited, NoMemory> {
-        let family = self.stacks.entries.family(number);
-        let ended = self.stacks.entries.count_ended(family, before)?;
-        Ok(Awaited {
-            ended,
-            waits: ended < family.count,
-        })
+        self.stacks.entries.awaited(number, before)
     }
 
     fn outcome(&self, alloc: Global, program: &Program, used: u64) -> Result<Outcome, NoMemory> {

@@ -3,7 +3,6 @@
 ghost use Rattle.std.specs.Prelude.{◌≡◌, ◌++◌, ℕ, Some, option_map, IfOk, OnOk};
 ghost use Rattle.fm_mean.specs.declared.outcome.At.TheVariants as at;
 ghost use Rattle.fm_net.specs.Machine.{Place};
-ghost use Rattle.fm_finmap.specs.Rows.{place_at};
 ghost use Rattle.fm_proc_language.specs.Slots.{in_slot};
 ghost use Rattle.fm_procs.specs.Kept.{AreChildren, HasFamily, IsTold};
 ghost use Rattle.fm_procs.specs.Readings.{order_of, proc_in, procs_of};
@@ -56,16 +55,6 @@ fn received(alloc: Global, slots: &Slots, ask: &Ask) -> Result<Option<At>, NoMem
     }
 }
 
-// A copy of the path of a number.
-fn path_of(alloc: Global, processes: &Entries, number: u32) -> Result<Option<Path>, NoMemory>
-    ensures { IfOk result (λ o. o ≡ place_at processes.now.rows number) }
-{
-    match processes.rows.path(number) {
-        Some(path) => Ok(Some(path.copy(alloc)?)),
-        None => Ok(None),
-    }
-}
-
 // The first of so many children that hasn't ended.
 fn awaited(
     alloc: Global,
@@ -78,7 +67,7 @@ fn awaited(
     'children: for place in 0..count {
         let number = number_behind(first, place)?;
         if !processes.has_ended(number) {
-            return path_of(alloc, processes, number);
+            return processes.path_of(alloc, number);
         }
     }
     Ok(None)

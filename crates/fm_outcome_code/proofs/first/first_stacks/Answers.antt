@@ -6,10 +6,9 @@ use Rattle.fm_base.specs.PathOrder.{path_cmp}
 use Rattle.fm_net.specs.Machine.{Place, Procs}
 use Rattle.fm_proc_language.specs.Processes.{CodeProc}
 use Rattle.fm_procs.specs.Readings.{awaits, code_of, order_of, proc_in}
-use Rattle.fm_net_procs.proofs.Families.{awaits_nobody, families_but}
+use Rattle.fm_net_procs.proofs.Families.{all_families, awaits_nobody, families_but}
 use Rattle.fm_net_procs.proofs.Maps.{absent, told_but, told_own}
 use Rattle.fm_procs.specs.Kept.{IsNext}
-use Rattle.fm_outcome_code.proofs.KeptByPath.{all_families}
 use Rattle.fm_outcome_code.proofs.first.first_stacks.Goals as goal
 
 pub push-requires : goal.push-requires
@@ -25,7 +24,7 @@ returns-clause-kept c =
     let entry = c.in_ok-entry.entry in
     record {
       told = told_own code_of IsNext q old new entry c.in_ok-push.ensures.entries c.in_ok-entry.ensures.told (told_but code_of IsNext q old c.no_procs-stacks.ensures.kept.told);
-      families = all_families new (λ own.
+      families = all_families code_of awaits new (λ own.
           c.in_ok-push.ensures.families tt own (awaits_nobody (order_of new) q (awaits (proc_in entry)) entry.first_child (ap awaits c.in_ok-entry.ensures.process))
           (families_but code_of awaits own old c.no_procs-stacks.ensures.kept.families));
     }

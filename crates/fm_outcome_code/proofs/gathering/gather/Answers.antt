@@ -4,10 +4,11 @@ use Rattle.std.specs.Map.Iter.{deref_pair}
 use Rattle.fm_base.specs.declared.path.Path.{Path}
 use Rattle.fm_net.specs.Machine.{Place}
 use Rattle.fm_proc_language.specs.Processes.{CodeProc}
-use Rattle.fm_procs.specs.Readings.{Entry, proc_in, procs_of}
+use Rattle.fm_procs.specs.Readings.{code_of, Entry, proc_in, procs_of}
 use Rattle.fm_outcome_code.specs.Shown.{lines_at, fault_at, wait_at}
 use Rattle.fm_outcome_code.specs.declared.rows.Part.TheVariants as part
-use Rattle.fm_outcome_code.proofs.Listed.{entries_all, entries_more, entries_of, flat_more, no_fault, no_lines, no_wait, row_listed}
+use Rattle.fm_net_procs.proofs.Listed.{entries_more, flat_more}
+use Rattle.fm_outcome_code.proofs.Listed.{entries_all, entries_of, no_fault, no_lines, no_wait, row_listed}
 use Rattle.fm_outcome_code.proofs.gathering.gather.Goals as goal
 
 pub add_process-requires-clause-told : goal.add_process-requires-clause-told
@@ -29,7 +30,7 @@ entries-preserved c =
     let row = c.row-item.result in
     let e : Place × CodeProc = (row.0.now, proc_in row.1.now) in
     let before = entries_of (map (deref_pair {K = Path} {X = Entry}) (take i rows)) in
-    let more = entries_more rows i row c.entries-test.true c.row-item.is in
+    let more = entries_more code_of rows i row c.entries-test.true c.row-item.is in
     let m = procs_of c.args.processes.now in
     record {
       lines = c.in_ok-add_process.ensures.lines ∙ ap (λ ls. ls ++ lines_at e) c.entries.invariant.lines ∙ sym (flat_more lines_at before e) ∙ ap (flat_map lines_at) (sym more);

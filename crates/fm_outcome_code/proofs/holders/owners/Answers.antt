@@ -6,12 +6,13 @@ use Rattle.fm_base.specs.declared.path.Path.{Path}
 use Rattle.fm_net.specs.Machine.{Place}
 use Rattle.fm_mean.specs.Outports.{outport_cmp}
 use Rattle.fm_proc_language.specs.Processes.{CodeProc}
-use Rattle.fm_procs.specs.Readings.{Entry, proc_in, procs_of}
+use Rattle.fm_procs.specs.Readings.{code_of, Entry, proc_in, procs_of}
 use Rattle.fm_outcome_code.specs.Shown.{holdings, holdings_at}
 use Rattle.fm_run.specs.Gathered.{Owners, with_holders}
 use Rattle.fm_run.proofs.Holding.{from_none, with_both}
 use Rattle.fm_outcome_code.specs.declared.rows.Part.TheVariants as part
-use Rattle.fm_outcome_code.proofs.Listed.{entries_all, entries_more, entries_of, flat_more, no_holding}
+use Rattle.fm_net_procs.proofs.Listed.{entries_more, flat_more}
+use Rattle.fm_outcome_code.proofs.Listed.{entries_all, entries_of, no_holding}
 use Rattle.fm_outcome_code.proofs.holders.owners.Goals as goal
 
 pub entries-preserved : goal.entries-preserved
@@ -22,7 +23,7 @@ entries-preserved c =
     let e : Place × CodeProc = (row.0.now, proc_in row.1.now) in
     let before = entries_of (map (deref_pair {K = Path} {X = Entry}) (take i rows)) in
     c.in_ok-put_process.ensures ∙ ap (λ (m : Owners). with_holders m (holdings_at e)) c.entries.invariant ∙ sym (with_both (empty {R = outport_cmp}) (flat_map holdings_at before) (holdings_at e))
-    ∙ ap (with_holders (empty {R = outport_cmp})) (sym (flat_more holdings_at before e) ∙ ap (flat_map holdings_at) (sym (entries_more rows i row c.entries-test.true c.row-item.is)))
+    ∙ ap (with_holders (empty {R = outport_cmp})) (sym (flat_more holdings_at before e) ∙ ap (flat_map holdings_at) (sym (entries_more code_of rows i row c.entries-test.true c.row-item.is)))
 
 pub returns : goal.returns
 returns c =

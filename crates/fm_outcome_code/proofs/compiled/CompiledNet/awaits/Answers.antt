@@ -1,29 +1,24 @@
-use Rattle.std.proofs.Common.{◌≤◌, ap, sym, ◌∙◌, arith}
-use Rattle.std.proofs.lemmas.Bool.Decides.{nat_tests}
-use Rattle.std.specs.Prelude.{slice_get}
-use Rattle.fm_run.specs.Orders.{can_in}
-use Rattle.fm_run.proofs.Able.{some_there}
-use Rattle.fm_run.proofs.Playing.{known_place}
+use Rattle.std.proofs.lemmas.Result.{IfOk-weaker}
+use Rattle.fm_run.proofs.Awaiting.{able_alone}
 use Rattle.fm_procs.specs.Readings.{order_of, state_of}
 use Rattle.fm_outcome_code.specs.Played.{played}
-use Rattle.fm_outcome_code.proofs.KeptByPath.{standing}
-use Rattle.fm_outcome_code.proofs.Awaiting.{all_counted_on}
-use Rattle.fm_outcome_code.proofs.Standing.{steps_alike}
-use Rattle.fm_procs.proofs.Awaited.{kids_awaited}
+use Rattle.fm_outcome_code.proofs.Awaiting.{known_there, left_back, told_back}
+use Rattle.fm_outcome_code.proofs.Standing.{there_alike}
 use Rattle.fm_outcome_code.proofs.compiled.CompiledNet.awaits.Goals as goal
 
 pub returns : goal.returns
-returns c = λ p sound can.
+returns c =
     let net = c.args.self.now in
     let ps = order_of net.stacks.entries in
-    let s = played p net.history ps in
     let t = state_of net.stacks in
-    let place = some_there (slice_get ps c.args.number) (known_place p s ps c.args.number can) in
-    let q = place.0 in
-    let who = standing net.stacks.entries c.args.number q place.1 in
-    let y = who.0 in
-    let steps = steps_alike p s t sound.stands q ∙ sym (ap (can_in p s) place.1) ∙ can in
-    let all : c.family-family.result.count ≤ c.in_ok-ended.ended =
-    all_counted_on t q y who.1 steps ps c.family-family.result.first c.family-family.result.count c.in_ok-ended.ended
-    (c.family-family.ensures.first tt q y place.1 who.1 sound.kept.families) (c.family-family.ensures.count tt q y place.1 who.1 ∙ kids_awaited y.phase) (λ b children low. c.in_ok-ended.ensures.not_all tt q b children low) in
-    grind (arith, nat_tests, all)
+    record {
+      children = IfOk-weaker c.awaited.result _ _ (λ r told p q x sound at is known.
+          let s = played p net.history ps in
+          let y = there_alike p s t sound.stands q x is in
+          told_back p s t sound.stands q x y.0 y.2 r (told tt q y.0 sound.kept.families at y.1 (known_there p s t sound.stands q x y.0 y.2 c.args.before known))) c.awaited.ensures.told;
+      able = IfOk-weaker c.awaited.result _ _ (λ r left p sound can.
+          let s = played p net.history ps in
+          able_alone p s ps c.args.number r.waits can (λ q x at is waits.
+          let y = there_alike p s t sound.stands q x is in
+          left_back p s t sound.stands q x y.0 y.2 (left tt q y.0 sound.kept.families at y.1 waits))) c.awaited.ensures.left;
+    }
