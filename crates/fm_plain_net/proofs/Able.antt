@@ -13,7 +13,8 @@ use Rattle.fm_mean.specs.Steps.{language, step}
 use Rattle.fm_plain.specs.Looking.{is_free}
 use Rattle.fm_plain_net.specs.Goes.{is_served, joined_in, kids_by}
 use Rattle.fm_run.proofs.Able as able
-use Rattle.fm_run.proofs.Able.{is_served_at, some_map, steps_served}
+use Rattle.fm_net_procs.proofs.Steps.{some_map}
+use Rattle.fm_run.proofs.Able.{is_served_at, steps_served}
 
 -- a need that waits for nobody, told in two ways
 same_free : (o : Option Need) → is_free o ≡ able.is_free o

@@ -27,7 +27,7 @@ use Rattle.fm_plain_net.specs.declared.ports.Ports.{Ports}
 use Rattle.fm_plain_net.specs.Advances.{AdvancesAt}
 use Rattle.fm_plain_net.specs.Goes.{MeetsIt}
 use Rattle.fm_plain_net.specs.Held.{Fits, HeldAreKept, MayDrop, StayBut}
-use Rattle.fm_plain_net.specs.Readings.{awaited_in, awaits}
+use Rattle.fm_run.specs.Awaited.{awaited_in, awaits}
 use Rattle.fm_run.specs.Pieces.{Makes, has_local}
 use Rattle.fm_run.proofs.Steps.{makes_more, reached_makes}
 use Rattle.fm_plain_net.proofs.Letting.{event_shared, own_drops, own_held, own_shared, own_starts, own_step}

@@ -1,16 +1,15 @@
 -- The children of a block that is joined, by their numbers, and processes in other words of this crate and of the table.
-use Rattle.std.proofs.Common.{◌≡◌, ◌+◌, ◌<◌, ℕ, Option, Some, None, List, [], ◌∷◌, length, refl, sym, ap, subst, ◌∙◌, arith}
+use Rattle.std.proofs.Common.{◌≡◌, ℕ, Some, None, List, [], ◌∷◌, length, refl, sym, ap, subst, ◌∙◌, arith}
 use Rattle.std.specs.List.{AllByRecursion}
 use Rattle.fm_net.specs.Machine.{Place}
 use Rattle.fm_net_procs.specs.Kept.{AreChildren, count_awaited}
-use Rattle.fm_net_procs.specs.Readings.{ended_at as table_ended}
+use Rattle.fm_net_procs.proofs.Awaiting.{two}
 use Rattle.fm_rules.specs.declared.program.Program.{Program}
 use Rattle.fm_mean.specs.Actions.{Join, Meets, action_in, action_of, joining}
-use Rattle.fm_mean.specs.Outcome.{ended_at}
-use Rattle.fm_mean.specs.Process.{Ended, Faulted, Frame, Joining, Kid, Phase, Proc, Running, has_ended}
+use Rattle.fm_mean.specs.Process.{Ended, Faulted, Frame, Joining, Kid, Phase, Proc, Running}
 use Rattle.fm_plain_replies.specs.Joins.{kids_in}
 use Rattle.fm_plain_net.specs.Held.{HasFamily}
-use Rattle.fm_plain_net.specs.Readings.{awaited_in, awaits}
+use Rattle.fm_run.specs.Awaited.{awaited_in, awaits}
 
 -- who joins a block has its children told
 module _ (program : Program) (x : Proc) (block next : ℕ) (does : action_of program x ≡ Meets (Join block (kids_in x.phase) next)) (ps : List Place) (first : ℕ) (p : Place) where
@@ -41,12 +40,6 @@ kids_awaited (Joining block kids) = refl
 kids_awaited Ended = refl
 kids_awaited (Faulted line fault) = refl
 
-inside : {X : Type 0} {x y : X} → Some x ≡ Some y → x ≡ y
-inside e = cc e
-
-two : {x y u v : ℕ} → ◌≡◌ {A = Option (ℕ × ℕ)} (Some (x, y)) (Some (u, v)) → (x ≡ u) × (y ≡ v)
-two {x} {y} {u} {v} e = let same : ◌≡◌ {A = ℕ × ℕ} (x, y) (u, v) = inside e in (ap (λ (z : ℕ × ℕ). z.0) same, ap (λ (z : ℕ × ℕ). z.1) same)
-
 -- whoever waits so waits for children that are told by its phase
 pub waits_by_phase : (phase : Phase) (block n : ℕ) → ((b : ℕ) (kids : List Kid) → phase ≡ Joining b kids → (b ≡ block) × (length kids ≡ n)) → (b k : ℕ) → awaited_in phase ≡ Some (b, k) → (b ≡ block) × (k ≡ n)
 waits_by_phase Running block n waits b k e = absurd (cc e)
@@ -61,8 +54,3 @@ waits_by_phase (Faulted line fault) block n waits b k e = absurd (cc e)
 pub run_alone : (xs : List Proc) → AllByRecursion (λ (y : Proc). y.phase ≡ Running) xs → AllByRecursion (λ (y : Proc). awaits y ≡ None) xs
 run_alone [] all = tt
 run_alone (x ∷ xs) all = (ap awaited_in all.0, run_alone xs all.1)
-
--- whether one has ended
-pub ended_there : (o : Option Proc) → table_ended has_ended o ≡ ended_at o
-ended_there None = refl
-ended_there (Some x) = refl

@@ -1,5 +1,5 @@
 -- Before the first piece no port is held.
-use Rattle.std.proofs.Common.{◌≡◌, ◌≤◌, ◌++◌, ◌∷◌, [], subst, sym, arith}
+use Rattle.std.proofs.Common.{◌≡◌, ◌≤◌, [], subst, sym, arith}
 use Rattle.fm_finmap.specs.Sums.{total}
 use Rattle.fm_sched.specs.Schedule.{IsReached}
 use Rattle.fm_net.specs.Lawful.{holds}

@@ -14,7 +14,7 @@ use Rattle.fm_mean.specs.Steps.{first, language, step}
 use Rattle.fm_plain_net.specs.declared.ports.Ports.{Ports}
 use Rattle.fm_plain_net.specs.Goes.{Performs, joined_in}
 use Rattle.fm_plain_net.specs.Held.{Fits}
-use Rattle.fm_plain_net.specs.Readings.{awaits}
+use Rattle.fm_run.specs.Awaited.{awaits}
 use Rattle.fm_plain_net.proofs.Born.{begun}
 use Rattle.fm_plain_net.proofs.Doing.{performed, performed_held, performed_starts}
 use Rattle.fm_plain_net.proofs.Families.{run_alone, waits_by_phase}

@@ -16,10 +16,10 @@ use Rattle.fm_chan.specs.Events.{after_send as sent_by}
 use Rattle.fm_chan.specs.Received.{got_at, waits_at}
 use Rattle.fm_chan.specs.declared.message.Got.{Got}
 use Rattle.fm_chan.specs.declared.message.Got.TheVariants as got
-use Rattle.fm_net.specs.Machine.{Place, Need, Nothing, New, Children, Reply, Onward, Go, reply_with, reply_at, served_at}
+use Rattle.fm_net.specs.Machine.{Place, Nothing, New, Onward, reply_with, reply_at, served_at}
 use Rattle.fm_net.specs.Machine as net
 use Rattle.fm_net.specs.Lawful as law
-use Rattle.fm_net.specs.Lawful.{ports_from, port_of}
+use Rattle.fm_net.specs.Lawful.{ports_from}
 use Rattle.fm_net.specs.Owned.{name_of}
 use Rattle.fm_net.proofs.Counts.{count-nil}
 use Rattle.fm_net.proofs.Keys.{channel_order}

@@ -6,6 +6,7 @@ use Rattle.fm_finmap.proofs.Inserts.{insert_here}
 use Rattle.fm_sched.specs.Schedule.{IsLegal}
 use Rattle.fm_net.specs.Machine.{Place, Procs, State}
 use Rattle.fm_net.proofs.Keys.{path_order}
+use Rattle.fm_net_procs.proofs.Slices.{slice_within}
 use Rattle.fm_rules.specs.declared.program.Program.{Program}
 use Rattle.fm_mean.specs.Process.{Proc}
 use Rattle.fm_mean.specs.Actions.{local_step}
@@ -49,10 +50,6 @@ module _ (program : Program) where
 pub room_for : (slice : ℕ) (spare : Bool) (steps : ℕ) → HasRoom slice spare steps → steps + 1 ≤ most_steps slice spare
 room_for slice true steps room = omega (arith, room.0)
 room_for slice false steps room = let low = room.1 refl in omega (arith, low)
-
-slice_within : (slice : ℕ) (spare : Bool) → slice ≤ most_steps slice spare
-slice_within slice true = omega arith
-slice_within slice false = omega arith
 
 module _ (program : Program) (slice : ℕ) (spare : Bool) (s : State Proc) (p : Place) (x : Proc) (is : get s.procs p ≡ Some x) (a : Advanced) (m : Procs Proc) (at : AdvancesAt program slice spare p x a s.procs m) where
   abbrev pub stood : State Proc

@@ -23,7 +23,7 @@ use Rattle.fm_plain.specs.declared.looking.Next.TheVariants as next
 use Rattle.fm_plain.specs.Events.{event_by}
 use Rattle.fm_run.specs.Pieces.{has_local}
 use Rattle.fm_plain_net.specs.Goes.{MeetsIt}
-use Rattle.fm_plain_net.specs.Readings.{awaits}
+use Rattle.fm_run.specs.Awaited.{awaits}
 use Rattle.fm_plain_net.specs.Waited.{channel_received, event_in}
 use Rattle.fm_plain_net.proofs.Doing.{join_at}
 use Rattle.fm_plain_net.proofs.Families.{joined_family, kids_awaited}

@@ -15,7 +15,8 @@ use Rattle.fm_mean.specs.Process.{Phase, Proc}
 use Rattle.fm_mean.specs.Steps.{first, language, step}
 use Rattle.fm_plain.specs.Looking.{IsNext}
 use Rattle.fm_plain_net.specs.declared.ports.Ports.{Ports}
-use Rattle.fm_plain_net.specs.Readings.{Processes, Trees, awaited_in, awaits, kept, state_of, tree_of}
+use Rattle.fm_run.specs.Awaited.{awaited_in, awaits}
+use Rattle.fm_plain_net.specs.Readings.{Processes, Trees, kept, state_of, tree_of}
 
 -- the port is kept under its value
 abbrev pub IsKept : Ports → PortValue → Type 0

@@ -1,6 +1,6 @@
 -- The processes, channels and ports in memory as the meaning's state, and the ports by their values.
 -- Source: this profile.
-use Rattle.std.specs.Prelude.{◌≡◌, ℕ, Option, Some, None, List, length}
+use Rattle.std.specs.Prelude.{Option, List}
 use Rattle.std.specs.FinMap.{get}
 use Rattle.fm_base.specs.declared.port.PortValue.{PortValue}
 use Rattle.fm_base.specs.declared.port.PortValue.TheVariants.{Writer, Reader}
@@ -14,7 +14,7 @@ use Rattle.fm_net_procs.specs.declared.processes.Processes as run
 use Rattle.fm_net_procs.specs.Readings as table
 use Rattle.fm_rules.specs.declared.program.Program.{Program}
 use Rattle.fm_mean.specs.Outports.{outport_cmp}
-use Rattle.fm_mean.specs.Process.{Ended, Faulted, Joining, Phase, Proc, Running}
+use Rattle.fm_mean.specs.Process.{Proc}
 use Rattle.fm_plain.specs.declared.looking.Next.{Next}
 use Rattle.fm_plain_frame.specs.Frames.{proc_of}
 use Rattle.fm_plain_net.specs.declared.ports.Ports.{Ports}
@@ -22,16 +22,6 @@ use Rattle.fm_plain_net.specs.declared.processes.TreeProc.{TreeProc}
 
 abbrev pub tree_of : Program → TreeProc → Proc
 tree_of program x = proc_of program x.plain
-
--- the block whose children a process in this phase waits for, and how many they are
-abbrev pub awaited_in : Phase → Option (ℕ × ℕ)
-awaited_in Running = None
-awaited_in (Joining block kids) = Some (block, length kids)
-awaited_in Ended = None
-awaited_in (Faulted line fault) = None
-
-abbrev pub awaits : Proc → Option (ℕ × ℕ)
-awaits x = awaited_in x.phase
 
 -- a process, and what is kept of it
 abbrev pub Slot : Type 0

@@ -91,12 +91,7 @@ impl Net for TreeNet {
     }
 
     fn awaits(&self, number: u32, before: usize) -> Result<Awaited, NoMemory> {
-        let family = self.trees.entries.family(number);
-        let ended = self.trees.entries.count_ended(family, before)?;
-        Ok(Awaited {
-            ended,
-            waits: ended < family.count,
-        })
+        self.trees.entries.awaited(number, before)
     }
 
     fn outcome(&self, alloc: Global, program: &Program, used: u64) -> Result<Outcome, NoMemory> {

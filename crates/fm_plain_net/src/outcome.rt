@@ -52,16 +52,6 @@ pub fn push_fault(
     }
 }
 
-// A copy of the path of a number.
-fn path_of(alloc: Global, processes: &Processes, number: u32) -> Result<Option<Path>, NoMemory>
-    ensures { IfOk result (λ o. o ≡ place_at processes.now.rows number) }
-{
-    match processes.rows.path(number) {
-        Some(path) => Ok(Some(path.copy(alloc)?)),
-        None => Ok(None),
-    }
-}
-
 // The first of children that hasn't ended.
 fn awaited(alloc: Global, processes: &Processes, family: Family) -> Result<Option<Path>, NoMemory>
     ensures { IfOk result (λ o. (p : declared.Program) (q : Place) (b : ℕ) → AreChildren (order_of processes.now) family.first q b family.count → o ≡ awaited (procs_of p processes.now) q b 1 family.count) }
@@ -69,7 +59,7 @@ fn awaited(alloc: Global, processes: &Processes, family: Family) -> Result<Optio
     'children: for place in 0..family.count {
         let number = number_behind(family.first, place)?;
         if !processes.has_ended(number) {
-            return path_of(alloc, processes, number);
+            return processes.path_of(alloc, number);
         }
     }
     Ok(None)

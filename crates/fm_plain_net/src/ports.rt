@@ -1,6 +1,6 @@
 //! The ports that processes hold.
 
-ghost use Rattle.std.specs.Prelude.{◌≡◌, ◌≢◌, ◌≤◌, Some, None, OnOk};
+ghost use Rattle.std.specs.Prelude.{◌≡◌, ◌≢◌, Some, None, OnOk};
 ghost use Rattle.std.specs.Option.{option_copied};
 ghost use Rattle.fm_base.specs.declared.port.PortValue as declared;
 ghost use Rattle.fm_base.specs.declared.port.PortValue.TheVariants.{Writer, Reader};

@@ -110,8 +110,9 @@ impl Proc for TreeProc {
     ghost use Rattle.fm_plain_replies.specs.Joins.{frames_in, left_frames};
     ghost use Rattle.fm_plain_net.specs.Goes as goes;
     ghost use Rattle.fm_plain_net.specs.Held as held;
-    ghost use Rattle.fm_plain_net.specs.Readings.{awaits, tree_of};
+    ghost use Rattle.fm_plain_net.specs.Readings.{tree_of};
     ghost use Rattle.fm_plain_net.specs.Waited.{event_in};
+    ghost use Rattle.fm_run.specs.Awaited.{awaits};
     ghost use Rattle.fm_run.specs.Pieces.{has_local};
 
     type Look = Next;

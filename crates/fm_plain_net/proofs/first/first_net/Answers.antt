@@ -6,7 +6,8 @@ use Rattle.fm_base.specs.Channels.{Chans}
 use Rattle.fm_net.specs.Machine.{Place, Procs}
 use Rattle.fm_mean.specs.Process.{Proc}
 use Rattle.fm_plain_frame.specs.Frames.{proc_of}
-use Rattle.fm_plain_net.specs.Readings.{awaits, order_of, tree_of}
+use Rattle.fm_run.specs.Awaited.{awaits}
+use Rattle.fm_plain_net.specs.Readings.{order_of, tree_of}
 use Rattle.fm_net_procs.proofs.Maps.{absent, told_all, told_but}
 use Rattle.fm_plain.specs.Looking.{IsNext}
 use Rattle.fm_net_procs.proofs.Families.{all_families, awaits_nobody, families_but}

@@ -6,7 +6,8 @@ use Rattle.fm_finmap.proofs.Inserts.{insert_here}
 use Rattle.fm_mean.specs.Process.{Proc}
 use Rattle.fm_net.specs.Machine.{Place, Procs, State}
 use Rattle.fm_net.proofs.Keys.{path_order}
-use Rattle.fm_plain_net.specs.Readings.{actor_place, awaited_in, awaits, order_of, procs_of, tree_of}
+use Rattle.fm_run.specs.Awaited.{awaited_in, awaits}
+use Rattle.fm_plain_net.specs.Readings.{actor_place, order_of, procs_of, tree_of}
 use Rattle.fm_plain_net.proofs.Families.{joined_family, kids_awaited}
 use Rattle.fm_run.proofs.Able.{steps_there}
 use Rattle.fm_run.proofs.Steps.{owned_reached}

@@ -3,7 +3,8 @@ use Rattle.std.specs.Prelude.{is_some}
 use Rattle.std.proofs.lemmas.Result.{IfOk-weaker}
 use Rattle.fm_chan.specs.Bodies.{chans_of}
 use Rattle.fm_finmap.proofs.Rows.{there as stands_there}
-use Rattle.fm_plain_net.specs.Readings.{actor_place, awaits, proc_in, tree_of}
+use Rattle.fm_run.specs.Awaited.{awaits}
+use Rattle.fm_plain_net.specs.Readings.{actor_place, proc_in, tree_of}
 use Rattle.fm_plain_net.proofs.Placing.{joins_at}
 use Rattle.fm_net_procs.proofs.Maps.{found, told_put, there}
 use Rattle.fm_plain.specs.Looking.{IsNext}

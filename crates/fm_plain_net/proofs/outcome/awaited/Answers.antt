@@ -5,7 +5,7 @@ use Rattle.fm_mean.specs.Outcome.{awaited}
 use Rattle.fm_plain_net.specs.Readings.{order_of, procs_of}
 use Rattle.fm_plain_net.proofs.Awaited.{awaited_here, awaited_more}
 use Rattle.fm_net_procs.proofs.Families.{child_number}
-use Rattle.fm_plain_net.proofs.Families.{ended_there}
+use Rattle.fm_run.proofs.Awaiting.{ended_there}
 use Rattle.std.specs.FinMap.{get}
 use Rattle.fm_plain_net.proofs.outcome.awaited.Goals as goal
 

@@ -5,7 +5,8 @@ use Rattle.fm_base.specs.declared.path.Path.{Path}
 use Rattle.fm_net.specs.Machine.{Place}
 use Rattle.fm_mean.specs.Outcome.{lines_at, fault_at, wait_at}
 use Rattle.fm_mean.specs.Process.{Proc}
-use Rattle.fm_plain_net.specs.Readings.{awaits, proc_in, procs_of, Slot, tree_of}
+use Rattle.fm_run.specs.Awaited.{awaits}
+use Rattle.fm_plain_net.specs.Readings.{proc_in, procs_of, Slot, tree_of}
 use Rattle.fm_net_procs.proofs.Listed.{entries_all, entries_more, flat_more, row_listed}
 use Rattle.fm_net_procs.proofs.Maps.{entries_of}
 use Rattle.fm_plain.specs.Looking.{IsNext}

@@ -1,4 +1,4 @@
-use Rattle.std.proofs.Common.{◌≡◌, ◌++◌, map}
+use Rattle.std.proofs.Common.{◌≡◌, map}
 use Rattle.fm_rules.specs.declared.program.Program.{Program}
 use Rattle.fm_plain_frame.specs.Frames.{proc_of}
 use Rattle.fm_plain_net.specs.Readings.{tree_of}

@@ -1,4 +1,4 @@
-use Rattle.fm_plain_net.proofs.Families.{ended_there}
+use Rattle.fm_run.proofs.Awaiting.{ended_there}
 use Rattle.fm_plain_net.specs.Readings.{procs_of}
 use Rattle.std.specs.FinMap.{get}
 use Rattle.std.proofs.Common.{◌∙◌}

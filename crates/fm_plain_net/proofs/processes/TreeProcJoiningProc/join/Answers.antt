@@ -1,4 +1,4 @@
-use Rattle.std.proofs.Common.{◌≡◌, ap, sym, ◌∙◌}
+use Rattle.std.proofs.Common.{ap, sym, ◌∙◌}
 use Rattle.std.specs.Prelude.{is_some}
 use Rattle.fm_plain_net.proofs.Doing.{join_told}
 use Rattle.fm_plain_net.proofs.processes.TreeProcJoiningProc.join.Goals as goal

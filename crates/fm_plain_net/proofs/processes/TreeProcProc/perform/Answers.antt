@@ -1,4 +1,4 @@
-use Rattle.std.proofs.Common.{◌≡◌, false, None, Option, Some, List, [], map, refl, ap, sym, subst, ◌∙◌}
+use Rattle.std.proofs.Common.{◌≡◌, false, None, Option, Some, List, [], map, refl, ap, sym, subst}
 use Rattle.std.specs.Prelude.{is_some}
 use Rattle.fm_base.specs.Channels.{Chans}
 use Rattle.fm_chan.specs.Bodies.{chans_of}
@@ -8,7 +8,8 @@ use Rattle.fm_mean.specs.Steps.{language}
 use Rattle.fm_plain_frame.specs.Frames.{proc_of}
 use Rattle.fm_plain_net.specs.Goes.{CanPerform, Performs, joined_by, kids_by}
 use Rattle.fm_plain_net.specs.Held.{Fits}
-use Rattle.fm_plain_net.specs.Readings.{awaits, tree_of}
+use Rattle.fm_run.specs.Awaited.{awaits}
+use Rattle.fm_plain_net.specs.Readings.{tree_of}
 use Rattle.fm_plain_net.proofs.Doing.{can_perform, joins_none}
 use Rattle.fm_plain_net.proofs.Performed.{steps_to}
 use Rattle.fm_run.proofs.Steps.{owned_reached}
