@@ -37,6 +37,7 @@ CALLS = [
     ("replay", b"fmc trace 2\nturns ten\n"),
     ("check", "merger"),
     ("list", "checked"),
+    ("compile", "slices"),
     ("make 7", b""),
     ("demo 7", b""),
     ("run --fast", b""),

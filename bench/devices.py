@@ -29,7 +29,7 @@ REFUSED = b"      PROGRAM P\n      X = 1\n      END\n"
 TRACE = b"fmc trace 2\nturns 10000000\nlines 0\nsource\n"
 # Lawful: its statements, and so its list, don't fit into a pipe.
 LONG = b"      PROGRAM P\n" + b"      PRINT *, 123456789\n" * 5000 + b"      END\n"
-READING = ["run", "trace", "check", "list", "replay"]
+READING = ["run", "trace", "check", "list", "compile", "replay"]
 READ_FAULT, WRITE_FAULT, TOO_LONG = (6, b"read fault\n"), (7, b""), (9, b"source too long\n")
 NO_PROGRAM, NO_TRACE = (3, b"line 1: E26 not exactly one PROGRAM\n"), (10, b"malformed trace: line 1\n")
 
@@ -93,7 +93,7 @@ def calls(tries):
     trace = tries.usual("trace", LAWFUL)[1]
     yield from [("run", LAWFUL), ("run", REFUSED), ("run --turns 1", LAWFUL), ("run", padded(LAWFUL, SOURCE_LIMIT + 1))]
     yield from [("trace", LAWFUL), ("replay", trace), ("replay", b"fmc\n"), ("check", LAWFUL), ("list", LAWFUL)]
-    yield from [("list", LONG), ("make 7", b""), ("demo 1", b""), ("run --fast", b"")]
+    yield from [("compile", LAWFUL), ("list", LONG), ("make 7", b""), ("demo 1", b""), ("run --fast", b"")]
 
 
 def write_fault(tries, what, words, source, wanted=WRITE_FAULT, **how):
@@ -225,7 +225,7 @@ def of_file(tries, what, words, file, wanted):
 def limits(tries):
     """Sources and traces of as many bytes as there may be, and of one more."""
     most, over = padded(LAWFUL, SOURCE_LIMIT), padded(LAWFUL, SOURCE_LIMIT + 1)
-    for words in READING[:4]:
+    for words in READING[:5]:
         status, text = tries.usual(words, LAWFUL)
         rest = most[len(LAWFUL) :] if words == "trace" else b""
         of_file(tries, "1,000,000 bytes", words, file_of(most), (status, text + rest))
@@ -253,7 +253,7 @@ def shrunk(tries, words, whole, most, least):
 def shrinks(tries):
     """A file that is cut while it is read: the answer is that of the bytes that were read."""
     between = 0
-    trials = [(words, padded(LAWFUL, SOURCE_LIMIT + 1), SOURCE_LIMIT + 1) for words in READING[:4] * TIMES]
+    trials = [(words, padded(LAWFUL, SOURCE_LIMIT + 1), SOURCE_LIMIT + 1) for words in READING[:5] * TIMES]
     for words, whole, most in trials + [("replay", TRACE, TRACE_LIMIT + 1)]:
         answer, at = shrunk(tries, words, whole, most, len(LAWFUL))
         with sparse(whole[:at], at) as front:

@@ -8,8 +8,8 @@ which bytes, tokens, lines or units were dropped, doubled, exchanged, changed or
 wants of each:
 
 - A call ends by no signal, writes nothing to standard error, and one text of the form that its status says.
-- `check`, `list`, `run` and `trace` refuse alike. What `list` writes, laid out as a text with each statement at its
-  line, has the same answers of `check` and `run`, and the same list.
+- `check`, `list`, `compile`, `run` and `trace` refuse alike. What `list` writes, laid out as a text with each statement
+  at its line, has the same answers of `check`, `compile` and `run`, and the same list.
 - `run` writes the same report with the same status for each slice, number of workers and plan, where `check` says
   deterministic. Another program is run by one worker, and writes the same report where the slice is the same.
 - `replay` of the trace writes the report of the run. A trace that is bent in one byte is answered too, and where just
@@ -63,6 +63,7 @@ FORMS = {
               rb"(?:cycle main[^\n]*\n)*(?:turns \d+\n)?",
     "check": rb"(?:not )?deterministic(?:: line \d+)?\n",
     "list": rb"(?:[ \d]{6} [ \d]{5} [^\n]+\n)+",
+    "compile": rb"fmc object 1\n(?:[a-z]+(?: -?[A-Z0-9_]+)+\n)+",
     "trace": rb"fmc trace 2\nturns \d+\nlines \d+\n(?:\d+ \d+(?: \d+)?\n)*source\n(?s:.*)",
     3: rb"line \d+: E\d\d [^\n]+\n",
     4: rb"spent \d+\n",
@@ -71,7 +72,7 @@ FORMS = {
     11: rb"illegal turn: entry \d+\n",
     12: rb"unfinished\n",
 }
-STATUSES = {"check": (0, 3), "list": (0, 3), "run": (0, 1, 2, 3, 4), "trace": (0, 1, 2, 3, 4),
+STATUSES = {"check": (0, 3), "list": (0, 3), "compile": (0, 3), "run": (0, 1, 2, 3, 4), "trace": (0, 1, 2, 3, 4),
             "replay": (0, 1, 2, 3, 4, 9, 10, 11, 12)}
 ENDS = {0: "done", 1: "faulted", 2: "deadlocked", 3: "refused", 4: "spent"}
 
@@ -165,6 +166,7 @@ def try_lawful(rng, binary, text, checked):
     again = laid_out(listed[1])
     same("list of the list", call(binary, ["list"], again), listed)
     same("check of the list", call(binary, ["check"], again), checked)
+    same("compile of the list", call(binary, ["compile"], again), call(binary, ["compile"], text))
     if is_deterministic:
         first, equal = PLAIN, SLICES + PLACES
         setups = [first, *equal]
@@ -185,7 +187,7 @@ def try_text(rng, binary, text):
     checked = call(binary, ["check"], text)
     if checked[0] == 0:
         return ENDS[try_lawful(rng, binary, text, checked)]
-    for command in "list", "run", "trace":
+    for command in "list", "compile", "run", "trace":
         same(command, call(binary, [command], text), checked)
     if int(checked[1].split(b":")[0][5:]) > text.count(b"\n") + 1:
         raise Finding(f"check: a line that isn't there: {checked[1]!r}")

@@ -12,7 +12,7 @@ _fmc() {
         --turns | --slice | --workers) return ;;
     esac
     if ((COMP_CWORD == 1)); then
-        options='run trace replay check list make demo flow'
+        options='run trace replay check list make demo flow compile'
     elif [[ ${COMP_WORDS[1]} == run || ${COMP_WORDS[1]} == trace ]]; then
         options='--turns --slice --workers --plan --vars'
     elif [[ ${COMP_WORDS[1]} == replay ]]; then

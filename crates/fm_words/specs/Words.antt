@@ -241,4 +241,5 @@ command_of (w ∷ ws) =
     (cond (bytes_eq w (codes "list")) (alone command.List ws)
     (cond (bytes_eq w (codes "make")) (make_of ws)
     (cond (bytes_eq w (codes "demo")) (demo_of ws)
-    (cond (bytes_eq w (codes "flow")) (alone command.Flow ws) None)))))))
+    (cond (bytes_eq w (codes "flow")) (alone command.Flow ws)
+    (cond (bytes_eq w (codes "compile")) (alone command.Compile ws) None))))))))

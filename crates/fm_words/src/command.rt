@@ -38,6 +38,8 @@ pub enum Command {
     List,
     /// Checks a program and says whether it may deadlock.
     Flow,
+    /// Checks a program and writes its object text.
+    Compile,
     /// Writes a generated program.
     Make {
         /// The number of the program, below 10 to the 18.
@@ -271,6 +273,8 @@ pub fn words(alloc: Global, words: &[&str]) -> Result<Command, WordsFail>
         demo(alloc, behind)
     } else if *first == "flow" {
         alone(Command::Flow, behind)
+    } else if *first == "compile" {
+        alone(Command::Compile, behind)
     } else {
         Err(WordsFail::Usage)
     }

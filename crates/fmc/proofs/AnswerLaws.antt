@@ -34,6 +34,9 @@ use Rattle.fm_flow_law.specs.Flow.{IsFlowSafe, IsFlowVerdict}
 use Rattle.fm_flow_law.proofs.Promise.{safe_comes_to_its_end}
 use Rattle.fm_rules.specs.declared.program.Program.{Program}
 use Rattle.fm_rules.specs.Program.{IsChecked}
+use Rattle.fm_gen.specs.Programs.{code_of}
+use Rattle.fm_image.specs.ImageOf.{image_of}
+use Rattle.fm_object.specs.Texts.{object_text}
 use Rattle.fm_verdict.specs.Program.{IsCheckedOf}
 use Rattle.fm_verdict.specs.Verdict.{IsBroken, IsBrokenForm, AreStatementsOf}
 use Rattle.fm_run.specs.Orders.{places_of}
@@ -57,8 +60,8 @@ use Rattle.fmc.specs.Exits.{is_end, is_decided, is_of_reading}
 use Rattle.fmc.specs.Listing.{listed_text}
 use Rattle.fmc.specs.Outcomes.{IsAccepted, IsRefusedFor, IsUnplayed, cost_of, exit_by, exit_of, source_limit, state_after, usage_text}
 use Rattle.fmc.specs.Replay.{IsTooLongTrace, IsTraceOf, SaysReplay, trace_limit}
-use Rattle.fmc.specs.Answer.{Answers, Asked, HasGround, Says, SaysRun, SaysMade, SaysTrace, IsListOf, SaysTold, TellsList, TellsDeterminism, IsFirstRaceOf, determinism_text, flow_text, TellsFlow, SaysOf, IsHistoryIn, IsHistoryOf, IsEnded, IsNoHistory, HasHistory, IsReady, IsRefusedBy, IsCompleted, IsMalformedBy, IsMalformedExit, IsRefusedExit, IsTooLongBy, IsTooLongExit, IsPlayedExit, are_reading, is_reading, limit_of, report_asked, summary_asked, trace_asked}
-use Rattle.fmc.specs.Reply.{bytes_of, places_in, IsFlowReply, IsReply, IsReplyFor, IsReplyOf, IsFairlySpent, IsRunBy, IsRunOf, IsTableOf, exit_in, is_spent_by, text_in}
+use Rattle.fmc.specs.Answer.{Answers, Asked, HasGround, Says, SaysRun, SaysMade, SaysTrace, IsListOf, SaysTold, TellsList, TellsDeterminism, IsFirstRaceOf, determinism_text, flow_text, TellsFlow, TellsObject, SaysOf, IsHistoryIn, IsHistoryOf, IsEnded, IsNoHistory, HasHistory, IsReady, IsRefusedBy, IsCompleted, IsMalformedBy, IsMalformedExit, IsRefusedExit, IsTooLongBy, IsTooLongExit, IsPlayedExit, are_reading, is_reading, limit_of, report_asked, summary_asked, trace_asked}
+use Rattle.fmc.specs.Reply.{bytes_of, places_in, IsFlowReply, IsObjectReply, IsReply, IsReplyFor, IsReplyOf, IsFairlySpent, IsRunBy, IsRunOf, IsTableOf, exit_in, is_spent_by, text_in}
 
 -- Replies from what the parts give.
 
@@ -78,6 +81,12 @@ pub flow_says : (b : List ℕ) (ss : List Placed) (p : Program) (r : Reply) → 
 flow_says b ss p r le h k checked e f =
     subst (λ (x : Exit). Says command.Flow b x r.ran.history.items (places_in r.ran) (bytes_of r.text)) (sym e)
     (record { within = le; clean = h; statements = ss; read = k; told = flow_text f.risk; tells = (f.risk, record { program = p; checked = checked; verdict = f.verdict }, refl); unplayed = f.unplayed })
+
+pub object_says : (b : List ℕ) (ss : List Placed) (p : Program) (r : Reply) → length b ≤ source_limit → IsClean (IsBroken b) → AreStatementsOf (cards_of b) ss → IsChecked ss p.units p.names
+    → r.ran.exit ≡ Done → IsObjectReply p r → IsReply command.Compile b r
+object_says b ss p r le h k checked e u =
+    subst (λ (x : Exit). Says command.Compile b x r.ran.history.items (places_in r.ran) (bytes_of r.text)) (sym e)
+    (record { within = le; clean = h; statements = ss; read = k; told = object_text (image_of p (code_of p)); tells = record { program = p; checked = checked; object = refl }; unplayed = u })
 
 -- the first race of a checked program
 pub race_of : (ss : List Placed) (us : List Unit) (ns : List UnitNames) (race : Option Line) → us ≡ units_of ss → ns ≡ names_of (units_of ss) → ∥ IsRaceVerdict us (context_of us ns) race ∥₁ → IsFirstRaceOf ss race
@@ -447,6 +456,7 @@ says_history (Some (command.Replay vars)) b exit h ps t k = replay_history vars 
 says_history (Some command.Check) b exit h ps t k = told_history TellsDeterminism b exit h ps t k
 says_history (Some command.List) b exit h ps t k = told_history TellsList b exit h ps t k
 says_history (Some command.Flow) b exit h ps t k = told_history TellsFlow b exit h ps t k
+says_history (Some command.Compile) b exit h ps t k = told_history TellsObject b exit h ps t k
 says_history (Some (command.Make number)) b exit h ps t k = made_history number exit h ps t k
 says_history (Some (command.Demo number setup)) b exit h ps t k = run_history (summary_asked setup.turns) (made_text number) exit h ps t k.1
 
@@ -480,6 +490,7 @@ completed (command.Replay vars) b exit h ps t k r short v = replay_completed var
 completed command.Check b exit h ps t k r short v = told_completed TellsDeterminism b exit h ps t k r v.0 v.1
 completed command.List b exit h ps t k r short v = told_completed TellsList b exit h ps t k r v.0 v.1
 completed command.Flow b exit h ps t k r short v = told_completed TellsFlow b exit h ps t k r v.0 v.1
+completed command.Compile b exit h ps t k r short v = told_completed TellsObject b exit h ps t k r v.0 v.1
 completed (command.Make number) b exit h ps t k r short v = made_completed number exit h ps t k
 completed (command.Demo number setup) b exit h ps t k r short v = run_completed (summary_asked setup.turns) (made_text number) exit h ps t k.1 (demo_reads exit k.0) (short number) v
 
@@ -505,6 +516,7 @@ refused_of (command.Replay vars) b exit h ps t k r short v w = replay_refused va
 refused_of command.Check b exit h ps t k r short v w = told_refused TellsDeterminism b exit h ps t k r w.0 v w.1
 refused_of command.List b exit h ps t k r short v w = told_refused TellsList b exit h ps t k r w.0 v w.1
 refused_of command.Flow b exit h ps t k r short v w = told_refused TellsFlow b exit h ps t k r w.0 v w.1
+refused_of command.Compile b exit h ps t k r short v w = told_refused TellsObject b exit h ps t k r w.0 v w.1
 refused_of (command.Make number) b exit h ps t k r short v w = absurd w
 refused_of (command.Demo number setup) b exit h ps t k r short v w = run_refused (summary_asked setup.turns) (made_text number) exit h ps t k.1 (demo_reads exit k.0) (short number) v w
 
@@ -530,6 +542,7 @@ too_long_by (command.Replay vars) b exit h ps t k r l = replay_long vars b exit 
 too_long_by command.Check b exit h ps t k r l = told_long TellsDeterminism b exit h ps t k r l
 too_long_by command.List b exit h ps t k r l = told_long TellsList b exit h ps t k r l
 too_long_by command.Flow b exit h ps t k r l = told_long TellsFlow b exit h ps t k r l
+too_long_by command.Compile b exit h ps t k r l = told_long TellsObject b exit h ps t k r l
 too_long_by (command.Make number) b exit h ps t k r l = absurd l
 too_long_by (command.Demo number setup) b exit h ps t k r l = absurd l
 
@@ -540,6 +553,7 @@ malformed_by (command.Replay vars) b exit h ps t k r l = replay_malformed vars b
 malformed_by command.Check b exit h ps t k r l = absurd l
 malformed_by command.List b exit h ps t k r l = absurd l
 malformed_by command.Flow b exit h ps t k r l = absurd l
+malformed_by command.Compile b exit h ps t k r l = absurd l
 malformed_by (command.Make number) b exit h ps t k r l = absurd l
 malformed_by (command.Demo number setup) b exit h ps t k r l = absurd l
 
@@ -551,6 +565,7 @@ says_unread (command.Replay vars) b other exit h ps t e k = absurd (false≢true
 says_unread command.Check b other exit h ps t e k = absurd (false≢true (sym e))
 says_unread command.List b other exit h ps t e k = absurd (false≢true (sym e))
 says_unread command.Flow b other exit h ps t e k = absurd (false≢true (sym e))
+says_unread command.Compile b other exit h ps t e k = absurd (false≢true (sym e))
 says_unread (command.Make number) b other exit h ps t e k = k
 says_unread (command.Demo number setup) b other exit h ps t e k = k
 
@@ -563,6 +578,7 @@ no_memory_says (Some (command.Replay vars)) b exit h ps t c e u = subst (λ (x :
 no_memory_says (Some command.Check) b exit h ps t c e u = subst (λ (x : Exit). SaysTold TellsDeterminism b x h ps t) (sym e) u
 no_memory_says (Some command.List) b exit h ps t c e u = subst (λ (x : Exit). SaysTold TellsList b x h ps t) (sym e) u
 no_memory_says (Some command.Flow) b exit h ps t c e u = subst (λ (x : Exit). SaysTold TellsFlow b x h ps t) (sym e) u
+no_memory_says (Some command.Compile) b exit h ps t c e u = subst (λ (x : Exit). SaysTold TellsObject b x h ps t) (sym e) u
 no_memory_says (Some (command.Make number)) b exit h ps t c e u = inr (e, u)
 no_memory_says (Some (command.Demo number setup)) b exit h ps t c e u = (ap is_of_reading e, subst (λ (x : Exit). SaysRun (summary_asked setup.turns) (made_text number) x h ps t) (sym e) u)
 
@@ -602,6 +618,7 @@ no_read_fault (command.Replay vars) b exit h ps t e k f = false≢true (sym e)
 no_read_fault command.Check b exit h ps t e k f = false≢true (sym e)
 no_read_fault command.List b exit h ps t e k f = false≢true (sym e)
 no_read_fault command.Flow b exit h ps t e k f = false≢true (sym e)
+no_read_fault command.Compile b exit h ps t e k f = false≢true (sym e)
 no_read_fault (command.Make number) b exit h ps t e (inl k) f = cc (sym k.0 ∙ f)
 no_read_fault (command.Make number) b exit h ps t e (inr k) f = cc (sym k.0 ∙ f)
 no_read_fault (command.Demo number setup) b exit h ps t e k f = demo_reads exit k.0 f
@@ -614,6 +631,7 @@ read_fault_says (command.Replay vars) b exit h ps t c e u = subst (λ (x : Exit)
 read_fault_says command.Check b exit h ps t c e u = subst (λ (x : Exit). SaysTold TellsDeterminism b x h ps t) (sym e) u
 read_fault_says command.List b exit h ps t c e u = subst (λ (x : Exit). SaysTold TellsList b x h ps t) (sym e) u
 read_fault_says command.Flow b exit h ps t c e u = subst (λ (x : Exit). SaysTold TellsFlow b x h ps t) (sym e) u
+read_fault_says command.Compile b exit h ps t c e u = subst (λ (x : Exit). SaysTold TellsObject b x h ps t) (sym e) u
 read_fault_says (command.Make number) b exit h ps t c e u = absurd (false≢true c)
 read_fault_says (command.Demo number setup) b exit h ps t c e u = absurd (false≢true c)
 
@@ -624,6 +642,7 @@ too_long_says (command.Replay vars) b exit h ps t c e l u = subst (λ (x : Exit)
 too_long_says command.Check b exit h ps t c e l u = subst (λ (x : Exit). SaysTold TellsDeterminism b x h ps t) (sym e) (l, u)
 too_long_says command.List b exit h ps t c e l u = subst (λ (x : Exit). SaysTold TellsList b x h ps t) (sym e) (l, u)
 too_long_says command.Flow b exit h ps t c e l u = subst (λ (x : Exit). SaysTold TellsFlow b x h ps t) (sym e) (l, u)
+too_long_says command.Compile b exit h ps t c e l u = subst (λ (x : Exit). SaysTold TellsObject b x h ps t) (sym e) (l, u)
 too_long_says (command.Make number) b exit h ps t c e l u = absurd (false≢true c)
 too_long_says (command.Demo number setup) b exit h ps t c e l u = absurd (false≢true c)
 

@@ -27,6 +27,9 @@ use Rattle.fm_rules.specs.Names.{names_of}
 use Rattle.fm_rules.specs.Race.{IsRaceVerdict}
 use Rattle.fm_rules.specs.declared.program.Program.{Program}
 use Rattle.fm_rules.specs.Program.{IsChecked}
+use Rattle.fm_gen.specs.Programs.{code_of}
+use Rattle.fm_image.specs.ImageOf.{image_of}
+use Rattle.fm_object.specs.Texts.{object_text}
 use Rattle.fm_flow_law.specs.Flow.{IsFlowSafe, IsFlowVerdict}
 use Rattle.fm_verdict.specs.Verdict.{IsBroken, AreStatementsOf}
 use Rattle.fm_verdict.specs.Program.{IsCheckedOf}
@@ -169,6 +172,12 @@ flow_text (Some line) = codes "may deadlock: line " ++ decimal line.0 ++ 10 ∷ 
 abbrev pub TellsFlow : List Placed → List ℕ → Type 0
 TellsFlow statements told = (risk : Option Line) × IsFlowOf statements risk × (told ≡ flow_text risk)
 
+-- the whole text of an object, and nothing else: that of the image of the program of the statements and its code
+pub record TellsObject (statements : List Placed) (told : List ℕ) : Type 0 where
+  pub program : Program
+  pub checked : IsChecked statements program.units program.names
+  pub object : told ≡ object_text (image_of program (code_of program))
+
 -- nothing was played
 abbrev pub IsNoHistory : List Turn → List Place → Type 0
 IsNoHistory history places = (history ≡ []) × (places ≡ [])
@@ -186,6 +195,7 @@ HasHistory (Some (command.Replay vars)) source history places = IsNoHistory hist
 HasHistory (Some command.Check) source history places = IsNoHistory history places
 HasHistory (Some command.List) source history places = IsNoHistory history places
 HasHistory (Some command.Flow) source history places = IsNoHistory history places
+HasHistory (Some command.Compile) source history places = IsNoHistory history places
 HasHistory (Some (command.Make number)) source history places = IsNoHistory history places
 HasHistory (Some (command.Demo number setup)) source history places = IsHistoryIn setup.turns (made_text number) history places
 
@@ -245,6 +255,7 @@ Says (command.Replay vars) b exit h ps t = SaysReplay vars b exit h ps t
 Says command.Check b exit h ps t = SaysTold TellsDeterminism b exit h ps t
 Says command.List b exit h ps t = SaysTold TellsList b exit h ps t
 Says command.Flow b exit h ps t = SaysTold TellsFlow b exit h ps t
+Says command.Compile b exit h ps t = SaysTold TellsObject b exit h ps t
 Says (command.Make number) b exit h ps t = SaysMade number exit h ps t
 Says (command.Demo number setup) b exit h ps t = SaysDemo number setup.turns exit h ps t
 
@@ -261,6 +272,7 @@ is_reading (command.Replay vars) = true
 is_reading command.Check = true
 is_reading command.List = true
 is_reading command.Flow = true
+is_reading command.Compile = true
 is_reading (command.Make number) = false
 is_reading (command.Demo number setup) = false
 
@@ -276,6 +288,7 @@ limit_of (command.Replay vars) = trace_limit
 limit_of command.Check = source_limit
 limit_of command.List = source_limit
 limit_of command.Flow = source_limit
+limit_of command.Compile = source_limit
 limit_of (command.Make number) = source_limit
 limit_of (command.Demo number setup) = source_limit
 
@@ -306,6 +319,7 @@ IsReady (command.Replay vars) b = IsTraceOf IsAccepted b
 IsReady command.Check b = IsLawful b
 IsReady command.List b = IsLawful b
 IsReady command.Flow b = IsLawful b
+IsReady command.Compile b = IsLawful b
 IsReady (command.Make number) b = Unit {0}
 IsReady (command.Demo number setup) b = IsAccepted (made_text number)
 
@@ -317,6 +331,7 @@ IsCompleted (command.Replay vars) exit = IsPlayedExit exit ⊎ ((exit ≡ Illega
 IsCompleted command.Check exit = (exit ≡ Done) ⊎ (exit ≡ NoMemory)
 IsCompleted command.List exit = (exit ≡ Done) ⊎ (exit ≡ NoMemory)
 IsCompleted command.Flow exit = (exit ≡ Done) ⊎ (exit ≡ NoMemory)
+IsCompleted command.Compile exit = (exit ≡ Done) ⊎ (exit ≡ NoMemory)
 IsCompleted (command.Make number) exit = (exit ≡ Done) ⊎ (exit ≡ NoMemory)
 IsCompleted (command.Demo number setup) exit = ((exit ≡ Done) ⊎ ((exit ≡ Faulted) ⊎ (exit ≡ Deadlocked))) ⊎ ((exit ≡ Spent) ⊎ (exit ≡ NoMemory))
 
@@ -332,6 +347,7 @@ IsRefusedBy (command.Replay vars) b v = IsTraceOf (λ source. IsRefusedFor sourc
 IsRefusedBy command.Check b v = IsUnlawful b v
 IsRefusedBy command.List b v = IsUnlawful b v
 IsRefusedBy command.Flow b v = IsUnlawful b v
+IsRefusedBy command.Compile b v = IsUnlawful b v
 IsRefusedBy (command.Make number) b v = ⊥
 IsRefusedBy (command.Demo number setup) b v = IsRefusedFor (made_text number) v
 
@@ -349,6 +365,7 @@ IsTooLongBy (command.Replay vars) b = IsTooLongTrace b
 IsTooLongBy command.Check b = source_limit < length b
 IsTooLongBy command.List b = source_limit < length b
 IsTooLongBy command.Flow b = source_limit < length b
+IsTooLongBy command.Compile b = source_limit < length b
 IsTooLongBy (command.Make number) b = ⊥
 IsTooLongBy (command.Demo number setup) b = ⊥
 
@@ -363,6 +380,7 @@ IsMalformedBy (command.Replay vars) b = (length b ≤ trace_limit) × (line : �
 IsMalformedBy command.Check b = ⊥
 IsMalformedBy command.List b = ⊥
 IsMalformedBy command.Flow b = ⊥
+IsMalformedBy command.Compile b = ⊥
 IsMalformedBy (command.Make number) b = ⊥
 IsMalformedBy (command.Demo number setup) b = ⊥
 

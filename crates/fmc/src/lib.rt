@@ -16,4 +16,4 @@ mod top;
 pub use answer::{Exit, Ran};
 pub use call::{exit_of_call, words};
 pub use laws::replay_has_one_answer;
-pub use top::{fmc, one_verdict, play_choices, replay_tells_the_run};
+pub use top::{flow_excludes_deadlock, fmc, one_verdict, play_choices, replay_tells_the_run};

@@ -5,13 +5,16 @@ ghost use Rattle.fm_base.specs.Verdict.{IsClean, IsRefusal};
 ghost use Rattle.fm_cards.specs.Cards.{cards_of};
 ghost use Rattle.fm_rules.specs.Program.{AreShaped};
 ghost use Rattle.fm_verdict.specs.Verdict.{AreStatementsOf, IsBroken, IsBrokenForm};
+ghost use Rattle.fm_gen.specs.Programs.{code_of};
+ghost use Rattle.fm_image.specs.ImageOf.{image_of};
+ghost use Rattle.fm_object.specs.Texts.{object_text};
 ghost use Rattle.fmc.specs.Listing.{listed_text};
 ghost use Rattle.fm_run.specs.Orders.{places_of};
 ghost use Rattle.fm_words.specs.declared.command.Command.TheVariants as command;
 ghost use Rattle.fmc.specs.Exits.{is_decided};
 ghost use Rattle.fmc.specs.Outcomes.{source_limit};
 ghost use Rattle.fmc.specs.Answer.{FollowsIn, IsListOf, determinism_text, flow_text, IsPlayedExit, SaysDemo, SaysMade, SaysRun, SaysTrace, count_line, ended_word, limit_of, report_asked, summary_asked, summary_by};
-ghost use Rattle.fmc.specs.Reply.{bytes_of, places_in, IsFlowReply, IsReply, IsSummary, exit_in, text_in};
+ghost use Rattle.fmc.specs.Reply.{bytes_of, places_in, IsFlowReply, IsObjectReply, IsReply, IsSummary, exit_in, text_in};
 
 use crate::answer::{Exit, Ran, Reply, Text};
 use crate::listing::list_text;
@@ -21,6 +24,8 @@ use crate::replies::{exit_of, no_memory, refusal_reply, unplayed_reply};
 use fm_base::{CheckFail, Line, NoMemory, Path, Setup};
 use fm_flow::flow;
 use fm_front::{check_statements, front, statements};
+use fm_gen::generate;
+use fm_image::image;
 use fm_make::make;
 use fm_mean::Outcome;
 use fm_report::{report, spent_text};
@@ -338,6 +343,36 @@ fn try_flow(alloc: Global, bytes: &[u8]) -> Result<Reply, NoMemory>
     }
 }
 
+/// The object text of the image of a program and its code.
+fn object_of(alloc: Global, program: &Program) -> Result<Vec<u8>, NoMemory>
+    ensures { IfOk result (λ v. v.items ≡ object_text (image_of program.now (code_of program.now))) }
+{
+    let code = generate(alloc, program)?;
+    let image = image(alloc, program, &code)?;
+    fm_object::write(alloc, &image)
+}
+
+/// The reply that is the object text of a program.
+fn object_reply(alloc: Global, program: &Program) -> Result<Reply, NoMemory>
+    ensures exit { IfOk result (λ r. r.ran.exit ≡ Exit.Done) }
+    ensures text { IfOk result (IsObjectReply program.now) }
+{
+    let object = object_of(alloc, program)?;
+    Ok(unplayed_reply(alloc, Exit::Done, Text::Made(object)))
+}
+
+fn try_compile(alloc: Global, bytes: &[u8]) -> Result<Reply, NoMemory>
+    requires { length bytes.now ≤ source_limit }
+    ensures reply { IfOk result (λ r. IsReply command.Compile bytes.now r) }
+    ensures kind { IfOk result (λ r. is_decided r.ran.exit ≡ true) }
+{
+    match front(alloc, bytes) {
+        Ok(program) => object_reply(alloc, &program),
+        Err(CheckFail::Refused(refusal)) => refusal_reply(alloc, refusal),
+        Err(CheckFail::NoMemory) => Err(NoMemory),
+    }
+}
+
 /// The list of statements that break no rule, of a source whose form breaks none.
 fn checked_list(alloc: Global, statements: Vec<Placed>) -> Result<Vec<u8>, CheckFail>
     requires { AreShaped statements.items }
@@ -393,6 +428,7 @@ pub fn reply<W: Workers<Table>>(alloc: Global, command: Command, bytes: &[u8], w
         Command::Check => try_check(alloc, bytes),
         Command::List => try_list(alloc, bytes),
         Command::Flow => try_flow(alloc, bytes),
+        Command::Compile => try_compile(alloc, bytes),
         Command::Make { number } => try_make(alloc, number),
         Command::Demo { number, setup } => try_demo(alloc, number, setup, workers),
     };

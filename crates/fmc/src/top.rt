@@ -41,7 +41,7 @@ const TRACE_LIMIT: usize = 100_000_000;
 const SLICE: u32 = 1_000;
 
 const USAGE: &[u8] =
-    b"usage: fmc run or trace or replay or check or list or make N or demo N or flow\n";
+    b"usage: fmc run or trace or replay or check or list or make N or demo N or flow or compile\n";
 
 fn limit_of(command: &Command) -> usize
     ensures { result ≡ limit_of command.now }
@@ -53,6 +53,7 @@ fn limit_of(command: &Command) -> usize
         Command::Check => LIMIT,
         Command::List => LIMIT,
         Command::Flow => LIMIT,
+        Command::Compile => LIMIT,
         Command::Make { .. } => LIMIT,
         Command::Demo { .. } => LIMIT,
     }
@@ -96,6 +97,7 @@ fn is_reading(command: &Command) -> bool
         Command::Check => true,
         Command::List => true,
         Command::Flow => true,
+        Command::Compile => true,
         Command::Make { .. } => false,
         Command::Demo { .. } => false,
     }

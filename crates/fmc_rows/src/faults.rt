@@ -8,14 +8,16 @@ use std::test::Fail;
 
 const LEAST: &[u8] = b"      PROGRAM P\n      PRINT *, 1\n      END\n";
 
-/// So many line feeds, and the exit and the text for them.
-const LIMITS: [(usize, Exit, &[u8]); 2] = [
+/// A command and so many line feeds, and the exit and the text for them.
+const LIMITS: [(&str, usize, Exit, &[u8]); 3] = [
     (
+        "run",
         1_000_000,
         Exit::Refused,
         b"line 1: E26 not exactly one PROGRAM\n",
     ),
-    (1_000_001, Exit::TooLong, b"source too long\n"),
+    ("run", 1_000_001, Exit::TooLong, b"source too long\n"),
+    ("compile", 1_000_001, Exit::TooLong, b"source too long\n"),
 ];
 
 /// Streams of which a call fails, and the exit and the text for the least program.
@@ -63,9 +65,9 @@ const LONG: Streams = Streams {
 
 #[test]
 fn the_limit_of_a_source(rt: HostRuntime) -> Result<(), Fail> {
-    for (count, exit, text) in LIMITS {
+    for (word, count, exit, text) in LIMITS {
         let line_feeds = vec![in rt.alloc(); b'\n'; count]?;
-        let (ran, written) = answer_over(rt.alloc(), &LONG, &["run"], line_feeds)?;
+        let (ran, written) = answer_over(rt.alloc(), &LONG, &[word], line_feeds)?;
         assert_eq!(rt; written.as_slice(), text);
         assert_eq!(rt; ran.exit, exit);
     }

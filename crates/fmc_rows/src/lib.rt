@@ -8,6 +8,8 @@ mod base;
 #[cfg(test)]
 mod channels;
 #[cfg(test)]
+mod compiled;
+#[cfg(test)]
 mod examples;
 #[cfg(test)]
 mod faults;

@@ -7,7 +7,7 @@ use std::alloc::Global;
 use std::test::Fail;
 
 const USAGE: &[u8] =
-    b"usage: fmc run or trace or replay or check or list or make N or demo N or flow\n";
+    b"usage: fmc run or trace or replay or check or list or make N or demo N or flow or compile\n";
 
 /// A source, and the exit and the text for it.
 pub(crate) struct Row {
@@ -308,7 +308,7 @@ struct Call {
     row: Row,
 }
 
-const CALLS: [Call; 12] = [
+const CALLS: [Call; 13] = [
     Call {
         words: &["run", "--vars"],
         row: Row {
@@ -399,6 +399,14 @@ const CALLS: [Call; 12] = [
     },
     Call {
         words: &["check", "--vars"],
+        row: Row {
+            source: LEAST,
+            exit: Exit::Usage,
+            text: USAGE,
+        },
+    },
+    Call {
+        words: &["compile", "--turns=5"],
         row: Row {
             source: LEAST,
             exit: Exit::Usage,

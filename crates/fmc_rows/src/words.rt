@@ -88,7 +88,7 @@ const RUNS: [(&[&str], Setup, bool); 8] = [
 ];
 
 /// Words that are no command.
-const NOTHING: [&[&str]; 42] = [
+const NOTHING: [&[&str]; 44] = [
     &[],
     &[""],
     &["RUN"],
@@ -98,6 +98,8 @@ const NOTHING: [&[&str]; 42] = [
     &["check", "--vars"],
     &["check", "--turns=5"],
     &["flow", "--vars"],
+    &["compile", "--vars"],
+    &["compile", "--turns", "5"],
     &["run", "list"],
     &["run", "--"],
     &["run", "-h"],
@@ -139,6 +141,7 @@ fn words_are_their_commands(rt: HostRuntime) -> Result<(), Fail> {
     assert_eq!(rt; words(alloc, &["list"]), Ok(Command::List));
     assert_eq!(rt; words(alloc, &["check"]), Ok(Command::Check));
     assert_eq!(rt; words(alloc, &["flow"]), Ok(Command::Flow));
+    assert_eq!(rt; words(alloc, &["compile"]), Ok(Command::Compile));
     assert_eq!(rt;
         words(alloc, &["replay", "--vars"]),
         Ok(Command::Replay { vars: true })
