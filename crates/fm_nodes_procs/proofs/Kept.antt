@@ -1,5 +1,5 @@
 -- Rows as they are kept: places and values apart.
-use Rattle.std.proofs.Common.{Bor, ◌≡◌, ℕ, zero, suc, ◌<◌, ◌≤◌, Option, Some, None, true, false, cond, List, [], ◌∷◌, ◌++◌, length, refl, sym, ap, ap₂, subst, ◌∙◌, arith, get_or, length-append, length-set}
+use Rattle.std.proofs.Common.{Bor, ◌≡◌, ℕ, zero, suc, ◌+◌, ◌<◌, ◌≤◌, Option, Some, None, true, false, cond, List, [], ◌∷◌, ◌++◌, length, refl, sym, ap, ap₂, subst, ◌∙◌, arith, get_or, take, length-append, length-set}
 use Rattle.std.specs.Prelude.{option_map, slice_get, slice_set}
 use Rattle.std.specs.Arc.{arc_value}
 use Rattle.std.specs.List.{IsDistinct, ItemBy, zip}
@@ -8,9 +8,9 @@ use Rattle.std.specs.FinMap.{find, get, get-empty, get-insert, empty, insert}
 use Rattle.std.specs.declared.cmp.Ordering.{Ordering}
 use Rattle.std.specs.declared.alloc.Global.{Global}
 use Rattle.std.specs.declared.sync.Arc.{Arc}
-use Rattle.std.proofs.lemmas.List.{map-append, length-map}
+use Rattle.std.proofs.lemmas.List.{get_or-map, map-append, length-map, take_all, take_more}
 use Rattle.std.proofs.lemmas.Option.{slice_get_past, slice_get_read, slice_get-map}
-use Rattle.std.proofs.lemmas.Slice.Zip.{firsts-zip, seconds-zip}
+use Rattle.std.proofs.lemmas.Slice.Zip.{firsts-zip, get_or-zip, seconds-zip}
 use Rattle.fm_base.specs.PathOrder.{path_cmp}
 use Rattle.fm_base.specs.declared.path.Path.{Path}
 use Rattle.fm_finmap.specs.Keys.{IsKeyOrder}
@@ -90,6 +90,23 @@ module _ {T : Type 0} (paths : List (Arc Path Global)) (values : List T) (h : Ha
 
   pub value_lent : (n : ℕ) (p : Place) → slice_get order n ≡ Some p → {B : Type 0} (now : B → T) (r : Option B) → ItemBy now values n n r → option_map now r ≡ get (numbered_map rows) p
   value_lent n p at now r lent = lent_at now values n r lent ∙ value_kept n p at
+
+  rows_count : length values ≡ length rows
+  rows_count = ap length (sym (seconds-zip order values h.each)) ∙ length-map rows (λ (row : Place × T). row.1)
+
+  -- one row more
+  pub row_more : (n : ℕ) (path : Arc Path Global) (x : T) → n < length paths → path ≡ get_or paths n path → x ≡ get_or values n x → take (n + 1) rows ≡ take n rows ++ (arc_value path, x) ∷ []
+  row_more n path x within p v =
+      let row : Place × T = (arc_value path, x) in
+      let long : length order ≡ length paths = length-map paths (λ (a : Arc Path Global). arc_value a) in
+      let each : length values ≡ length order = h.each in
+      let is : get_or rows n row ≡ row =
+      get_or-zip order values n row (omega arith) (omega arith)
+      ∙ ap₂ (λ (a : Place) (b : T). (a, b)) (get_or-map (λ (a : Arc Path Global). arc_value a) paths n path (arc_value path) within ∙ ap (λ (a : Arc Path Global). arc_value a) (sym p)) (sym v) in
+      take_more rows n row (omega (arith, rows_count)) ∙ ap (λ (r : Place × T). take n rows ++ r ∷ []) is
+
+  pub all_rows : (n : ℕ) → length paths ≤ n → take n rows ≡ rows
+  all_rows n past = take_all n rows (omega (arith, rows_count, h.each, length-map paths (λ (a : Arc Path Global). arc_value a)))
 
   pub absent : (p : Place) → ((n : ℕ) → slice_get order n ≡ Some p → ⊥) → get (numbered_map rows) p ≡ None
   absent p none = get_entry path_order rows p ∙ find-none path_order order values p none

@@ -15,7 +15,7 @@ use Rattle.fm_net.specs.Machine.{Place, child, start_changes}
 use Rattle.fm_net.specs.Starts.{child_places}
 use Rattle.fm_net.proofs.Children.{other_child, off_starts}
 use Rattle.fm_nodes_procs.specs.Processes.{by_path, order_of, procs_of, rows_in}
-use Rattle.fm_nodes_procs.proofs.Kept.{places_kept}
+use Rattle.fm_nodes_procs.proofs.Kept.{absent, places_kept}
 use Rattle.fm_nodes_procs.specs.Children.{is_over}
 use Rattle.fm_nodes_procs.specs.declared.processes.Processes.{Processes}
 
@@ -108,3 +108,7 @@ module _ {X Proc : Type 0} (seen : X → Proc) (x : Processes X) where
       go None is =
           absurd (cc (sym (row_there (rows_in x.paths.items x.values.items) n p (ap (λ qs. slice_get qs n) (places_kept x.paths.items x.values.items x.rows) ∙ at)) ∙ ap is_some is))
       go (Some s) is = (seen s, there seen x p (Some s) (sym is))
+
+  -- who has no number is nobody
+  pub nobody : (q : Place) → ((n : ℕ) → slice_get (order_of x) n ≡ Some q → ⊥) → get (procs_of seen x) q ≡ None
+  nobody q none = there seen x q None (sym (absent x.paths.items x.values.items x.rows q none))

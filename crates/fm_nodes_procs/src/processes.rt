@@ -1,6 +1,6 @@
 //! The processes on hosts.
 
-ghost use Rattle.std.specs.Prelude.{◌≡◌, ◌<◌, ◌++◌, ◌^◌, [], ◌∷◌, Some, IfNone, IfSome, OnErr, OnOk, length, slice_get};
+ghost use Rattle.std.specs.Prelude.{◌≡◌, ◌<◌, ◌++◌, ◌^◌, [], ◌∷◌, Some, IfNone, IfOk, IfSome, OnErr, OnOk, length, map, slice_get};
 ghost use Rattle.std.proofs.Props.{props};
 ghost use Rattle.std.specs.FinMap.{empty, get, insert};
 ghost use Rattle.fm_finmap.specs.Rows.{AreDistinct, HasRows, numbered_map, places_in};
@@ -29,7 +29,9 @@ impl<X: Drop> Drop for Processes<X> {
 }
 
 impl<X> Processes<X> {
-    ghost use Rattle.fm_nodes_procs.specs.Processes.{HasRoom, by_path, is_the, order_of};
+    ghost use Rattle.std.specs.FinMap.{entries};
+    ghost use Rattle.std.specs.Map.Iter.{deref_pair};
+    ghost use Rattle.fm_nodes_procs.specs.Processes.{HasRoom, by_path, is_the, order_of, rows_in};
 
     /// No process. Takes no memory.
     pub fn new(alloc: Global) -> Processes<X>
@@ -103,6 +105,27 @@ impl<X> Processes<X> {
         self.paths.as_slice()
     }
 
+    // The processes with their paths, in the order of the numbers.
+    fn rows(&self, alloc: Global) -> Result<Vec<(&Path, &X)>, NoMemory>
+        ensures { IfOk result (λ v. map deref_pair v.items ≡ rows_in self.now.paths.items self.now.values.items) }
+    {
+        let mut rows = Vec::new(alloc);
+        'rows: for number in 0..self.paths.len() {
+            let path: &Path = &self.paths[number];
+            rows.push((path, &self.values[number]))?;
+        }
+        Ok(rows)
+    }
+
+    /// The processes with their paths, in path order.
+    pub fn in_path_order(&self, alloc: Global) -> Result<Vec<(&Path, &X)>, NoMemory>
+        ensures { IfOk result (λ v. map deref_pair v.items ≡ entries (by_path self.now)) }
+    {
+        let mut rows = self.rows(alloc)?;
+        rows.sort_by_key(|row| row.0)?;
+        Ok(rows)
+    }
+
     /// Makes room for so many more. Want of memory changes nothing, and 2^32 processes are told as such.
     pub fn reserve(&mut self, count: usize) -> Result<(), NoMemory>
         ensures map { by_path self.new ≡ by_path self.old }
@@ -139,6 +162,17 @@ impl<X: Drop> Processes<X> {
             Ok(()) => {}
             Err(_) => unreachable!(),
         }
+    }
+
+    /// The paths alone, in the order of the numbers. Takes no memory.
+    pub fn into_paths(self) -> Vec<Arc<Path>>
+        ensures { places_in result.items ≡ order_of self }
+    {
+        let Processes {
+            paths,
+            values: _values,
+        } = self;
+        paths
     }
 
     /// Puts the first process, at this path.
