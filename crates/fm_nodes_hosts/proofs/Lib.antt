@@ -6,3 +6,4 @@ mod Received
 mod Restarting
 mod Fitting
 mod Holding
+mod Stopping

@@ -4,3 +4,4 @@ pub mod Played
 pub mod Receipts
 pub mod Ends
 pub mod Ready
+pub mod Resting

@@ -10,10 +10,12 @@ mod ends;
 mod finishing;
 mod joining;
 mod receiving;
+mod resting;
 mod sending;
 mod state;
 mod stepping;
 
 pub use ends::restart;
+pub use resting::has_ended;
 pub use state::{NodeState, first_state};
 pub use stepping::step;

@@ -2,6 +2,7 @@
 
 ghost use Rattle.std.specs.Prelude.{◌≡◌, [], ◌∷◌, IfOk};
 ghost use Rattle.std.specs.FinMap.{empty, insert};
+ghost use Rattle.fm_finmap.specs.Rows.{places_in};
 ghost use Rattle.fm_nodes_network.specs.Channels.{linked_chans_of};
 ghost use Rattle.fm_nodes_procs.specs.Processes.{by_path, order_of};
 
@@ -9,6 +10,7 @@ use fm_base::{NoMemory, Path, Turn};
 use fm_nodes_network::{Channels, Network};
 use fm_nodes_procs::Processes;
 use std::alloc::Global;
+use std::sync::Arc;
 
 /// The processes on hosts, the channels and the wire, and the steps so far.
 pub struct NodeState<X> {
@@ -30,6 +32,22 @@ impl<X: Drop> Drop for NodeState<X> {
             history: _history,
             used: _used,
         } = self;
+    }
+}
+
+impl<X: Drop> NodeState<X> {
+    /// The history, and the paths in the order of starting. Takes no memory.
+    pub fn into_parts(self) -> (Vec<Turn>, Vec<Arc<Path>>)
+        ensures history { result.0.items ≡ self.history.items }
+        ensures paths { places_in result.1.items ≡ order_of self.processes }
+    {
+        let NodeState {
+            processes,
+            network: _network,
+            history,
+            used: _used,
+        } = self;
+        (history, processes.into_paths())
     }
 }
 

@@ -22,8 +22,8 @@ use fm_base::{ChanName, NoMemory, Path};
 use fm_nodes_procs::{Asked, Request, Runner, go_on, step_alone};
 use std::alloc::Global;
 
-// What the process of a number asks for.
-fn asked_by<R: Runner>(
+/// What the process of a number asks for.
+pub(crate) fn asked_by<R: Runner>(
     alloc: Global,
     runner: &R,
     state: &NodeState<R::Process>,
