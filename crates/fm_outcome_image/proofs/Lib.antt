@@ -1,0 +1,2 @@
+mod PortWords
+pub mod Programs
