@@ -1,0 +1,8 @@
+pub mod Framed
+mod TellLaws
+mod AskLaws
+mod GoLaws
+mod JoinLaws
+mod HoldLaws
+mod DropLaws
+mod HostLaws

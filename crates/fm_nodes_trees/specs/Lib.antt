@@ -1,0 +1,4 @@
+pub mod Drops
+pub mod Told
+pub mod Goes
+pub mod Trees
