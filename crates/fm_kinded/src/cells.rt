@@ -11,7 +11,7 @@ use fm_code::Span;
 use fm_code_kinds::{Cell, Heading, Sort};
 
 /// Whether it is no port.
-pub(crate) fn is_word(sort: Sort) -> bool
+pub fn is_word(sort: Sort) -> bool
     ensures { result ≡ is_word sort }
 {
     match sort {

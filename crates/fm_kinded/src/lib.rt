@@ -17,6 +17,7 @@ mod searched;
 mod taking;
 mod unit;
 
+pub use cells::is_word;
 pub use leading::{Leads, leads_of};
 pub use searched::{Known, KnownUnit};
 pub use unit::{Own, kinded};

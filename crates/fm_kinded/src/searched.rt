@@ -241,6 +241,14 @@ impl KnownUnit {
     {
         &self.cells
     }
+
+    /// The formal with this place, from 1.
+    pub fn formal_at(&self, place: usize) -> Option<Cell>
+        requires { 1 ≤ place }
+        ensures { result ≡ formal_at self.now.cells place }
+    {
+        self.cells.formal_at(place)
+    }
 }
 
 /// What is known of all units, ready to be searched. Contracts see their shapes.

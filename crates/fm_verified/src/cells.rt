@@ -74,7 +74,7 @@ pub(crate) fn are_apart(alloc: Global, cells: &[Cell]) -> Result<bool, NoMemory>
 
 /// How many formals there are.
 #[tactic(auto, using(crate::proofs::Counts::one_more))]
-fn count_formals(cells: &[Cell]) -> usize
+pub fn count_formals(cells: &[Cell]) -> usize
     ensures { result ≡ how_many is_formal cells.now }
 {
     let mut count = 0usize;

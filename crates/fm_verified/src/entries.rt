@@ -68,7 +68,7 @@ fn loop_of(instr: Instr) -> u64
 }
 
 /// How many loops a frame has.
-pub(crate) fn loops_of(code: &[Instr]) -> u64
+pub fn loops_of(code: &[Instr]) -> u64
     ensures { result ≡ loops_of code.now }
 {
     let mut most = 0u64;

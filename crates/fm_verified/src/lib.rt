@@ -15,5 +15,8 @@ mod types;
 mod unit;
 mod verifying;
 
+pub use cells::count_formals;
+pub use entries::loops_of;
 pub use fail::VerifyFail;
+pub use shapes::{cell_of, known_unit};
 pub use verifying::{Verified, verify};

@@ -36,7 +36,8 @@ fn heading_of(number: u32) -> Heading
     }
 }
 
-fn cell_of(cell: &fm_object::Cell) -> Cell
+/// A variable of an image as kinds of operands are told by it.
+pub fn cell_of(cell: &fm_object::Cell) -> Cell
     ensures { result ≡ cell_of cell.now }
 {
     Cell {
@@ -78,7 +79,8 @@ fn types_of(alloc: Global, types: &[Seq<FieldImage>]) -> Result<Seq<Seq<Field>>,
     Ok(Seq::from_vec(all))
 }
 
-fn unit_of(alloc: Global, unit: &UnitImage) -> Result<KnownUnit, NoMemory>
+/// What the image says of a unit, ready to be searched.
+pub fn known_unit(alloc: Global, unit: &UnitImage) -> Result<KnownUnit, NoMemory>
     ensures { IfOk result (λ known. known ≡ shape_of unit.now) }
 {
     let mut cells = Vec::new(alloc);
@@ -93,7 +95,7 @@ fn units_of(alloc: Global, units: &[UnitImage]) -> Result<Vec<KnownUnit>, NoMemo
 {
     let mut all = Vec::new(alloc);
     'units: for unit in units {
-        all.push(unit_of(alloc, unit)?)?;
+        all.push(known_unit(alloc, unit)?)?;
     }
     Ok(all)
 }
