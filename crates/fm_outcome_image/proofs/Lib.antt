@@ -1,2 +1,3 @@
+mod Begun
 mod PortWords
 pub mod Programs
