@@ -71,6 +71,19 @@ impl Standing {
         if self.is_live {
             return Ok(());
         }
+        self.make_again(alloc, program)
+    }
+
+    // Makes the processes again, which were let go. That is rare, and stands apart so that nothing is laid out for it where they are there.
+    #[cold]
+    #[inline(never)]
+    fn make_again(&mut self, alloc: Global, program: &Program) -> Result<(), NoMemory>
+        requires standing { IsStanding program.now self.old }
+        requires gone { self.old.is_live ≡ false }
+        ensures standing { IsStanding program.now self.new }
+        ensures live { OnOk result (self.new.is_live ≡ true) }
+        ensures same { IsAsItWas self.old self.new }
+    {
         let entries = self.player.net.history.copied(alloc)?;
         let Player {
             net,
