@@ -230,7 +230,7 @@ impl<L: Drop, P: Proc<Look = L>> Entries<P, L> {
             AreToldBut (P.seen p) (P.IsNext p) own self.old → AreToldBut (P.seen p) (P.IsNext p) own self.new) }
         ensures families { OnOk result ((p : P.Program) → AreFamilies (P.seen p) P.awaits self.old → AreFamilies (P.seen p) P.awaits self.new) }
     {
-        let mut all = Vec::new(alloc);
+        let mut all = Vec::with_capacity(alloc, family.count)?;
         'children: for place in 0..family.count {
             let number = number_behind(family.first, place)?;
             push_some(&mut all, self.release(alloc, number))?;
