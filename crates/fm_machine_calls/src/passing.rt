@@ -2,7 +2,7 @@
 
 ghost use Rattle.std.specs.Prelude.{◌≡◌, ◌++◌, pos, true, length, replicate, IfOk, OnOk};
 ghost use Rattle.fm_code.specs.Acts.{has_span};
-ghost use Rattle.fm_code.specs.Passing.{fits, all_fit, back_of, pass, pass_all};
+ghost use Rattle.fm_code.specs.Passing.{fits, all_fit, back_of, nulls, pass, pass_all, spliced};
 ghost use Rattle.fm_code.specs.declared.ask.Operand.TheVariants as operand;
 ghost use Rattle.fm_machine_calls.specs.Frames.{passed};
 
@@ -96,6 +96,21 @@ fn pass_words(
     push_back(backs, formal, span, false)
 }
 
+/// Puts NULL into the words of a span.
+fn clear_span(alloc: Global, words: &mut Seq<i64>, span: Span) -> Result<(), NoMemory>
+    requires { has_span (length words.old) span ≡ true }
+    ensures cleared { OnOk result (words.new ≡ spliced words.old span.first (nulls span.count)) }
+    ensures size { OnOk result (length words.new ≡ length words.old) }
+{
+    if span.count == 1 {
+        words.put(span.first as usize, &[0]);
+        return Ok(());
+    }
+    let nulls = nulls(alloc, span.count)?;
+    words.put(span.first as usize, nulls.as_slice());
+    Ok(())
+}
+
 fn pass_ports(
     alloc: Global,
     formal: Formal,
@@ -109,10 +124,9 @@ fn pass_ports(
     ensures size { OnOk result (length theirs.new ≡ length theirs.old) }
     ensures mine { OnOk result (length mine.new ≡ length mine.old) }
 {
-    let nulls = nulls(alloc, span.count)?;
     let words = words_of(mine.as_slice(), span);
     theirs.put(formal.span.first as usize, words);
-    mine.put(span.first as usize, nulls.as_slice());
+    clear_span(alloc, mine, span)?;
     push_back(backs, formal, span, true)
 }
 
