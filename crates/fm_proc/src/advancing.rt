@@ -12,7 +12,6 @@ use fm_machine_calls::Look;
 use fm_machine_instr::Work;
 use fm_proc_events::Process;
 use std::alloc::Global;
-use std::mem::replace;
 
 /// What some statements came to.
 #[derive(Drop)]
@@ -26,7 +25,7 @@ pub struct Advanced {
 }
 
 /// Does statements of a process, as many as `slice` at most, and stops where the next one touches channels or other processes,
-/// or where there is none. After want of memory the process may have lost its body.
+/// or where there is none. After want of memory the process may have gone on.
 pub fn advance(
     alloc: Global,
     work: &mut Work,
@@ -39,11 +38,10 @@ pub fn advance(
     ensures next { IfOk result (λ a. a.next ≡ look_of (proc_of process.new)) }
     ensures stops { IfOk result (λ a. a.steps ≢ slice → is_local (proc_of process.new) ≡ false) }
 {
-    let Some(mut body) = replace(&mut process.body, None) else {
+    let Some(body) = &mut process.body else {
         unreachable!()
     };
-    let made = proceed(alloc, work, &mut body, slice)?;
-    process.body = Some(body);
+    let made = proceed(alloc, work, body, slice)?;
     let Made {
         steps,
         cost,

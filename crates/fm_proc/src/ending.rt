@@ -15,7 +15,7 @@ use fm_chan::Channels;
 use fm_code::{Body, Frame};
 use fm_machine_calls::{push_frame_ports, push_start_ports};
 use fm_proc_events::{Phase, Process, formals_at, ports_at, shed, vacate};
-use fm_proc_slots::{Slots, keep};
+use fm_proc_slots::{Slots, keep, keeps_few};
 use std::alloc::Global;
 
 /// What a process leaves when it ends.
@@ -103,6 +103,38 @@ fn end_body(body: &mut Body, words: Seq<i64>)
     body.frame.starts.clear();
 }
 
+/// Whether all ports of the innermost frame stay, and it has no start.
+fn keeps_frame(body: &Body) -> bool
+    ensures { result ≡ true → ended_frame body.now body.now.frame [] ≡ (record body.now.frame { results = []; starts = [] }, []) }
+{
+    if !body.frame.starts.is_empty() {
+        return false;
+    }
+    keeps_few(
+        formals_at(&body.code, body.frame.unit),
+        ports_at(&body.code, body.frame.unit),
+    )
+}
+
+/// Whether a process is in its own frame, which has no start, and all its ports stay.
+fn ends_whole(body: &Body) -> bool
+    ensures alone { result ≡ true → body.now.below ≡ [] }
+    ensures whole { result ≡ true → ended_frame body.now body.now.frame [] ≡ (record body.now.frame { results = []; starts = [] }, []) }
+{
+    match body.below.first() {
+        Some(_) => false,
+        None => keeps_frame(body),
+    }
+}
+
+/// Leaves nothing of what a statement or a block builds.
+fn end_whole(body: &mut Body)
+    ensures { body.new ≡ record body.old { frame = record body.old.frame { results = []; starts = [] } } }
+{
+    body.frame.results.clear();
+    body.frame.starts.clear();
+}
+
 /// The process ends.
 pub(crate) fn end(
     alloc: Global,
@@ -119,6 +151,11 @@ pub(crate) fn end(
     let Some(body) = &mut process.body else {
         unreachable!()
     };
+    if ends_whole(body) {
+        end_whole(body);
+        process.phase = Phase::Ended;
+        return Ok(());
+    }
     let Rest { words, ports } = rest_of(alloc, body)?;
     let mut drops = Vec::with_capacity(alloc, ports.len())?;
     let mut slots = process.slots.open(alloc, ports.len())?;

@@ -37,9 +37,10 @@ fn alone(alloc: Global, cost: u64) -> StepEnd
     }
 }
 
-/// Does the event of a process at one of its ports: the cost.
+/// Does the event of a process at one of its ports: the cost. The room of its operands is kept for the next statement.
 fn at_port(
     alloc: Global,
+    work: &mut Work,
     path: &Path,
     process: &mut Process,
     channels: &mut Channels,
@@ -55,7 +56,9 @@ fn at_port(
 {
     match ask {
         Ask::Send { slot, items, next } => {
-            send(alloc, path, process, channels, slot, items, next)
+            let cost = send(alloc, path, process, channels, slot, &items, next)?;
+            work.scratch.operands = items;
+            Ok(cost)
         }
         Ask::Receive {
             slot,
@@ -63,9 +66,13 @@ fn at_port(
             status,
             at_end,
             next,
-        } => receive(
-            alloc, path, process, channels, slot, items, status, at_end, next,
-        ),
+        } => {
+            let cost = receive(
+                alloc, path, process, channels, slot, &items, status, at_end, next,
+            )?;
+            work.scratch.operands = items;
+            Ok(cost)
+        }
         Ask::Probe { slot, empty, next } => {
             probe(path, process, channels, slot, empty, next);
             Ok(1)
@@ -123,9 +130,12 @@ pub fn perform(
             let cost = make_merger(alloc, path, process, channels, inport, outports, next)?;
             Ok(alone(alloc, cost))
         }
-        Ask::Send { .. } => Ok(alone(alloc, at_port(alloc, path, process, channels, ask)?)),
-        Ask::Receive { .. } => Ok(alone(alloc, at_port(alloc, path, process, channels, ask)?)),
-        Ask::Probe { .. } => Ok(alone(alloc, at_port(alloc, path, process, channels, ask)?)),
+        Ask::Send { .. } => Ok(alone(alloc, at_port(alloc, work, path, process, channels, ask)?)),
+        Ask::Receive { .. } => Ok(alone(
+            alloc,
+            at_port(alloc, work, path, process, channels, ask)?,
+        )),
+        Ask::Probe { .. } => Ok(alone(alloc, at_port(alloc, work, path, process, channels, ask)?)),
         Ask::Begin { next } => begin(alloc, path, process, next),
         Ask::Join { next: _ } => unreachable!(),
         Ask::End => {

@@ -46,6 +46,25 @@ fn new_mute_channel(
     Ok(ports)
 }
 
+/// Makes the channel of this name, which has one writer: its inport and its outport. After want of memory no channel has changed.
+fn new_plain_channel(
+    alloc: Global,
+    channels: &mut Channels,
+    name: ChanName,
+) -> Result<Vec<Port>, NoMemory>
+    requires { get (chans_of channels.old) name ≡ None }
+    ensures channels { OnOk result (chans_of channels.new ≡ insert (chans_of channels.old) name (fresh 1)) }
+    ensures ports { IfOk result (λ v. v.items ≡ ports_from name 1) }
+    ensures stays { OnErr result (chans_of channels.new ≡ chans_of channels.old) }
+    ensures waking { OnOk result (WakesAll channels.old channels.new) }
+{
+    let mut ports = Vec::with_capacity(alloc, 2)?;
+    let (inport, outport) = channels.make(alloc, name)?;
+    ports.push_reserved(inport);
+    ports.push_reserved(outport);
+    Ok(ports)
+}
+
 /// Adds ports where there is room for them.
 fn add_ports(ports: &mut Vec<Port>, more: Vec<Port>)
     requires { vec_len ports.old + length more.items ≤ vec_capacity ports.old }
@@ -73,6 +92,9 @@ fn new_channel(
 {
     if writers == 0 {
         return new_mute_channel(alloc, channels, name);
+    }
+    if writers == 1 {
+        return new_plain_channel(alloc, channels, name);
     }
     let mut ports = Vec::with_capacity(alloc, writers as usize + 1)?;
     let (inport, outports) = channels.merge(alloc, name, writers)?;

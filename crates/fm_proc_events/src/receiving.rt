@@ -150,12 +150,12 @@ pub fn receive(
     process: &mut Process,
     channels: &mut Channels,
     slot: i64,
-    items: Seq<Operand>,
+    items: &Seq<Operand>,
     status: Option<u32>,
     at_end: Option<u32>,
     next: u32,
 ) -> Result<u64, NoMemory>
-    requires look { look_of (proc_of process.old) ≡ Asks (ask.Receive slot items status at_end next) }
+    requires look { look_of (proc_of process.old) ≡ Asks (ask.Receive slot items.now status at_end next) }
     requires can { CanPerform (proc_of process.old) (chans_of channels.old) }
     ensures performs { IfOk result (λ cost. Performs path.now (proc_of process.old) (chans_of channels.old) (proc_of process.new) [] (chans_of channels.new) cost) }
     ensures stays { OnErr result (proc_of process.new ≡ proc_of process.old) }
@@ -163,7 +163,7 @@ pub fn receive(
     ensures waking { OnOk result (WakesAll channels.old channels.new) }
 {
     let got = match process.slots.port(slot) {
-        Some(port) => next_message(channels, port, &items),
+        Some(port) => next_message(channels, port, items),
         None => unreachable!(),
     };
     let message = match got {

@@ -143,10 +143,10 @@ pub fn send(
     process: &mut Process,
     channels: &mut Channels,
     slot: i64,
-    items: Seq<Operand>,
+    items: &Seq<Operand>,
     next: u32,
 ) -> Result<u64, NoMemory>
-    requires look { look_of (proc_of process.old) ≡ Asks (ask.Send slot items next) }
+    requires look { look_of (proc_of process.old) ≡ Asks (ask.Send slot items.now next) }
     requires can { CanPerform (proc_of process.old) (chans_of channels.old) }
     ensures performs { IfOk result (λ cost. Performs path.now (proc_of process.old) (chans_of channels.old) (proc_of process.new) [] (chans_of channels.new) cost) }
     ensures stays { OnErr result (proc_of process.new ≡ proc_of process.old) }

@@ -18,6 +18,14 @@ emptied fs s ss ws = ((kept fs ss (spliced ws s.first (nulls s.count))).0, live 
 one_kept : (b : Bool) (fs : List Formal) (s : Span) (ss : List Span) (ws : List ℤ) → is_kept fs s ≡ b → kept fs (s ∷ ss) ws ≡ cond {A = List ℤ × List ℤ} b (kept fs ss ws) (emptied fs s ss ws)
 one_kept b fs s ss ws e = ap (λ (x : Bool). cond {A = List ℤ × List ℤ} x (kept fs ss ws) (emptied fs s ss ws)) e
 
+-- a span whose ports stay changes nothing
+pub kept_on : (fs : List Formal) (s : Span) (ss : List Span) (ws : List ℤ) → is_kept fs s ≡ true → kept fs (s ∷ ss) ws ≡ kept fs ss ws
+kept_on fs s ss ws e = one_kept true fs s ss ws e
+
+-- where the ports of all spans stay
+pub all_kept : (fs : List Formal) (rest spans : List Span) → rest ≡ [] → ((ws : List ℤ) → kept fs rest ws ≡ kept fs spans ws) → (ws : List ℤ) → kept fs spans ws ≡ (ws, [])
+all_kept fs rest spans none same ws = sym (same ws) ∙ ap (λ (l : List Span). kept fs l ws) none
+
 kept_by : (b : Bool) (fs : List Formal) (s : Span) (ss : List Span) (ws ws' out out' : List ℤ) (all : List ℤ × List ℤ) → is_kept fs s ≡ b → ws' ≡ cond b ws (spliced ws s.first (nulls s.count)) →
     out' ≡ out ++ cond b [] (live (span_of ws s)) → KeepsOn fs (s ∷ ss) ws out all → KeepsOn fs ss ws' out' all
 kept_by true fs s ss ws ws' out out' all e f g h = record {

@@ -1,11 +1,11 @@
 //! Which ports stay with a process that ended.
 
-ghost use Rattle.std.specs.Prelude.{◌≡◌, ◌++◌, ◌&&◌, ◌||◌, [], cond, not, IfOk, OnOk, ℕ};
+ghost use Rattle.std.specs.Prelude.{◌≡◌, ◌++◌, ◌&&◌, ◌||◌, [], cond, not, true, IfOk, OnOk, List, ℕ, ℤ};
 ghost use Rattle.std.specs.BTreeSet.{contains};
 ghost use Rattle.std.specs.Ordering.{nat_cmp};
 ghost use Rattle.fm_code.specs.Acts.{span_of};
 ghost use Rattle.fm_code.specs.Passing.{live, nulls, spliced};
-ghost use Rattle.fm_proc_language.specs.Frames.{kept};
+ghost use Rattle.fm_proc_language.specs.Frames.{is_kept, kept};
 ghost use Rattle.fm_proc_slots.specs.Keeps.{kept_from, kept_one};
 
 use crate::words::clear_span;
@@ -70,6 +70,43 @@ fn keep_span(
     }
     push_live(words_of(words.as_slice(), span), left)?;
     clear_span(alloc, words, span)
+}
+
+/// Whether the ports of a span are those of a formal, and stay.
+fn kept_one(formal: Formal, span: Span) -> bool
+    ensures { result ≡ kept_one formal span.first }
+{
+    formal.port && !formal.input && formal.span.first == span.first
+}
+
+/// Whether the ports of a span stay.
+fn is_kept(formals: &[Formal], span: Span) -> bool
+    ensures { result ≡ is_kept formals.now span }
+{
+    'formals: for formal in formals {
+        if kept_one(*formal, span) {
+            return true;
+        }
+    }
+    false
+}
+
+/// How many spans are so few that each is looked for among the formals.
+const FEW: usize = 8;
+
+/// Whether there are few spans, and the ports of each stay.
+pub fn keeps_few(formals: &[Formal], spans: &[Span]) -> bool
+    ensures { result ≡ true → (words : List ℤ) → kept formals.now spans.now words ≡ (words, []) }
+{
+    if spans.len() > FEW {
+        return false;
+    }
+    'spans: for span in spans {
+        if !is_kept(formals, *span) {
+            return false;
+        }
+    }
+    true
 }
 
 /// Puts NULL in place of ports that aren't kept: their slots.

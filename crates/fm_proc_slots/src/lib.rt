@@ -18,7 +18,7 @@ mod words;
 
 pub use building::ports_message;
 pub use joining::{Child, Gains, give_back, vacate_words};
-pub use keeping::keep;
+pub use keeping::{keep, keeps_few};
 pub use messages::{message_words, words_message};
 pub use moving::move_over;
 pub use open::OpenSlots;

@@ -4,7 +4,8 @@ use Rattle.fm_proc_language.specs.Slots.{Slots, all_left, vacated}
 use Rattle.fm_proc_language.specs.Processes.{ended_frame}
 use Rattle.fm_proc_slots.specs.Rooms.{slots_in}
 use Rattle.fm_proc_events.specs.Phases.{proc_of}
-use Rattle.fm_proc.proofs.Endings.{ended_so}
+use Rattle.fm_chan.specs.Bodies.{chans_of}
+use Rattle.fm_proc.proofs.Endings.{ended_so, ended_whole}
 use Rattle.fm_proc.proofs.ending.end.Goals as goal
 
 pub returns-clause-performs : goal.returns-clause-performs
@@ -18,3 +19,10 @@ returns-clause-performs c =
     (c.from_open.ensures ∙ c.vacate.ensures.slots ∙ ap (λ (s : Slots). all_left s words) opened ∙ ap (all_left slots) c.as_slice.ensures)
     (c.vacate.ensures.ports ∙ ap (λ (l : List PortValue). l ++ vacated (slots_in c.in_ok-slots.slots) words) c.in_ok-drops.ensures.items ∙ ap (λ (s : Slots). vacated s words) opened ∙ ap (vacated slots) c.as_slice.ensures)
     c.shed.ensures.channels
+
+pub returns-then-ends_whole-clause-performs : goal.returns-then-ends_whole-clause-performs
+returns-then-ends_whole-clause-performs c =
+    let b = c.in-Some.body in
+    let whole = c.ends_whole.ensures in
+    ended_whole c.args.path.now (proc_of c.args.process.now) (chans_of c.args.channels.now) b c.end_whole.new.body c.requires.look c.requires.running c.in-Some.is
+    (whole.alone c.if-ends_whole.true) (whole.whole c.if-ends_whole.true) c.end_whole.ensures

@@ -17,7 +17,7 @@ returns-in-Exceeds-clause-performs c =
     let x = c.in-Some.port.now in
     let same = to_z-of_z w64 c.args.slot c.ranges.slot in
     let there : Some x ≡ in_slot y.slots c.args.slot = c.in-Some.ensures ∙ ap (in_slot y.slots) same in
-    meets_excess y (chans_of c.args.channels.now) c.args.slot c.args.items c.args.status c.args.at_end c.args.next c.requires.look c.requires.can
+    meets_excess y (chans_of c.args.channels.now) c.args.slot c.args.items.now c.args.status c.args.at_end c.args.next c.requires.look c.requires.can
     c.args.path.now x there (chans_of c.next_message-got.new.channels) c.next_message-got.ensures.channels (sym c.in-Exceeds.is ∙ c.next_message-got.ensures.got) (proc_of c.meet_excess.new.process) c.meet_excess.ensures
 
 pub returns-in-End-clause-performs : goal.returns-in-End-clause-performs
@@ -27,7 +27,7 @@ returns-in-End-clause-performs c =
     let is : y.body ≡ Some b = cc (c.replace.ensures.value, c.in-Some-replace.is) in
     let same = to_z-of_z w64 c.args.slot c.ranges.slot in
     let there : Some c.in-Some.port.now ≡ in_slot y.slots c.args.slot = c.in-Some.ensures ∙ ap (in_slot y.slots) same in
-    meets_end y (chans_of c.args.channels.now) c.args.slot c.args.items c.args.status c.args.at_end c.args.next c.requires.look c.requires.can b is
+    meets_end y (chans_of c.args.channels.now) c.args.slot c.args.items.now c.args.status c.args.at_end c.args.next c.requires.look c.requires.can b is
     c.args.path.now c.in-Some.port.now there (chans_of c.next_message-got.new.channels) c.next_message-got.ensures.channels
     (proc_of c.meet_end.new.process) (chans_of c.next_message-got.new.channels) (sym c.in-End.is ∙ c.next_message-got.ensures.got) c.meet_end.ensures refl
 
@@ -39,7 +39,7 @@ returns-in-Ok-clause-performs c =
     let slots = c.store_message.new.slots in
     let said = c.in-Ok.ensures in
     let there : Some c.in-Some.port.now ≡ in_slot y.slots c.args.slot = c.in-Some.ensures ∙ ap (in_slot y.slots) same in
-    gets_message y (chans_of c.args.channels.now) c.args.slot c.args.items c.args.status c.args.at_end c.args.next c.requires.look c.requires.can c.in-Some-body.body c.in-Some-body.is
+    gets_message y (chans_of c.args.channels.now) c.args.slot c.args.items.now c.args.status c.args.at_end c.args.next c.requires.look c.requires.can c.in-Some-body.body c.in-Some-body.is
     c.args.path.now c.in-Some.port.now there (chans_of c.next_message-got.new.channels) c.next_message-got.ensures.channels
     (record y { body = Some after; slots = slots }) (chans_of c.shed.new.channels) c.in-Message.message (sym c.in-Message.is ∙ c.next_message-got.ensures.got)
     c.as_slice.result.now c.as_slice.ensures after said.body slots said.slots c.in-Ok.field-0.drops.items said.drops refl c.shed.ensures.channels c.in-Ok.field-0.cost said.cost
@@ -48,7 +48,7 @@ pub returns-clause-channels : goal.returns-clause-channels
 returns-clause-channels c =
     let y = proc_of c.args.process.now in
     let x = c.in-Some.port.now in
-    let limits = limits_of c.args.items in
+    let limits = limits_of c.args.items.now in
     let cs = chans_of c.args.channels.now in
     let same = to_z-of_z w64 c.args.slot c.ranges.slot in
     let there : in_slot c.store_message.new.slots c.args.slot ≡ Some x = ap (λ s. in_slot s c.args.slot) c.in-Err.ensures.slots_stay ∙ sym (c.in-Some.ensures ∙ ap (in_slot y.slots) same) in

@@ -13,7 +13,7 @@ returns-clause-performs c =
     let b = c.in-Some-body.body in
     let same = to_z-of_z w64 c.args.slot c.ranges.slot in
     let said = c.send_message.ensures in
-    sends_if y (chans_of c.args.channels.now) c.args.slot c.args.items c.args.next c.requires.look c.requires.can b c.in-Some-body.is c.args.path.now
+    sends_if y (chans_of c.args.channels.now) c.args.slot c.args.items.now c.args.next c.requires.look c.requires.can b c.in-Some-body.is c.args.path.now
     c.in-Some.channel (sym c.in-Some.is ∙ c.in_ok-channel.ensures ∙ ap (λ z. channel_in (in_slot y.slots z)) same) c.as_slice.result.now c.as_slice.ensures
     c.send_message.new.body c.send_message.new.slots (chans_of c.send_message.new.channels) c.send_message.result said.body said.slots said.channels said.cost
 
@@ -26,4 +26,4 @@ pub send_message-requires-clause-outport : goal.send_message-requires-clause-out
 send_message-requires-clause-outport c = λ x there.
     let y = proc_of c.args.process.now in
     let same = to_z-of_z w64 c.args.slot c.ranges.slot in
-    is_writer y (chans_of c.args.channels.now) c.args.slot c.args.items c.args.next c.requires.look c.requires.can x (ap (in_slot y.slots) (sym same) ∙ there)
+    is_writer y (chans_of c.args.channels.now) c.args.slot c.args.items.now c.args.next c.requires.look c.requires.can x (ap (in_slot y.slots) (sym same) ∙ there)
