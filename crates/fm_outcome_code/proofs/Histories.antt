@@ -10,7 +10,7 @@ use Rattle.fm_net.proofs.Histories.{choices_more}
 use Rattle.fm_rules.specs.declared.program.Program.{Program}
 use Rattle.fm_mean.specs.Process.{Proc}
 use Rattle.fm_mean.specs.Steps.{first, step}
-use Rattle.fm_run.specs.Pieces.{after_steps}
+use Rattle.fm_run.specs.Programs.{after_steps}
 use Rattle.fm_outcome_code.specs.Played.{played}
 
 module _ (p : Program) where

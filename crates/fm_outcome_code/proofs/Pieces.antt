@@ -19,7 +19,7 @@ use Rattle.fm_procs.specs.Pieces as code
 use Rattle.fm_procs.specs.Pieces.{IsNewAlong, IsNewAt}
 use Rattle.fm_procs.specs.Readings.{code_step}
 use Rattle.fm_net_procs.specs.declared.piece.Piece.{Piece}
-use Rattle.fm_run.specs.Pieces as run
+use Rattle.fm_run.specs.Programs as run
 use Rattle.fm_outcome_code.specs.Corresponds.{Corresponds, IsLive}
 use Rattle.fm_outcome_code.proofs.Asking.{needs_alike}
 use Rattle.fm_outcome_code.proofs.Standing.{back_alike, legal_alike, legal_part, local_at_alike, nobody_alike, price_alike, stands_after, starts_alike, waits_alike}

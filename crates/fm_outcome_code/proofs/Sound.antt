@@ -9,13 +9,13 @@ use Rattle.fm_rules.specs.declared.program.Program.{Program}
 use Rattle.fm_mean.specs.Process.{Proc}
 use Rattle.fm_mean.specs.Steps.{first}
 use Rattle.fm_mean.proofs.CallsOpen.{always_typed}
-use Rattle.fm_run.proofs.Playing.{first_owned}
+use Rattle.fm_mean.proofs.Laws.{first_owned}
 use Rattle.fm_proc_language.specs.Processes.{CodeProc}
 use Rattle.fm_procs.specs.Kept.{AreKept}
 use Rattle.fm_procs.specs.Pieces as code
 use Rattle.fm_procs.specs.Readings.{CodeProcs, order_of, state_of}
 use Rattle.fm_net_procs.specs.declared.piece.Piece.{Piece}
-use Rattle.fm_run.specs.Pieces as run
+use Rattle.fm_run.specs.Programs as run
 use Rattle.fm_net.specs.Owned.{main_alone}
 use Rattle.fm_outcome_code.specs.Corresponds.{Corresponds, IsLive}
 use Rattle.fm_outcome_code.specs.Shown.{first_process}

@@ -14,8 +14,8 @@ use Rattle.fm_proc_language.specs.Processes.{CodeProc, code_language}
 use Rattle.fm_procs.specs.Pieces as code
 use Rattle.fm_procs.specs.Readings.{code_step}
 use Rattle.fm_procs.specs.Waiting as code_waiting
-use Rattle.fm_run.specs.Orders as run_orders
-use Rattle.fm_run.specs.Pieces as run
+use Rattle.fm_run.specs.Programs as run_orders
+use Rattle.fm_run.specs.Programs as run
 use Rattle.fm_outcome_code.specs.Corresponds.{Corresponds, IsLive}
 use Rattle.fm_outcome_code.proofs.Alike.{correspondence, machines_alike}
 use Rattle.fm_outcome_code.proofs.Asking.{local_alike}

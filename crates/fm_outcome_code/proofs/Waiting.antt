@@ -17,7 +17,8 @@ use Rattle.fm_proc_language.specs.Needs.{need_of}
 use Rattle.fm_proc_language.specs.Processes.{CodeProc}
 use Rattle.fm_procs.specs.Waiting as code
 use Rattle.fm_procs.specs.Waiting.{channel_needed, channel_waited}
-use Rattle.fm_run.specs.Noted as run
+use Rattle.fm_run.specs.Programs as run
+use Rattle.fm_run.proofs.Programs.{need_is}
 use Rattle.fm_outcome_code.specs.Corresponds.{Corresponds, IsLive}
 use Rattle.fm_outcome_code.proofs.Asking.{needs_alike}
 
@@ -26,7 +27,7 @@ module _ (p : Program) (s : State Proc) (t : State CodeProc) (stands : StandsFor
   one_need = needs_alike p s stands.live q x y is same
 
   pub noted_alike : (channels : Channels) (number : ℕ) → code.IsNoted channels number y → run.IsNoted p channels number x
-  noted_alike channels number noted c limits needs = noted c (ap channel_needed (one_need ∙ needs))
+  noted_alike channels number noted c limits needs = noted c (ap channel_needed (one_need ∙ need_is (ask p x) ∙ needs))
 
   -- the channel at which it waits is there
   asked_there : (c : ChanName) → (k : Ask Proc) → ask p x ≡ k → channel_needed (mean.need_in k) ≡ Some c → (ch : Chan) × (get s.chans c ≡ Some ch)

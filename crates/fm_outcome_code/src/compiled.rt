@@ -6,6 +6,8 @@ ghost use Rattle.std.specs.Option.{option_copied};
 ghost use Rattle.fm_net.specs.Machine.{Place};
 ghost use Rattle.fm_proc_language.specs.Processes.{CodeProc};
 ghost use Rattle.fm_procs.specs.Readings.{order_of, procs_of};
+ghost use Rattle.fm_run.specs.Programs.{play_of};
+ghost use Rattle.fm_run.proofs.Programs.{law_of};
 ghost use Rattle.fm_outcome_code.specs.Given.{IsOwn};
 ghost use Rattle.fm_outcome_code.specs.Played.{played};
 ghost use Rattle.fm_outcome_code.specs.Sound.{IsSound};
@@ -32,6 +34,10 @@ pub struct Compiled {
 }
 
 impl Net for Compiled {
+    type Source = Program;
+
+    ghost play = { play_of };
+
     ghost state = { λ program net. played program net.history (order_of net.stacks.entries) };
 
     ghost order = { λ net. order_of net.stacks.entries };
@@ -41,6 +47,8 @@ impl Net for Compiled {
     ghost history = { λ net. net.history };
 
     ghost IsSound = { λ program net. IsSound program net.stacks net.history };
+
+    ghost lawful = { λ program net sound. law_of program };
 
     ghost channels_are = { λ program net sound. sound.stands.chans };
 

@@ -28,7 +28,7 @@ use Rattle.fm_plain_net.specs.Advances.{AdvancesAt}
 use Rattle.fm_plain_net.specs.Goes.{MeetsIt}
 use Rattle.fm_plain_net.specs.Held.{Fits, HeldAreKept, MayDrop, StayBut}
 use Rattle.fm_run.specs.Awaited.{awaited_in, awaits}
-use Rattle.fm_run.specs.Pieces.{Makes, has_local}
+use Rattle.fm_run.specs.Programs.{Makes, has_local, play_of}
 use Rattle.fm_run.proofs.Steps.{makes_more, reached_makes}
 use Rattle.fm_plain_net.proofs.Letting.{event_shared, own_drops, own_held, own_shared, own_starts, own_step}
 use Rattle.fm_plain_net.proofs.Parts.{behind, held_behind, owned_behind, there_behind}
@@ -52,7 +52,7 @@ module _ (program : Program) (slice : ℕ) (spare : Bool) (s : State Proc) (p : 
 
   fits_there : Fits program ports stood
   fits_there = record {
-    reached = reached_makes program s stood p a.steps a.cost [] fits.reached made;
+    reached = reached_makes (play_of program) s stood p a.steps a.cost [] fits.reached made;
     held = held_behind program slice spare s p x is a m at ports fits.held;
   }
 
@@ -111,7 +111,7 @@ module _ (program : Program) (slice : ℕ) (spare : Bool) (s : State Proc) (p : 
         let goes : step program stood p ≡ Some (changed_at s p after cs, paid) =
         own_step program stood p told.stopped there owned ports fits_there.held after (let_go_ports program l) paid k.1
         ∙ ap (λ (n : Procs Proc). Some (record { procs = n; chans = cs }, paid)) again in
-        let more = makes_more program s stood p a.steps a.cost (changed_at s p after cs, paid) made goes in
+        let more = makes_more (play_of program) s stood p a.steps a.cost (changed_at s p after cs, paid) made goes in
         let none = own_starts program stood p told.stopped there owned ports fits_there.held after (let_go_ports program l) paid k.1 in
         let shared = own_shared program stood p told.stopped there owned ports fits_there.held after (let_go_ports program l) paid k.1 k.2 in
         record {

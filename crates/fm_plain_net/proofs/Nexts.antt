@@ -32,16 +32,18 @@ use Rattle.fm_plain_net.specs.Held.{HasFamily, HeldAreKept, IsKept}
 use Rattle.fm_plain_net.proofs.Doing.{join_at}
 use Rattle.fm_plain_net.proofs.Families.{joined_family}
 use Rattle.fm_plain_net.proofs.Able.{steps_freely}
+use Rattle.fm_run.specs.Programs.{play_of}
+use Rattle.fm_run.proofs.Programs.{need_is}
 use Rattle.fm_run.proofs.Able.{joins, receives}
 use Rattle.fm_plain_net.proofs.Waiting.{begin_free, end_free, fail_free, has_frame, join_need, join_waits, make_free, probe_free, receive_need, send_free}
 use Rattle.fm_net_procs.specs.Kept.{AreChildren}
 
 module _ (program : Program) (s : State Proc) (p : Place) (x : Proc) (is : get s.procs p ≡ Some x) where
   pub receive_steps : (c : ChanName) (line : ℕ) (items : List Span) (iostat : Option Span) (to : Option ℕ) (next : ℕ) → action_of program x ≡ Stops (Receive c line items iostat to next) → is_some (step program s p) ≡ pops_at (get s.chans c)
-  receive_steps c line items iostat to next does = receives program s p x is c (limits_of items) (receive_need program x c line items iostat to next does)
+  receive_steps c line items iostat to next does = receives (play_of program) s p x is c (limits_of items) (sym (need_is (ask program x)) ∙ receive_need program x c line items iostat to next does)
 
   pub join_steps : (block next : ℕ) → action_of program x ≡ Stops (Join block (kids_in x.phase) next) → is_some (step program s p) ≡ is_some (gathered has_ended s.procs p block 1 (length (kids_in x.phase)))
-  join_steps block next does = joins program s p x is block (length (kids_in x.phase)) (join_need program x block next does)
+  join_steps block next does = joins (play_of program) s p x is block (length (kids_in x.phase)) (sym (need_is (ask program x)) ∙ join_need program x block next does)
 
   module _ (owned : IsOwned (language program) s) where
     pub free_steps : is_free (need_of program x) ≡ true → is_some (step program s p) ≡ true

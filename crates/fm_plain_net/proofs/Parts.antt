@@ -16,9 +16,10 @@ use Rattle.fm_plain.specs.declared.advancing.Advanced.{Advanced}
 use Rattle.fm_plain_net.specs.declared.ports.Ports.{Ports}
 use Rattle.fm_plain_net.specs.Held.{HeldAreKept}
 use Rattle.fm_plain_net.specs.Advances.{AdvancesAt}
-use Rattle.fm_run.specs.Pieces.{Makes}
+use Rattle.fm_run.specs.Programs.{Makes, play_of}
 use Rattle.fm_plain_net.proofs.Steps.{locals_hold, makes_local}
-use Rattle.fm_run.proofs.Steps.{reached_makes, owned_reached}
+use Rattle.fm_run.proofs.Steps.{reached_makes}
+use Rattle.fm_run.proofs.Programs.{owned_reached}
 
 -- the process at a place made local steps, from a state that is reached
 module _ (program : Program) (slice : ℕ) (spare : Bool) (s : State Proc) (p : Place) (x : Proc) (is : get s.procs p ≡ Some x) (a : Advanced) (m : Procs Proc) (at : AdvancesAt program slice spare p x a s.procs m) where
@@ -38,7 +39,7 @@ module _ (program : Program) (slice : ℕ) (spare : Bool) (s : State Proc) (p : 
   same_behind e = at.procs_are ∙ ap (insert s.procs p) e
 
   pub owned_behind : IsReached (step program) (first program) s → IsOwned (language program) behind
-  owned_behind reached = owned_reached program behind (reached_makes program s behind p a.steps a.cost [] reached local_steps_make)
+  owned_behind reached = owned_reached program behind (reached_makes (play_of program) s behind p a.steps a.cost [] reached local_steps_make)
 
   -- what is held is kept still
   pub held_behind : (ports : Ports) → HeldAreKept program ports s.procs → HeldAreKept program ports behind.procs

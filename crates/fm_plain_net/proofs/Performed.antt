@@ -18,11 +18,13 @@ use Rattle.fm_run.specs.Awaited.{awaits}
 use Rattle.fm_plain_net.proofs.Born.{begun}
 use Rattle.fm_plain_net.proofs.Doing.{performed, performed_held, performed_starts}
 use Rattle.fm_plain_net.proofs.Families.{run_alone, waits_by_phase}
-use Rattle.fm_run.proofs.Steps.{makes_more, makes_none, owned_reached, reached_makes}
+use Rattle.fm_run.specs.Programs.{play_of}
+use Rattle.fm_run.proofs.Steps.{makes_more, makes_none, reached_makes}
+use Rattle.fm_run.proofs.Programs.{owned_reached}
 
 -- a step leads from a state that is reached to one
 pub reached_step : (program : Program) (s t : State Proc) (p : Place) (cost : ℕ) → IsReached (step program) (first program) s → step program s p ≡ Some (t, cost) → IsReached (step program) (first program) t
-reached_step program s t p cost reached goes = reached_makes program s t p (0 + 1) (0 + cost) (starts_at (language program) s p) reached (makes_more program s s p 0 0 (t, cost) (makes_none program s p) goes)
+reached_step program s t p cost reached goes = reached_makes (play_of program) s t p (0 + 1) (0 + cost) (starts_at (language program) s p) reached (makes_more (play_of program) s s p 0 0 (t, cost) (makes_none (play_of program) s p) goes)
 
 pub steps_to : (program : Program) (s : State Proc) (p : Place) (x : Proc) → get s.procs p ≡ Some x → (ports later : Ports) (y : Proc) (xs : List Proc) (n : Chans) (cost : ℕ) → Performs program p x s.chans [] ports y xs n later cost
     → joined_in (need_of program x) ≡ None → Fits program ports s → StepsTo (language program) awaits (Fits program later) s p x y xs n cost

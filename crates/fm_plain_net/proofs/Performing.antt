@@ -52,7 +52,7 @@ look_chan (Some ch) e = (ch, refl)
 
 pop_chan : (limits : Limits) (o : Option Chan) → is_some (served_at {Proc = Proc} (Pop limits) o) ≡ true → (ch : Chan) × (o ≡ Some ch) × (is_ready (Pop limits) ch ≡ true)
 pop_chan limits None e = absurd (cc e)
-pop_chan limits (Some ch) e = (ch, refl, sym (pops_served limits (Some ch)) ∙ e)
+pop_chan limits (Some ch) e = (ch, refl, sym (pops_served Proc limits (Some ch)) ∙ e)
 
 no_spills : (limits : Limits) (o : Option Chan) → spills_at (Pop limits) o ≡ []
 no_spills limits None = refl

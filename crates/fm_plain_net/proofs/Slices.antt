@@ -14,7 +14,8 @@ use Rattle.fm_mean.specs.Steps.{step}
 use Rattle.fm_plain.specs.declared.advancing.Advanced.{Advanced}
 use Rattle.fm_plain.specs.Advance.{HasRoom, has_local, local_steps, with_cost}
 use Rattle.fm_plain_net.specs.Advances.{AdvancesAt}
-use Rattle.fm_run.specs.Pieces.{Makes, is_local_in, is_local_at, after_steps, IsFull, most_steps}
+use Rattle.fm_run.specs.Pieces.{most_steps}
+use Rattle.fm_run.specs.Programs.{IsFull, Makes, after_steps, is_local_at, is_local_in}
 use Rattle.fm_plain_net.proofs.Parts.{behind, there_behind, local_steps_make}
 use Rattle.fm_plain_net.proofs.Steps.{with_process, makes_local}
 

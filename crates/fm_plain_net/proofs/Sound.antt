@@ -12,7 +12,7 @@ use Rattle.fm_mean.specs.Steps.{first, language, step}
 use Rattle.fm_mean.proofs.Lawful.{lawful}
 use Rattle.fm_plain_net.specs.Held.{AreFamilies, AreLookedAt, Fits, IsSound}
 use Rattle.fm_plain_net.specs.Readings.{Processes, Trees, procs_of, state_of}
-use Rattle.fm_run.proofs.Steps.{owned_reached}
+use Rattle.fm_run.proofs.Programs.{owned_reached}
 
 pub same_state : (program : Program) (old new : Trees) → new.entries ≡ old.entries → chans_of new.channels ≡ chans_of old.channels → state_of program new ≡ state_of program old
 same_state program old new entries chans = ap₂ (λ (x : Processes) (cs : Chans). record { procs = procs_of program x; chans = cs }) entries chans

@@ -21,7 +21,7 @@ use Rattle.fm_mean.specs.Steps.{ask_for, language, onward, step}
 use Rattle.fm_net.specs.Starts.{starts_at}
 use Rattle.fm_net.proofs.Orders.{starts_served}
 use Rattle.fm_net.proofs.Taken.{Starts}
-use Rattle.fm_run.specs.Pieces.{Makes}
+use Rattle.fm_run.specs.Programs.{Makes, play_of}
 use Rattle.fm_run.proofs.Steps.{makes_more, makes_none}
 use Rattle.fm_plain.specs.Advance.{local_steps, with_cost}
 
@@ -98,12 +98,12 @@ module _ (program : Program) where
   makes_local zero s p x r is e =
       let same : (x, 0) ≡ r = cc e in
       subst (λ (q : Proc × ℕ). Makes program s p 0 (with_process s p q.0) q.1 []) same
-      (subst (λ (t : State Proc). Makes program s p 0 t 0 []) (sym (ap (λ m. record { procs = m; chans = s.chans }) (insert_same path_order s.procs p x is))) (makes_none program s p))
+      (subst (λ (t : State Proc). Makes program s p 0 t 0 []) (sym (ap (λ m. record { procs = m; chans = s.chans }) (insert_same path_order s.procs p x is))) (makes_none (play_of program) s p))
   makes_local (suc n) s p x r is e =
       let k = parts n x r e in
       let t = with_process s p k.first.0 in
       let at : get t.procs p ≡ Some k.first.0 = insert_here path_order s.procs p k.first.0 in
-      let m = makes_more program s t p n k.first.1 (with_process t p k.last.0, k.last.1) (makes_local n s p x k.first is k.first_is) (step_local t p k.first.0 k.last at k.last_is) in
+      let m = makes_more (play_of program) s t p n k.first.1 (with_process t p k.last.0, k.last.1) (makes_local n s p x k.first is k.first_is) (step_local t p k.first.0 k.last at k.last_is) in
       let ends : with_process t p k.last.0 ≡ with_process s p k.last.0 = ap (λ m. record { procs = m; chans = s.chans }) (insert_again path_order s.procs p k.first.0 k.last.0) in
       let m1 = subst (λ (ps : List Place). Makes program s p (n + 1) (with_process t p k.last.0) (k.first.1 + k.last.1) ps) (local_starts t p k.first.0 k.last at k.last_is) m in
       let m2 = subst (λ (u : State Proc). Makes program s p (n + 1) u (k.first.1 + k.last.1) []) ends m1 in

@@ -21,13 +21,14 @@ use Rattle.fm_plain.specs.declared.event.Event.TheVariants as event
 use Rattle.fm_plain.specs.declared.looking.Next.{Next}
 use Rattle.fm_plain.specs.declared.looking.Next.TheVariants as next
 use Rattle.fm_plain.specs.Events.{event_by}
-use Rattle.fm_run.specs.Pieces.{has_local}
+use Rattle.fm_run.specs.Programs.{has_local}
 use Rattle.fm_plain_net.specs.Goes.{MeetsIt}
 use Rattle.fm_run.specs.Awaited.{awaits}
 use Rattle.fm_plain_net.specs.Waited.{channel_received, event_in}
 use Rattle.fm_plain_net.proofs.Doing.{join_at}
 use Rattle.fm_plain_net.proofs.Families.{joined_family, kids_awaited}
 use Rattle.fm_plain_net.proofs.Letting.{event_shared}
+use Rattle.fm_run.proofs.Programs.{need_is}
 use Rattle.fm_plain_net.proofs.Waiting.{join_need, receive_need}
 
 abbrev waited_in : Next → Option ChanName
@@ -35,14 +36,9 @@ waited_in next.Steps = None
 waited_in next.Rests = None
 waited_in (next.Meets e) = channel_received e
 
--- a need, in the words of the table
-same_need : (k : Ask Proc) → table.need_in k ≡ need_in k
-same_need Stop = refl
-same_need (Go need f) = refl
-
 module _ (program : Program) (x : Proc) where
   pub needed : table.need_of (language program) x ≡ need_of program x
-  needed = same_need (ask program x)
+  needed = sym (need_is (ask program x))
 
   -- ---- what is told
 
@@ -128,5 +124,5 @@ waited_there program s owned p x is c waited =
     ap is_some (event_channel (language program) s owned (lawful program) p x c (Pop needs.0) k.0 is k.1).1
 
 -- who needs a message waits at its channel
-pub need_waited : (program : Program) (x : Proc) (c : ChanName) (limits : Limits) → need_of program x ≡ Some (Event c (Pop limits)) → table.channel_waited (language program) x ≡ Some c
-need_waited program x c limits need = ap table.channel_needed (needed program x ∙ need)
+pub need_waited : (program : Program) (x : Proc) (c : ChanName) (limits : Limits) → table.need_of (language program) x ≡ Some (Event c (Pop limits)) → table.channel_waited (language program) x ≡ Some c
+need_waited program x c limits need = ap table.channel_needed need

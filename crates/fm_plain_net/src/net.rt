@@ -1,6 +1,8 @@
 //! The net over trees, with the pieces that it made.
 
 ghost use Rattle.std.specs.Prelude.{refl};
+ghost use Rattle.fm_run.specs.Programs.{play_of};
+ghost use Rattle.fm_run.proofs.Programs.{law_of};
 ghost use Rattle.fm_plain_net.specs.Held as held;
 ghost use Rattle.fm_plain_net.specs.Readings.{order_of, state_of};
 
@@ -32,6 +34,10 @@ impl Drop for TreeNet {
 }
 
 impl Net for TreeNet {
+    type Source = Program;
+
+    ghost play = { play_of };
+
     ghost state = { λ program net. state_of program net.trees };
 
     ghost order = { λ net. order_of net.trees.entries };
@@ -41,6 +47,8 @@ impl Net for TreeNet {
     ghost history = { λ net. net.history };
 
     ghost IsSound = { λ program net. held.IsSound program net.trees };
+
+    ghost lawful = { λ program net sound. law_of program };
 
     ghost channels_are = { λ program net sound. refl };
 

@@ -113,7 +113,7 @@ impl Proc for TreeProc {
     ghost use Rattle.fm_plain_net.specs.Readings.{tree_of};
     ghost use Rattle.fm_plain_net.specs.Waited.{event_in};
     ghost use Rattle.fm_run.specs.Awaited.{awaits};
-    ghost use Rattle.fm_run.specs.Pieces.{has_local};
+    ghost use Rattle.fm_run.specs.Programs.{has_local};
 
     type Look = Next;
 

@@ -3,17 +3,18 @@ use Rattle.std.proofs.Common.{◌≡◌, ℕ, ◌+◌, ◌<◌, Bool, true, fals
 use Rattle.std.specs.Prelude.{is_some, slice_get}
 use Rattle.std.specs.FinMap.{get}
 use Rattle.fm_net.specs.Machine.{Children, Place, State, child, gathered}
+use Rattle.fm_net_procs.specs.Waiting.{need_in}
 use Rattle.fm_net_procs.specs.Readings.{ended_at as table_ended}
 use Rattle.fm_net_procs.proofs.Awaiting.{two}
 use Rattle.fm_net_procs.proofs.Family.{not_all_ended}
 use Rattle.fm_rules.specs.declared.program.Program.{Program}
 use Rattle.fm_mean.specs.Actions.{Join, action_in, after_at, joining}
 use Rattle.fm_mean.specs.Names.{unit_at}
-use Rattle.fm_mean.specs.Outcome.{ended_at, need_in, need_of}
+use Rattle.fm_mean.specs.Outcome.{ended_at}
 use Rattle.fm_mean.specs.Process.{Ended, Faulted, Frame, Joining, Kid, Phase, Proc, Running, has_ended}
-use Rattle.fm_mean.specs.Steps.{ask_event, ask_for, step}
+use Rattle.fm_mean.specs.Steps.{ask, ask_event, ask_for, step}
 use Rattle.fm_run.specs.Awaited.{HasOneLeft, awaited_in}
-use Rattle.fm_run.specs.Orders.{can_at, can_in}
+use Rattle.fm_run.specs.Programs.{can_at, can_in, play_of}
 use Rattle.fm_run.proofs.Able.{joins, rests, some_there, steps_there}
 use Rattle.fm_run.proofs.Playing.{known_place}
 
@@ -29,13 +30,13 @@ module _ (program : Program) (s : State Proc) (p : Place) (x : Proc) (is : get s
     where
       go : (fs : List Frame) → x.execution.frames ≡ fs → is_some (gathered has_ended s.procs p b 1 (length kids)) ≡ true
       go [] none =
-          absurd (cc (sym (rests program s p x is (ap (λ a. need_in (ask_for program x a)) (ap (action_in program x.execution) phase ∙ ap (joining program b kids) none))) ∙ can))
+          absurd (cc (sym (rests (play_of program) s p x is (ap (λ a. need_in (ask_for program x a)) (ap (action_in program x.execution) phase ∙ ap (joining program b kids) none))) ∙ can))
       go (f ∷ below) top =
           let does = ap (action_in program x.execution) phase ∙ ap (joining program b kids) top in
           let next = after_at (unit_at program f.unit) f.entry in
-          let needs : need_of program x ≡ Some (Children b (length kids)) =
+          let needs : need_in (ask program x) ≡ Some (Children b (length kids)) =
           ap (λ a. need_in (ask_for program x a)) does ∙ ap (λ (fs : List Frame). need_in (ask_event program x (Join b kids next) fs)) top in
-          sym (joins program s p x is b (length kids) needs) ∙ can
+          sym (joins (play_of program) s p x is b (length kids) needs) ∙ can
 
   waits_for_nobody : HasOneLeft s p x → ⊥
   waits_for_nobody left = go x.phase refl
@@ -61,8 +62,8 @@ not_so true never = absurd (never refl)
 pub able_alone : (program : Program) (s : State Proc) (places : List Place) (n : ℕ) (waits : Bool) → can_at program s places n ≡ true
     → ((q : Place) (x : Proc) → slice_get places n ≡ Some q → get s.procs q ≡ Some x → waits ≡ true → HasOneLeft s q x) → waits ≡ false
 able_alone program s places n waits can left =
-    let place = some_there (slice_get places n) (known_place program s places n can) in
+    let place = some_there (slice_get places n) (known_place (play_of program) s places n can) in
     let q = place.0 in
     let steps : is_some (step program s q) ≡ true = sym (ap (can_in program s) place.1) ∙ can in
-    let who = steps_there program s q (get s.procs q) refl steps in
+    let who = steps_there (play_of program) s q (get s.procs q) refl steps in
     not_so waits (λ e. waits_for_nobody program s q who.0 who.1 steps (left q who.0 place.1 who.1 e))

@@ -2,40 +2,27 @@
 use Rattle.std.proofs.Common.{◌≡◌, ◌≢◌, ◌⊎◌, inl, inr, ℕ, zero, suc, ◌+◌, ◌<◌, ◌≤◌, Bool, true, false, not, ◌==◌, eq-eqb, Option, Some, None, List, [], ◌∷◌, ◌++◌, length, replicate, refl, sym, ap, ◌∙◌, arith}
 use Rattle.std.specs.Prelude.{is_some, Contains, slice_get}
 use Rattle.std.proofs.lemmas.Option.{slice_get_within}
-use Rattle.std.specs.FinMap.{empty, get}
-use Rattle.fm_base.specs.declared.port.PortValue.{PortValue}
+use Rattle.std.specs.FinMap.{get}
 use Rattle.fm_chan.specs.declared.channels.Channels.{Channels}
 use Rattle.fm_chan.specs.Bodies.{chans_of}
 use Rattle.fm_chan.specs.Woken.{WakesAll, woken_of}
 use Rattle.fm_base.specs.declared.schedule.Turn.{Turn}
-use Rattle.fm_finmap.specs.Sums.{total, value_or_zero}
-use Rattle.fm_finmap.proofs.Inserts.{insert_here}
-use Rattle.fm_finmap.proofs.Sums.{one_of_total}
 use Rattle.fm_sched.specs.Schedule.{IsLegal, play}
-use Rattle.fm_net.specs.Lawful.{holds}
 use Rattle.fm_net.specs.Machine.{Place, State, child}
-use Rattle.fm_net.specs.Owned.{IsOwned, count}
+use Rattle.fm_net.specs.Owned.{IsOwned}
 use Rattle.fm_net.specs.Starts.{child_places}
 use Rattle.fm_net.proofs.Children.{pair_snoc}
-use Rattle.fm_net.proofs.Counts.{count-cons, one_self}
 use Rattle.fm_net.proofs.Histories.{longer_at}
-use Rattle.fm_net.proofs.Keys.{path_order}
 use Rattle.fm_net.proofs.Orders.{all_stand, child_among, one_number_each, place_among}
-use Rattle.fm_rules.specs.declared.program.Program.{Program}
-use Rattle.fm_mean.specs.Outcome.{ended_at}
-use Rattle.fm_mean.specs.Process.{Proc}
-use Rattle.fm_mean.specs.Steps.{first, first_proc, language, step}
-use Rattle.fm_mean.proofs.Lawful.{lawful}
 use Rattle.fm_run.specs.Noted.{AreNoted, AreNotedBut, AreParents, IsNoted}
 use Rattle.fm_run.specs.Orders.{Among, can_at, can_in, is_among, is_new, newly, others_in}
 use Rattle.fm_run.specs.Runs.{AreAble, IsPlayedBy}
-use Rattle.fm_run.proofs.Firsts.{none_open}
 use Rattle.fm_run.proofs.Noting.{IsLastChild, can_still, noted_still, who_became_able}
 use Rattle.fm_run.proofs.Others.{Stands}
 use Rattle.fm_run.proofs.Numbers.{filter_among, in_filter, is_among_from}
-use Rattle.fm_run.proofs.Playing.{first_owned}
 use Rattle.fm_run.proofs.Queueing.{and_left, and_right, not_true}
 use native.Mathlib.Decide.{ℕ_discrete}
+use Rattle.fm_run.specs.Plays.{IsLawfulPlay, Play, language, step, first_proc, ended_at}
 
 -- ---- numbers and places
 
@@ -51,51 +38,39 @@ behind_front [] ys n x high is = (n, omega arith, is)
 behind_front (y ∷ xs) ys zero x high is = absurd (omega arith)
 behind_front (y ∷ xs) ys (suc n) x high is = let k = behind_front xs ys n x (omega arith) is in (k.0, omega (arith, k.1), k.2)
 
-no_ports : (zs : List PortValue) → ((z : PortValue) → count z zs ≡ 0) → zs ≡ []
-no_ports [] none = refl
-no_ports (z ∷ zs) none = absurd (omega (arith, none z, count-cons z z zs, one_self z))
+module _ (program : Play) (hs : List Turn) (places : List Place) (s : State program.Proc) (paid : ℕ) (kept : IsPlayedBy program hs places s paid) where
+  -- no process has two numbers
+  pub one_number : IsLawfulPlay program → (n m : ℕ) (q : Place) → slice_get places n ≡ Some q → slice_get places m ≡ Some q → n ≡ m
+  one_number law n m q e f =
+      one_number_each (language program) law.lawful (first_proc program) law.free kept.choices kept.legal n m q (ap (λ ps. slice_get ps n) (sym kept.places_are) ∙ e) (ap (λ ps. slice_get ps m) (sym kept.places_are) ∙ f)
 
-module _ (program : Program) where
-  -- main holds no port
-  pub first_holds : (language program).held (first_proc program) ≡ []
-  first_holds = no_ports ((language program).held (first_proc program)) (λ z.
-      let m = (first program).procs in
-      let part : value_or_zero (holds (language program) z) (get m []) ≤ total (holds (language program) z) m = one_of_total path_order (holds (language program) z) m [] in
-      omega (arith, part, ap (value_or_zero (holds (language program) z)) (insert_here path_order empty [] (first_proc program)), (first_owned program).stands z, none_open program z))
-
-  module _ (hs : List Turn) (places : List Place) (s : State Proc) (paid : ℕ) (kept : IsPlayedBy program hs places s paid) where
-    -- no process has two numbers
-    pub one_number : (n m : ℕ) (q : Place) → slice_get places n ≡ Some q → slice_get places m ≡ Some q → n ≡ m
-    one_number n m q e f =
-        one_number_each (language program) (lawful program) (first_proc program) first_holds kept.choices kept.legal n m q (ap (λ ps. slice_get ps n) (sym kept.places_are) ∙ e) (ap (λ ps. slice_get ps m) (sym kept.places_are) ∙ f)
-
-    -- who has a number is there
-    pub all_there : (n : ℕ) (q : Place) → slice_get places n ≡ Some q → Stands s.procs q
-    all_there n q e =
-        let y = all_stand (language program) (first_proc program) kept.choices kept.legal n q (ap (λ ps. slice_get ps n) (sym kept.places_are) ∙ e) in
-        (y.0, ap (λ (u : State Proc). get u.procs q) (sym kept.there) ∙ y.1)
+  -- who has a number is there
+  pub all_there : (n : ℕ) (q : Place) → slice_get places n ≡ Some q → Stands program s.procs q
+  all_there n q e =
+      let y = all_stand (language program) (first_proc program) kept.choices kept.legal n q (ap (λ ps. slice_get ps n) (sym kept.places_are) ∙ e) in
+      (y.0, ap (λ (u : State program.Proc). get u.procs q) (sym kept.there) ∙ y.1)
 
 -- ---- by one piece
 
-module _ (program : Program) (s t : State Proc) (places : List Place) (own : ℕ) (p : Place) (at : slice_get places own ≡ Some p) (steps : ℕ) (owned : IsOwned (language program) s) (legal : IsLegal (step program) s (replicate steps p))
+module _ (program : Play) (law : IsLawfulPlay program) (s t : State program.Proc) (places : List Place) (own : ℕ) (p : Place) (at : slice_get places own ≡ Some p) (steps : ℕ) (owned : IsOwned (language program) s) (legal : IsLegal (step program) s (replicate steps p))
     (there : play (step program) s (replicate steps p) ≡ t) (old new : Channels) (of_old : chans_of old ≡ s.chans) (of_new : chans_of new ≡ t.chans) (waking : WakesAll old new)
-    (unique : (n m : ℕ) (q : Place) → slice_get places n ≡ Some q → slice_get places m ≡ Some q → n ≡ m) (stand : (n : ℕ) (q : Place) → slice_get places n ≡ Some q → Stands s.procs q) (noted : AreNoted program s old places) where
+    (unique : (n m : ℕ) (q : Place) → slice_get places n ≡ Some q → slice_get places m ≡ Some q → n ≡ m) (stand : (n : ℕ) (q : Place) → slice_get places n ≡ Some q → Stands program s.procs q) (noted : AreNoted program s old places) where
   pub apart : (n : ℕ) (q : Place) → n ≢ own → slice_get places n ≡ Some q → q ≢ p
   apart n q differs is e = differs (unique n own q is (at ∙ ap Some (sym e)))
 
   -- who could step before can step
   pub others_still : (n : ℕ) (q : Place) → n ≢ own → slice_get places n ≡ Some q → is_some (step program s q) ≡ true → is_some (step program t q) ≡ true
-  others_still n q differs is can = can_still program s t p steps owned legal there q (apart n q differs is) can
+  others_still n q differs is can = can_still program law s t p steps owned legal there q (apart n q differs is) can
 
-  was_noted : (n : ℕ) (q : Place) → slice_get places n ≡ Some q → (x : Proc) → get s.procs q ≡ Some x → is_some (step program s q) ≡ false → IsNoted program old n x
+  was_noted : (n : ℕ) (q : Place) → slice_get places n ≡ Some q → (x : program.Proc) → get s.procs q ≡ Some x → is_some (step program s q) ≡ false → IsNoted program old n x
   was_noted n q is x here unable = elim (noted n q x is here unable) [ inl none ↦ absurd none | inr k ↦ k ]
 
   -- who couldn't step and can was woken, or the one that made the piece was the last of its children
   pub became_able : (n : ℕ) (q : Place) (differs : n ≢ own) (is : slice_get places n ≡ Some q) → is_some (step program s q) ≡ false → is_some (step program t q) ≡ true
-      → Contains (woken_of new) n ⊎ IsLastChild program s t p steps owned legal there q (apart n q differs is)
+      → Contains (woken_of new) n ⊎ IsLastChild program law s t p steps owned legal there q (apart n q differs is)
   became_able n q differs is unable can =
       let x = stand n q is in
-      who_became_able program s t p steps owned legal there q (apart n q differs is) x.0 x.1 unable old new of_old of_new waking n (was_noted n q is x.0 x.1 unable) can
+      who_became_able program law s t p steps owned legal there q (apart n q differs is) x.0 x.1 unable old new of_old of_new waking n (was_noted n q is x.0 x.1 unable) can
 
   -- who can't step is noted still, but for the one that made the piece and those that it started
   pub noted_after : (more : List Place) → AreNotedBut program t new (places ++ more) (λ n. (n ≡ own) ⊎ (length places ≤ n))
@@ -108,7 +83,7 @@ module _ (program : Program) (s t : State Proc) (places : List Place) (own : ℕ
       still differs at_n true can = absurd (cc (sym unable ∙ others_still n q differs at_n can))
       still differs at_n false un =
           let x = stand n q at_n in
-          noted_still program s t p steps owned legal there q (apart n q differs at_n) x.0 x.1 un old new of_old of_new waking n (was_noted n q at_n x.0 x.1 un) y here
+          noted_still program law s t p steps owned legal there q (apart n q differs at_n) x.0 x.1 un old new of_old of_new waking n (was_noted n q at_n x.0 x.1 un) y here
 
       go : (n < length places) ⊎ (length places ≤ n) → ((n ≡ own) ⊎ (length places ≤ n)) ⊎ IsNoted program new n y
       go (inr high) = inl (inr high)
@@ -119,14 +94,14 @@ module _ (program : Program) (s t : State Proc) (places : List Place) (own : ℕ
 
   module _ (more : List Place) (parents : List ℕ) (started_by : AreParents (places ++ more) parents) (unique_later : (n m : ℕ) (q : Place) → slice_get (places ++ more) n ≡ Some q → slice_get (places ++ more) m ≡ Some q → n ≡ m) where
     -- it is the one that started it
-    parent_is : (n : ℕ) (q : Place) (differs : n ≢ own) (is : slice_get places n ≡ Some q) → IsLastChild program s t p steps owned legal there q (apart n q differs is) → slice_get parents own ≡ Some n
+    parent_is : (n : ℕ) (q : Place) (differs : n ≢ own) (is : slice_get places n ≡ Some q) → IsLastChild program law s t p steps owned legal there q (apart n q differs is) → slice_get parents own ≡ Some n
     parent_is n q differs is last =
         let m = started_by own q last.block last.index (longer_at places more own p at ∙ ap Some last.is_child) in
         m.1 ∙ ap Some (unique_later m.0 n q m.2 (longer_at places more n q is))
 
     module _ (able : List ℕ) (exact : AreAble program s places able) (candidates : List ℕ)
         (woken_in : (n : ℕ) → Contains (woken_of new) n → Contains candidates n)
-        (parent_in : ended_at (get t.procs p) ≡ true → (n : ℕ) → slice_get parents own ≡ Some n → can_at program t (places ++ more) n ≡ true → Contains candidates n)
+        (parent_in : (ended_at program) (get t.procs p) ≡ true → (n : ℕ) → slice_get parents own ≡ Some n → can_at program t (places ++ more) n ≡ true → Contains candidates n)
         (new_in : (n : ℕ) → length places ≤ n → n < length (places ++ more) → Contains candidates n) where
       -- who became able is among the candidates
       pub all_candidates : (n : ℕ) → newly (can_at program t (places ++ more)) own able n ≡ true → Contains candidates n
@@ -144,7 +119,7 @@ module _ (program : Program) (s t : State Proc) (places : List Place) (own : ℕ
           low_or_high : (a b : ℕ) → (a < b) ⊎ (b ≤ a)
           low_or_high a b = grind arith
 
-          told : (q : Place) (is : slice_get places n ≡ Some q) → Contains (woken_of new) n ⊎ IsLastChild program s t p steps owned legal there q (apart n q differs is) → Contains candidates n
+          told : (q : Place) (is : slice_get places n ≡ Some q) → Contains (woken_of new) n ⊎ IsLastChild program law s t p steps owned legal there q (apart n q differs is) → Contains candidates n
           told q is (inl woken) = woken_in n woken
           told q is (inr last) = parent_in last.ended n (parent_is n q differs is last) (and_right (is_new own able n) (can_at program t (places ++ more) n) new_n)
 
@@ -172,8 +147,8 @@ module _ (program : Program) (s t : State Proc) (places : List Place) (own : ℕ
 -- ---- before the first piece
 
 -- main alone is there: it is noted, so all are
-pub main_noted : (program : Program) (s : State Proc) (places : List Place) (channels : Channels) → places ≡ [] ∷ []
-    → ((q : Place) (x : Proc) → slice_get places 0 ≡ Some q → get s.procs q ≡ Some x → is_some (step program s q) ≡ false → IsNoted program channels 0 x) → AreNoted program s channels places
+pub main_noted : (program : Play) (s : State program.Proc) (places : List Place) (channels : Channels) → places ≡ [] ∷ []
+    → ((q : Place) (x : program.Proc) → slice_get places 0 ≡ Some q → get s.procs q ≡ Some x → is_some (step program s q) ≡ false → IsNoted program channels 0 x) → AreNoted program s channels places
 main_noted program s places channels alone this zero q x at here unable = inr (this q x at here unable)
 main_noted program s places channels alone this (suc n) q x at here unable = absurd (cc (sym at ∙ ap (λ (ps : List Place). slice_get ps (suc n)) alone))
 

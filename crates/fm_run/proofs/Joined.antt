@@ -9,19 +9,17 @@ use Rattle.fm_net.specs.Machine.{Place, State}
 use Rattle.fm_net.specs.Starts.{child_places, choices_of, starts_along}
 use Rattle.fm_net.proofs.Histories.{longer_at}
 use Rattle.fm_net.proofs.Orders.{starts-append}
-use Rattle.fm_rules.specs.declared.program.Program.{Program}
-use Rattle.fm_mean.specs.Process.{Proc}
-use Rattle.fm_mean.specs.Steps.{language, step}
 use Rattle.fm_net_procs.specs.declared.piece.Piece.{Piece}
 use Rattle.fm_run.specs.Entries.{EndsWith, MayHaveEntry, MayHavePiece, turn_of, with_piece}
 use Rattle.fm_run.specs.Pieces.{IsPiece}
 use Rattle.fm_run.specs.Runs.{AreMade, HaveSteps, IsEntry, IsPlayedBy, place_of, steps_of}
 use Rattle.fm_run.proofs.EntryLaws.{choices_joined, lengthened_last, replicate-append, steps_joined}
 use Rattle.fm_run.proofs.Playing.{kept_more}
+use Rattle.fm_run.specs.Plays.{Play, language, step}
 
-module _ (program : Program) where
+module _ (program : Play) where
   -- a piece makes its steps
-  pub steps_made : (slice : ℕ) (spare : Bool) (number : ℕ) (s t : State Proc) (places later_places : List Place) (p : Place) (r : Piece) → slice_get places number ≡ Some p → IsPiece program slice spare s p r t → later_places ≡ places ++ child_places p r.block 1 r.started
+  pub steps_made : (slice : ℕ) (spare : Bool) (number : ℕ) (s t : State program.Proc) (places later_places : List Place) (p : Place) (r : Piece) → slice_get places number ≡ Some p → IsPiece program slice spare s p r t → later_places ≡ places ++ child_places p r.block 1 r.started
       → AreMade program number r.steps s places t later_places
   steps_made slice spare number s t places later_places p r who piece places_is =
       let place : place_of places (turn_of number r.steps) ≡ p = get_or_from_slice_get places number p [] who in
@@ -32,12 +30,12 @@ module _ (program : Program) where
       }
 
   -- steps that are an entry of their own
-  pub entry_of : (number steps : ℕ) (s t : State Proc) (places later_places : List Place) (history later : List Turn) → AreMade program number steps s places t later_places → later ≡ with_piece false history number steps
+  pub entry_of : (number steps : ℕ) (s t : State program.Proc) (places later_places : List Place) (history later : List Turn) → AreMade program number steps s places t later_places → later ≡ with_piece false history number steps
       → IsEntry program (turn_of number steps) s places history t later_places later
   entry_of number steps s t places later_places history later made is = record { history_is = is; can = made.can; state_is = made.state_is; places_are = made.places_are }
 
   -- more steps of its process join an entry
-  pub entry_joined : (number done more : ℕ) (p : Place) (s t u : State Proc) (ps qs rs : List Place) (hs js ks : List Turn) → slice_get ps number ≡ Some p → IsEntry program (turn_of number done) s ps hs t qs js → AreMade program number more t qs u rs
+  pub entry_joined : (number done more : ℕ) (p : Place) (s t u : State program.Proc) (ps qs rs : List Place) (hs js ks : List Turn) → slice_get ps number ≡ Some p → IsEntry program (turn_of number done) s ps hs t qs js → AreMade program number more t qs u rs
       → ks ≡ with_piece true js number more → IsEntry program (turn_of number (done + more)) s ps hs u rs ks
   entry_joined number done more p s t u ps qs rs hs js ks who entry made ks_is =
       let here : place_of ps (turn_of number done) ≡ p = get_or_from_slice_get ps number p [] who in
@@ -48,14 +46,14 @@ module _ (program : Program) where
       let second : IsLegal (step program) t (replicate more p) = subst (λ (q : Place). IsLegal (step program) t (replicate more q)) there made.can in
       let all : replicate (done + more) p ≡ replicate done p ++ replicate more p = replicate-append done more p in
       let starts : starts_along (language program) s (replicate (done + more) p) ≡ starts_along (language program) s (replicate done p) ++ starts_along (language program) t (replicate more p) =
-      ap (starts_along (language program) s) all ∙ starts-append (language program) s (replicate done p) (replicate more p) ∙ ap (λ (v : State Proc). starts_along (language program) s (replicate done p) ++ starts_along (language program) v (replicate more p)) led in
+      ap (starts_along (language program) s) all ∙ starts-append (language program) s (replicate done p) (replicate more p) ∙ ap (λ (v : State program.Proc). starts_along (language program) s (replicate done p) ++ starts_along (language program) v (replicate more p)) led in
       record {
         history_is = ks_is ∙ ap (λ (ts : List Turn). with_piece true ts number more) entry.history_is ∙ lengthened_last hs (turn_of number done) more;
         can =
             subst (λ (q : Place). IsLegal (step program) s (replicate (done + more) q)) (sym here)
-            (subst (IsLegal (step program) s) (sym all) (IsLegal-append (step program) s (replicate done p) (replicate more p) first (subst (λ (v : State Proc). IsLegal (step program) v (replicate more p)) (sym led) second)));
+            (subst (IsLegal (step program) s) (sym all) (IsLegal-append (step program) s (replicate done p) (replicate more p) first (subst (λ (v : State program.Proc). IsLegal (step program) v (replicate more p)) (sym led) second)));
         state_is =
-            made.state_is ∙ ap (λ (q : Place). play (step program) t (replicate more q)) there ∙ ap (λ (v : State Proc). play (step program) v (replicate more p)) (sym led)
+            made.state_is ∙ ap (λ (q : Place). play (step program) t (replicate more q)) there ∙ ap (λ (v : State program.Proc). play (step program) v (replicate more p)) (sym led)
             ∙ sym (play-append (step program) s (replicate done p) (replicate more p)) ∙ ap (play (step program) s) (sym all) ∙ ap (λ (q : Place). play (step program) s (replicate (done + more) q)) (sym here);
         places_are =
             made.places_are ∙ ap₂ (λ (xs : List Place) (q : Place). xs ++ starts_along (language program) t (replicate more q)) entry.places_are there
@@ -65,7 +63,7 @@ module _ (program : Program) where
       }
 
   -- the schedule with a piece leads where the piece does
-  pub kept_piece : (hs : List Turn) (ps : List Place) (s : State Proc) (paid : ℕ) → IsPlayedBy program hs ps s paid → (number : ℕ) (p : Place) → slice_get ps number ≡ Some p → (slice : ℕ) (spare : Bool) (r : Piece) (t : State Proc) → IsPiece program slice spare s p r t
+  pub kept_piece : (hs : List Turn) (ps : List Place) (s : State program.Proc) (paid : ℕ) → IsPlayedBy program hs ps s paid → (number : ℕ) (p : Place) → slice_get ps number ≡ Some p → (slice : ℕ) (spare : Bool) (r : Piece) (t : State program.Proc) → IsPiece program slice spare s p r t
       → (joins : Bool) → (joins ≡ true → EndsWith hs number) → (js : List Turn) → js ≡ with_piece joins hs number r.steps → (qs : List Place) → qs ≡ ps ++ child_places p r.block 1 r.started → (sum : ℕ) → sum ≡ paid + r.cost → IsPlayedBy program js qs t sum
   kept_piece hs ps s paid kept number p who slice spare r t piece false ends js js_is qs qs_is sum sum_is = kept_more program hs ps s paid kept number p who slice spare r t piece js js_is qs qs_is sum sum_is
   kept_piece hs ps s paid kept number p who slice spare r t piece true ends js js_is qs qs_is sum sum_is =

@@ -1,3 +1,4 @@
+mod Plays
 pub mod Steps
 pub mod Able
 pub mod Numbers
@@ -15,3 +16,4 @@ pub mod Taking
 pub mod Holding
 pub mod EntryLaws
 pub mod Joined
+pub mod Programs

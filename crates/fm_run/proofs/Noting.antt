@@ -15,27 +15,23 @@ use Rattle.fm_net.specs.Machine.{Place, Procs, State, Need, Nothing, Event, New,
 use Rattle.fm_net.specs.Owned.{IsOwned}
 use Rattle.fm_net.proofs.Children.{pair_snoc}
 use Rattle.fm_net.proofs.Keys.{path_order}
-use Rattle.fm_rules.specs.declared.program.Program.{Program}
-use Rattle.fm_mean.specs.Outcome.{ended_at, need_in, need_of}
-use Rattle.fm_mean.specs.Process.{Proc, has_ended}
-use Rattle.fm_mean.specs.Steps.{language, step}
-use Rattle.fm_mean.proofs.Lawful.{lawful}
 use Rattle.fm_run.specs.Noted.{IsNoted}
 use Rattle.fm_run.proofs.Able.{is_free, joins, receives, rests, steps_freely}
 use Rattle.fm_run.proofs.Others.{StaysOrEnded, Stands, able_along, came_along, others_along}
+use Rattle.fm_run.specs.Plays.{IsLawfulPlay, Play, need_in, language, has_ended, step, need_of, ended_at}
 
-some_of_and : (o : Option (List Proc)) (x : Proc) → is_some (with_child has_ended (Some x) o) ≡ (has_ended x && is_some o)
-some_of_and o x = go (has_ended x) o
+some_of_and : (program : Play) → (o : Option (List program.Proc)) (x : program.Proc) → is_some (with_child (has_ended program) (Some x) o) ≡ ((has_ended program) x && is_some o)
+some_of_and program o x = go ((has_ended program) x) o
   where
-    go : (b : Bool) (o : Option (List Proc)) → is_some (cond b (option_map (λ ys. x ∷ ys) o) None) ≡ (b && is_some o)
+    go : (b : Bool) (o : Option (List program.Proc)) → is_some (cond b (option_map (λ ys. x ∷ ys) o) None) ≡ (b && is_some o)
     go true None = refl
     go true (Some ys) = refl
     go false o = refl
 
 -- the first child and the others have all ended, or not all
-some_child : (c : Option Proc) (o : Option (List Proc)) → is_some (with_child has_ended c o) ≡ (ended_at c && is_some o)
-some_child None o = refl
-some_child (Some x) o = some_of_and o x
+some_child : (program : Play) → (c : Option program.Proc) (o : Option (List program.Proc)) → is_some (with_child (has_ended program) c o) ≡ ((ended_at program) c && is_some o)
+some_child program None o = refl
+some_child program (Some x) o = some_of_and program o x
 
 left_true : (a b : Bool) → (a && b) ≡ true → a ≡ true
 left_true true b e = refl
@@ -46,54 +42,54 @@ right_true true b e = e
 right_true false b e = absurd (cc e)
 
 -- where not all children had ended, and all have ended, one of them has ended since
-module _ (m n : Procs Proc) (p : Place) (b : ℕ) where
+module _ (program : Play) (m n : Procs program.Proc) (p : Place) (b : ℕ) where
   abbrev pub EndedSince : Type 0
-  EndedSince = (i : ℕ) × (ended_at (get m (child p b i)) ≡ false) × (ended_at (get n (child p b i)) ≡ true)
+  EndedSince = (i : ℕ) × ((ended_at program) (get m (child p b i)) ≡ false) × ((ended_at program) (get n (child p b i)) ≡ true)
 
-  ended_since : (i k : ℕ) → is_some (gathered has_ended m p b i k) ≡ false → is_some (gathered has_ended n p b i k) ≡ true → EndedSince
+  ended_since : (i k : ℕ) → is_some (gathered (has_ended program) m p b i k) ≡ false → is_some (gathered (has_ended program) n p b i k) ≡ true → EndedSince
   ended_since i zero was is = absurd (cc was)
-  ended_since i (suc k) was is = go (ended_at (get m (child p b i))) refl (λ w n. ended_since (suc i) k w n)
+  ended_since i (suc k) was is = go ((ended_at program) (get m (child p b i))) refl (λ w n. ended_since (suc i) k w n)
     where
-      now : (ended_at (get n (child p b i)) && is_some (gathered has_ended n p b (suc i) k)) ≡ true
-      now = sym (some_child (get n (child p b i)) (gathered has_ended n p b (suc i) k)) ∙ is
+      now : ((ended_at program) (get n (child p b i)) && is_some (gathered (has_ended program) n p b (suc i) k)) ≡ true
+      now = sym (some_child program (get n (child p b i)) (gathered (has_ended program) n p b (suc i) k)) ∙ is
 
-      go : (c : Bool) → ended_at (get m (child p b i)) ≡ c → (is_some (gathered has_ended m p b (suc i) k) ≡ false → is_some (gathered has_ended n p b (suc i) k) ≡ true → EndedSince) → EndedSince
-      go false e rest = (i, e, left_true (ended_at (get n (child p b i))) (is_some (gathered has_ended n p b (suc i) k)) now)
+      go : (c : Bool) → (ended_at program) (get m (child p b i)) ≡ c → (is_some (gathered (has_ended program) m p b (suc i) k) ≡ false → is_some (gathered (has_ended program) n p b (suc i) k) ≡ true → EndedSince) → EndedSince
+      go false e rest = (i, e, left_true ((ended_at program) (get n (child p b i))) (is_some (gathered (has_ended program) n p b (suc i) k)) now)
       go true e rest =
           rest
-          (ap (λ c. c && is_some (gathered has_ended m p b (suc i) k)) (sym e) ∙ sym (some_child (get m (child p b i)) (gathered has_ended m p b (suc i) k)) ∙ was)
-          (right_true (ended_at (get n (child p b i))) (is_some (gathered has_ended n p b (suc i) k)) now)
+          (ap (λ c. c && is_some (gathered (has_ended program) m p b (suc i) k)) (sym e) ∙ sym (some_child program (get m (child p b i)) (gathered (has_ended program) m p b (suc i) k)) ∙ was)
+          (right_true ((ended_at program) (get n (child p b i))) (is_some (gathered (has_ended program) n p b (suc i) k)) now)
 
 -- who has ended needs nothing
-resting : (program : Program) (x : Proc) → has_ended x ≡ true → need_of program x ≡ None
-resting program x done = ap need_in ((lawful program).stops x done)
+resting : (program : Play) → IsLawfulPlay program → (x : program.Proc) → (has_ended program) x ≡ true → need_of program x ≡ None
+resting program law x done = ap need_in (law.lawful.stops x done)
 
 -- a step is there
-can_from : (o : Option (State Proc × ℕ)) → is_some o ≡ true → (r : State Proc × ℕ) × (o ≡ Some r)
-can_from None e = absurd (cc e)
-can_from (Some r) e = (r, refl)
+can_from : (program : Play) → (o : Option (State program.Proc × ℕ)) → is_some o ≡ true → (r : State program.Proc × ℕ) × (o ≡ Some r)
+can_from program None e = absurd (cc e)
+can_from program (Some r) e = (r, refl)
 
-module _ (program : Program) (s t : State Proc) (own : Place) (steps : ℕ) (owned : IsOwned (language program) s) (legal : IsLegal (step program) s (replicate steps own)) (there : play (step program) s (replicate steps own) ≡ t)
+module _ (program : Play) (law : IsLawfulPlay program) (s t : State program.Proc) (own : Place) (steps : ℕ) (owned : IsOwned (language program) s) (legal : IsLegal (step program) s (replicate steps own)) (there : play (step program) s (replicate steps own) ≡ t)
     (q : Place) (apart : q ≢ own) where
-  others : (r : Place) → (r ≢ own) → (x : Proc) → get s.procs r ≡ Some x → StaysOrEnded x (get t.procs r)
-  others r off x is = subst (λ (u : State Proc). StaysOrEnded x (get u.procs r)) there (others_along program own steps s owned legal r off x is)
+  others : (r : Place) → (r ≢ own) → (x : program.Proc) → get s.procs r ≡ Some x → StaysOrEnded program x (get t.procs r)
+  others r off x is = subst (λ (u : State program.Proc). StaysOrEnded program x (get u.procs r)) there (others_along program law own steps s owned legal r off x is)
 
   -- who could step can
   pub can_still : is_some (step program s q) ≡ true → is_some (step program t q) ≡ true
   can_still can =
-      let k = able_along program own steps s owned legal q apart (can_from (step program s q) can) in
-      ap (λ (u : State Proc). is_some (step program u q)) (sym there) ∙ ap is_some k.1
+      let k = able_along program law own steps s owned legal q apart (can_from program (step program s q) can) in
+      ap (λ (u : State program.Proc). is_some (step program u q)) (sym there) ∙ ap is_some k.1
 
   -- who has ended can't step
-  ended_unable : ended_at (get t.procs q) ≡ true → is_some (step program t q) ≡ true → ⊥
+  ended_unable : (ended_at program) (get t.procs q) ≡ true → is_some (step program t q) ≡ true → ⊥
   ended_unable ended can = go (get t.procs q) refl ended
     where
-      go : (o : Option Proc) → get t.procs q ≡ o → ended_at o ≡ true → ⊥
+      go : (o : Option program.Proc) → get t.procs q ≡ o → (ended_at program) o ≡ true → ⊥
       go None e done = cc done
       go (Some y) e done = cc (sym (rests program t q y e (stops y done)) ∙ can)
         where
-          stops : (y : Proc) → has_ended y ≡ true → need_of program y ≡ None
-          stops y d = resting program y d
+          stops : (y : program.Proc) → (has_ended program) y ≡ true → need_of program y ≡ None
+          stops y d = resting program law y d
 
   -- ---- who couldn't step and can
 
@@ -102,41 +98,41 @@ module _ (program : Program) (s t : State Proc) (own : Place) (steps : ℕ) (own
     pub block : ℕ
     pub index : ℕ
     pub is_child : own ≡ child q block index
-    pub ended : ended_at (get t.procs own) ≡ true
+    pub ended : (ended_at program) (get t.procs own) ≡ true
 
-  last_child : (b i : ℕ) → ended_at (get s.procs (child q b i)) ≡ false → ended_at (get t.procs (child q b i)) ≡ true → IsLastChild
+  last_child : (b i : ℕ) → (ended_at program) (get s.procs (child q b i)) ≡ false → (ended_at program) (get t.procs (child q b i)) ≡ true → IsLastChild
   last_child b i was is = elim (decide path_order (child q b i) own) [
-    | yes e ↦ record { block = b; index = i; is_child = sym e; ended = ap (λ r. ended_at (get t.procs r)) (sym e) ∙ is }
+    | yes e ↦ record { block = b; index = i; is_child = sym e; ended = ap (λ r. (ended_at program) (get t.procs r)) (sym e) ∙ is }
     | no off ↦ absurd (other off (get s.procs (child q b i)) refl)
   ]
     where
-      stayed : (x : Proc) → has_ended x ≡ false → StaysOrEnded x (get t.procs (child q b i)) → ⊥
-      stayed x on (inl same) = cc (sym is ∙ ap ended_at same ∙ on)
+      stayed : (x : program.Proc) → (has_ended program) x ≡ false → StaysOrEnded program x (get t.procs (child q b i)) → ⊥
+      stayed x on (inl same) = cc (sym is ∙ ap (ended_at program) same ∙ on)
       stayed x on (inr k) = cc (sym on ∙ k.0)
 
-      new : (y : Proc) → get t.procs (child q b i) ≡ Some y → get s.procs (child q b i) ≡ None → ⊥
-      new y now none = came (came_along program own steps s legal (child q b i) y (ap (λ (u : State Proc). get u.procs (child q b i)) there ∙ now))
+      new : (y : program.Proc) → get t.procs (child q b i) ≡ Some y → get s.procs (child q b i) ≡ None → ⊥
+      new y now none = came (came_along program own steps s legal (child q b i) y (ap (λ (u : State program.Proc). get u.procs (child q b i)) there ∙ now))
         where
-          came : Stands s.procs (child q b i) ⊎ ((d : ℕ) × (j : ℕ) × (child q b i ≡ child own d j)) → ⊥
+          came : Stands program s.procs (child q b i) ⊎ ((d : ℕ) × (j : ℕ) × (child q b i ≡ child own d j)) → ⊥
           came (inl stood) = cc (sym none ∙ stood.1)
           came (inr k) = apart (pair_snoc q own (b, i) (k.0, k.1) k.2)
 
-      other : (child q b i ≢ own) → (o : Option Proc) → get s.procs (child q b i) ≡ o → ⊥
+      other : (child q b i ≢ own) → (o : Option program.Proc) → get s.procs (child q b i) ≡ o → ⊥
       other off None e = let y = there_now (get t.procs (child q b i)) refl is in new y.0 y.1 e
         where
-          there_now : (o : Option Proc) → get t.procs (child q b i) ≡ o → ended_at o ≡ true → Stands t.procs (child q b i)
+          there_now : (o : Option program.Proc) → get t.procs (child q b i) ≡ o → (ended_at program) o ≡ true → Stands program t.procs (child q b i)
           there_now None none done = absurd (cc done)
           there_now (Some y) at done = (y, at)
-      other off (Some x) e = stayed x (ap ended_at (sym e) ∙ was) (others (child q b i) off x e)
+      other off (Some x) e = stayed x (ap (ended_at program) (sym e) ∙ was) (others (child q b i) off x e)
 
-  module _ (x : Proc) (is : get s.procs q ≡ Some x) (unable : is_some (step program s q) ≡ false) where
+  module _ (x : program.Proc) (is : get s.procs q ≡ Some x) (unable : is_some (step program s q) ≡ false) where
     module _ (old new : Channels) (of_old : chans_of old ≡ s.chans) (of_new : chans_of new ≡ t.chans) (waking : WakesAll old new) (number : ℕ) (noted : IsNoted program old number x) where
       -- it was woken, or the last of its children ended
       pub who_became_able : is_some (step program t q) ≡ true → Contains (woken_of new) number ⊎ IsLastChild
       who_became_able can = stays (others q apart x is)
         where
           free : is_free (need_of program x) ≡ true → ⊥
-          free e = cc (sym unable ∙ steps_freely program s q x is owned e)
+          free e = cc (sym unable ∙ steps_freely program s q x is law owned e)
 
           woken : (c : ChanName) (limits : Limits) → need_of program x ≡ Some (Event c (Pop limits)) → get t.procs q ≡ Some x → (waiting_reader old c ≡ Some number) ⊎ Contains (woken_of old) number → Contains (woken_of new) number ⊎ IsLastChild
           woken c limits e same (inr was) = inl (waking.woken number was)
@@ -154,21 +150,21 @@ module _ (program : Program) (s t : State Proc) (own : Place) (steps : ℕ) (own
           by_need (Some (Event c Look)) e same = absurd (free (ap is_free e))
           by_need (Some (New k w)) e same = absurd (free (ap is_free e))
           by_need (Some (Children b n)) e same =
-              let k = ended_since s.procs t.procs q b 1 n (sym (joins program s q x is b n e) ∙ unable) (sym (joins program t q x same b n e) ∙ can) in
+              let k = ended_since program s.procs t.procs q b 1 n (sym (joins program s q x is b n e) ∙ unable) (sym (joins program t q x same b n e) ∙ can) in
               inr (last_child b k.0 k.1 k.2)
 
-          stays : StaysOrEnded x (get t.procs q) → Contains (woken_of new) number ⊎ IsLastChild
+          stays : StaysOrEnded program x (get t.procs q) → Contains (woken_of new) number ⊎ IsLastChild
           stays (inl same) = by_need (need_of program x) refl same
           stays (inr k) = absurd (ended_unable k.1 can)
 
       -- who can't step still is noted still
-      pub noted_still : (y : Proc) → get t.procs q ≡ Some y → IsNoted program new number y
+      pub noted_still : (y : program.Proc) → get t.procs q ≡ Some y → IsNoted program new number y
       noted_still y at c limits e = stays (others q apart x is)
         where
           go : (waiting_reader old c ≡ Some number) ⊎ Contains (woken_of old) number → (waiting_reader new c ≡ Some number) ⊎ Contains (woken_of new) number
           go (inr was) = inr (waking.woken number was)
           go (inl waits) = elim (waking.readers c number waits) [ inl still ↦ inl still | inr k ↦ inr k.0 ]
 
-          stays : StaysOrEnded x (get t.procs q) → (waiting_reader new c ≡ Some number) ⊎ Contains (woken_of new) number
+          stays : StaysOrEnded program x (get t.procs q) → (waiting_reader new c ≡ Some number) ⊎ Contains (woken_of new) number
           stays (inl same) = let one : x ≡ y = cc (sym same ∙ at) in go (noted c limits (ap (need_of program) one ∙ e))
-          stays (inr k) = absurd (cc (sym (resting program y (sym (ap ended_at at) ∙ k.1)) ∙ e))
+          stays (inr k) = absurd (cc (sym (resting program law y (sym (ap (ended_at program) at) ∙ k.1)) ∙ e))

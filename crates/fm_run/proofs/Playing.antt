@@ -10,15 +10,11 @@ use Rattle.fm_sched.proofs.Runs.{IsLegal-append, play-append, used-append, lengt
 use Rattle.fm_net.specs.Machine.{Place, State}
 use Rattle.fm_net.specs.Owned.{IsOwned}
 use Rattle.fm_mean.specs.declared.outcome.Outcome.{Outcome}
-use Rattle.fm_rules.specs.declared.program.Program.{Program}
-use Rattle.fm_mean.specs.Process.{Proc}
-use Rattle.fm_mean.specs.Outcome.{outcome_of}
-use Rattle.fm_mean.specs.Steps.{language, step, first, first_proc}
 use Rattle.fm_net.specs.Starts.{child_places, starts_along, starts_of, choices_of}
 use Rattle.fm_net.proofs.Histories.{choices_more, choices_stay}
 use Rattle.fm_net.proofs.Orders.{everybody, starts_more}
-use Rattle.fm_mean.proofs.Laws.{each_costs as step_costs}
 use Rattle.fm_net_procs.specs.declared.piece.Piece.{Piece}
+use Rattle.fm_run.proofs.Plays.{step_costs}
 use Rattle.fm_run.specs.declared.run.Ending.{Ending}
 use Rattle.fm_run.specs.declared.run.Ending.TheVariants.{Ended, Spent}
 use Rattle.fm_run.specs.declared.run.Run.{Run}
@@ -28,6 +24,7 @@ use Rattle.fm_run.specs.Runs.{HaveSteps, IsFrontWithin, IsPlayedBy, AreAble, End
 use Rattle.fm_run.proofs.Able.{steps_there}
 use Rattle.fm_run.proofs.Numbers.{among_filter, filter_among, none_chosen, once_filter}
 use Rattle.fm_run.proofs.Steps.{owned_reached}
+use Rattle.fm_run.specs.Plays.{IsLawfulPlay, Play, language, step, first_proc, first, outcome_of}
 
 -- ---- lists of entries
 
@@ -48,35 +45,35 @@ same_front (a ∷ ts) (b ∷ us) t u e =
     ap₂ (λ (x : Turn) (xs : List Turn). x ∷ xs) head (same_front ts us t u rest)
 
 -- nothing came before an entry yet
-pub front_none : (program : Program) (turns : ℕ) (hs : List Turn) (ps : List Place) → hs ≡ [] → IsFrontWithin program turns hs ps
+pub front_none : (program : Play) (turns : ℕ) (hs : List Turn) (ps : List Place) → hs ≡ [] → IsFrontWithin program turns hs ps
 front_none program turns hs ps none [] last choices whole told = absurd (cc (sym none ∙ whole))
 front_none program turns hs ps none (t ∷ front) last choices whole told = absurd (cc (sym none ∙ whole))
 
-module _ (program : Program) where
+module _ (program : Play) where
   -- ---- histories
 
   pub kept_first : IsPlayedBy program [] ([] ∷ []) (first program) 0
   kept_first = record { choices = []; kept = refl; places_are = refl; legal = tt; there = refl; used_is = refl; some_steps = tt }
 
-  pub kept_reached : (hs : List Turn) (ps : List Place) (s : State Proc) (paid : ℕ) → IsPlayedBy program hs ps s paid → IsReached (step program) (first program) s
+  pub kept_reached : (hs : List Turn) (ps : List Place) (s : State program.Proc) (paid : ℕ) → IsPlayedBy program hs ps s paid → IsReached (step program) (first program) s
   kept_reached hs ps s paid kept = (kept.choices, kept.legal, kept.there)
 
-  pub kept_owned : (hs : List Turn) (ps : List Place) (s : State Proc) (paid : ℕ) → IsPlayedBy program hs ps s paid → IsOwned (language program) s
-  kept_owned hs ps s paid kept = owned_reached program s (kept_reached hs ps s paid kept)
+  pub kept_owned : IsLawfulPlay program → (hs : List Turn) (ps : List Place) (s : State program.Proc) (paid : ℕ) → IsPlayedBy program hs ps s paid → IsOwned (language program) s
+  kept_owned law hs ps s paid kept = owned_reached program law s (kept_reached hs ps s paid kept)
 
-  pub first_owned : IsOwned (language program) (first program)
-  first_owned = kept_owned [] ([] ∷ []) (first program) 0 kept_first
+  pub first_owned : IsLawfulPlay program → IsOwned (language program) (first program)
+  first_owned law = kept_owned law [] ([] ∷ []) (first program) 0 kept_first
 
-  each_costs : (s : State Proc) (p : Place) → Can (step program) s p → 1 ≤ cost (step program) s p
-  each_costs s p can = omega (arith, step_costs program s p can.0 can.1, cost-Some (step program) s p can.0 can.1)
+  each_costs : IsLawfulPlay program → (s : State program.Proc) (p : Place) → Can (step program) s p → 1 ≤ cost (step program) s p
+  each_costs law s p can = omega (arith, step_costs program law s p can.0 can.1, cost-Some (step program) s p can.0 can.1)
 
   -- a piece costs one turn at least
-  pub piece_costs : (slice : ℕ) (spare : Bool) (s t : State Proc) (p : Place) (r : Piece) → IsPiece program slice spare s p r t → 1 ≤ r.cost
-  piece_costs slice spare s t p r piece =
-      omega (arith, length-le-used (step program) each_costs s (replicate r.steps p) piece.makes.leads.legal, length-replicate r.steps p, piece.makes.leads.price_is, piece.some_steps)
+  pub piece_costs : IsLawfulPlay program → (slice : ℕ) (spare : Bool) (s t : State program.Proc) (p : Place) (r : Piece) → IsPiece program slice spare s p r t → 1 ≤ r.cost
+  piece_costs law slice spare s t p r piece =
+      omega (arith, length-le-used (step program) (each_costs law) s (replicate r.steps p) piece.makes.leads.legal, length-replicate r.steps p, piece.makes.leads.price_is, piece.some_steps)
 
-  module _ (hs : List Turn) (ps : List Place) (s : State Proc) (paid : ℕ) (kept : IsPlayedBy program hs ps s paid) where
-    pub kept_more : (number : ℕ) (p : Place) → slice_get ps number ≡ Some p → (slice : ℕ) (spare : Bool) (r : Piece) (t : State Proc) → IsPiece program slice spare s p r t
+  module _ (hs : List Turn) (ps : List Place) (s : State program.Proc) (paid : ℕ) (kept : IsPlayedBy program hs ps s paid) where
+    pub kept_more : (number : ℕ) (p : Place) → slice_get ps number ≡ Some p → (slice : ℕ) (spare : Bool) (r : Piece) (t : State program.Proc) → IsPiece program slice spare s p r t
         → (js : List Turn) → js ≡ hs ++ record { number = number; steps = r.steps } ∷ [] → (qs : List Place) → qs ≡ ps ++ child_places p r.block 1 r.started → (sum : ℕ) → sum ≡ paid + r.cost → IsPlayedBy program js qs t sum
     kept_more number p who slice spare r t piece js js_is qs qs_is sum sum_is =
         let cs = kept.choices in
@@ -90,10 +87,10 @@ module _ (program : Program) where
               ∙ choices_more hs ps (child_places p r.block 1 r.started) cs turn p kept.kept who;
           places_are =
               qs_is ∙ ap (λ zs. zs ++ child_places p r.block 1 r.started) kept.places_are
-              ∙ ap (λ zs. starts_of (language program) (first program) cs ++ zs) (sym (ap (λ (u : State Proc). starts_along (language program) u ds) there ∙ piece.makes.starts_are)) ∙ sym (starts_more (language program) (first program) cs ds);
-          legal = IsLegal-append (step program) (first program) cs ds kept.legal (subst (λ (u : State Proc). IsLegal (step program) u ds) (sym there) piece.makes.leads.legal);
+              ∙ ap (λ zs. starts_of (language program) (first program) cs ++ zs) (sym (ap (λ (u : State program.Proc). starts_along (language program) u ds) there ∙ piece.makes.starts_are)) ∙ sym (starts_more (language program) (first program) cs ds);
+          legal = IsLegal-append (step program) (first program) cs ds kept.legal (subst (λ (u : State program.Proc). IsLegal (step program) u ds) (sym there) piece.makes.leads.legal);
           there = play-append (step program) (first program) cs ds ∙ ap (λ u. play (step program) u ds) there ∙ piece.makes.leads.there;
-          used_is = omega (arith, used-append (step program) (first program) cs ds, ap (λ (u : State Proc). used (step program) u ds) there, piece.makes.leads.price_is, kept.used_is, sum_is);
+          used_is = omega (arith, used-append (step program) (first program) cs ds, ap (λ (u : State program.Proc). used (step program) u ds) there, piece.makes.leads.price_is, kept.used_is, sum_is);
           some_steps = subst HaveSteps (sym js_is) (steps_more hs turn kept.some_steps piece.some_steps);
         }
 
@@ -107,7 +104,7 @@ module _ (program : Program) where
 
   -- ---- who can step
 
-  module _ (s : State Proc) (ps : List Place) where
+  module _ (s : State program.Proc) (ps : List Place) where
     pub known : (n : ℕ) → can_at program s ps n ≡ true → n < length ps
     known n can = go (slice_get ps n) refl can
       where
@@ -142,10 +139,10 @@ module _ (program : Program) where
     who_is n can p is = sym (ap (can_in program s) is) ∙ can
 
     -- where nobody among the processes can step, nobody can
-    pub nobody_can : AreAble program s ps [] → ((p : Place) (x : Proc) → get s.procs p ≡ Some x → (n : ℕ) × (slice_get ps n ≡ Some p)) → IsFinal (step program) s
+    pub nobody_can : AreAble program s ps [] → ((p : Place) (x : program.Proc) → get s.procs p ≡ Some x → (n : ℕ) × (slice_get ps n ≡ Some p)) → IsFinal (step program) s
     nobody_can able all p = go (step program s p) refl
       where
-        go : (o : Option (State Proc × ℕ)) → step program s p ≡ o → o ≡ None
+        go : (o : Option (State program.Proc × ℕ)) → step program s p ≡ o → o ≡ None
         go None e = refl
         go (Some r) e =
             let who = steps_there program s p (get s.procs p) refl (ap is_some e) in
@@ -154,12 +151,12 @@ module _ (program : Program) where
 
   -- ---- the end
 
-  pub started_all : (hs : List Turn) (ps : List Place) (s : State Proc) (paid : ℕ) → IsPlayedBy program hs ps s paid → (p : Place) (x : Proc) → get s.procs p ≡ Some x → (n : ℕ) × (slice_get ps n ≡ Some p)
+  pub started_all : (hs : List Turn) (ps : List Place) (s : State program.Proc) (paid : ℕ) → IsPlayedBy program hs ps s paid → (p : Place) (x : program.Proc) → get s.procs p ≡ Some x → (n : ℕ) × (slice_get ps n ≡ Some p)
   started_all hs ps s paid kept p x is =
-      let at = everybody (language program) (first_proc program) kept.choices kept.legal p x (ap (λ (u : State Proc). get u.procs p) kept.there ∙ is) in
+      let at = everybody (language program) (first_proc program) kept.choices kept.legal p x (ap (λ (u : State program.Proc). get u.procs p) kept.there ∙ is) in
       (at.0, ap (λ qs. slice_get qs at.0) kept.places_are ∙ at.1)
 
-  pub run_ended : (turns : ℕ) (hs : List Turn) (ps : List Place) (s : State Proc) (able : List ℕ) (paid : ℕ) → IsPlayedBy program hs ps s paid → AreAble program s ps able → able ≡ [] → paid ≤ turns → IsFrontWithin program turns hs ps
+  pub run_ended : (turns : ℕ) (hs : List Turn) (ps : List Place) (s : State program.Proc) (able : List ℕ) (paid : ℕ) → IsPlayedBy program hs ps s paid → AreAble program s ps able → able ≡ [] → paid ≤ turns → IsFrontWithin program turns hs ps
       → (o : Outcome) → o ≡ outcome_of program paid s → (r : Run) → r.history.items ≡ hs → places_of r.paths.items ≡ ps → r.ending ≡ Ended o → IsRun program turns r
   run_ended turns hs ps s able paid k exact none within front o o_is r h p e =
       let final : IsFinal (step program) s = nobody_can s ps (subst (λ (ns : List ℕ). AreAble program s ps ns) none exact) (started_all hs ps s paid k) in
@@ -178,10 +175,10 @@ module _ (program : Program) where
       }
 
   -- main is the first one
-  pub main_first : (hs : List Turn) (ps : List Place) (s : State Proc) (paid : ℕ) → IsPlayedBy program hs ps s paid → slice_get ps 0 ≡ Some []
+  pub main_first : (hs : List Turn) (ps : List Place) (s : State program.Proc) (paid : ℕ) → IsPlayedBy program hs ps s paid → slice_get ps 0 ≡ Some []
   main_first hs ps s paid kept = ap (λ (qs : List Place). slice_get qs 0) kept.places_are
 
-  pub run_spent : (turns : ℕ) (hs : List Turn) (ps : List Place) (s : State Proc) (paid : ℕ) → IsPlayedBy program hs ps s paid → turns < paid → IsFrontWithin program turns hs ps
+  pub run_spent : (turns : ℕ) (hs : List Turn) (ps : List Place) (s : State program.Proc) (paid : ℕ) → IsPlayedBy program hs ps s paid → turns < paid → IsFrontWithin program turns hs ps
       → (r : Run) → r.history.items ≡ hs → places_of r.paths.items ≡ ps → r.ending ≡ Spent → IsRun program turns r
   run_spent turns hs ps s paid k over front r h p e = record {
     choices = k.choices;

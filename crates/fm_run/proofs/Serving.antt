@@ -16,10 +16,6 @@ use Rattle.fm_net.specs.Machine.{Place, State, Need, Nothing, Event, New, Childr
 use Rattle.fm_net.specs.Owned.{IsOwned}
 use Rattle.fm_net.specs.Starts.{starts_along}
 use Rattle.fm_net.proofs.Histories.{longer_at}
-use Rattle.fm_rules.specs.declared.program.Program.{Program}
-use Rattle.fm_mean.specs.Outcome.{ended_at, need_of}
-use Rattle.fm_mean.specs.Process.{Proc}
-use Rattle.fm_mean.specs.Steps.{language, step}
 use Rattle.fm_run.specs.Noted.{AreNoted, AreNotedBut, AreParents, IsNoted, OwnOrLeft}
 use Rattle.fm_run.specs.Orders.{Among, AreMarked, can_at, can_in, newly, others_in, ready_after}
 use Rattle.fm_run.specs.Entries.{turn_of}
@@ -29,11 +25,12 @@ use Rattle.fm_run.proofs.Playing.{kept_owned}
 use Rattle.fm_run.proofs.Numbers.{among_filter, among_is}
 use Rattle.fm_run.proofs.Queueing.{any_given, not_true, others_after, ready_is}
 use native.Mathlib.Decide.{ℕ_discrete}
+use Rattle.fm_run.specs.Plays.{IsLawfulPlay, Play, language, step, need_of, ended_at}
 
 -- ---- who is noted
 
 -- whoever is woken on the way
-pub noted_on : (program : Program) (old new : Channels) → WakesAll old new → (n : ℕ) (x : Proc) → IsNoted program old n x → IsNoted program new n x
+pub noted_on : (program : Play) (old new : Channels) → WakesAll old new → (n : ℕ) (x : program.Proc) → IsNoted program old n x → IsNoted program new n x
 noted_on program old new waking n x noted c limits need = go (noted c limits need)
   where
     kept : (waiting_reader new c ≡ Some n) ⊎ (Contains (woken_of new) n × Unit {0}) → (waiting_reader new c ≡ Some n) ⊎ Contains (woken_of new) n
@@ -48,8 +45,8 @@ the_channel : (c d : ChanName) (k l : Limits) → Some (Event c (Pop k)) ≡ Som
 the_channel c d k l e = cc e
 
 -- the woken are taken out: who was noted waits still, or is among them
-pub noted_or_taken : (program : Program) (old new : Channels) (taken : List ℕ) → ((c : ChanName) → waiting_reader new c ≡ waiting_reader old c) → ((n : ℕ) → Contains (woken_of old) n → Contains taken n)
-    → (n : ℕ) (x : Proc) → IsNoted program old n x → Contains taken n ⊎ IsNoted program new n x
+pub noted_or_taken : (program : Play) (old new : Channels) (taken : List ℕ) → ((c : ChanName) → waiting_reader new c ≡ waiting_reader old c) → ((n : ℕ) → Contains (woken_of old) n → Contains taken n)
+    → (n : ℕ) (x : program.Proc) → IsNoted program old n x → Contains taken n ⊎ IsNoted program new n x
 noted_or_taken program old new taken readers out n x noted = go (need_of program x) refl
   where
     none : (o : Option Need) → need_of program x ≡ o → ((c : ChanName) (limits : Limits) → o ≡ Some (Event c (Pop limits)) → ⊥) → IsNoted program new n x
@@ -68,10 +65,10 @@ noted_or_taken program old new taken readers out n x noted = go (need_of program
     go (Some (New k w)) e = inr (none (Some (New k w)) e (λ c l f. cc f))
     go (Some (Children b k)) e = inr (none (Some (Children b k)) e (λ c l f. cc f))
 
-module _ (program : Program) (s : State Proc) (places : List Place) (own : ℕ) (candidates : List ℕ) where
+module _ (program : Play) (s : State program.Proc) (places : List Place) (own : ℕ) (candidates : List ℕ) where
   -- one candidate more is settled
   pub noted_more : (i : ℕ) → i < length candidates → (old new : Channels) → WakesAll old new → AreNotedBut program s old places (OwnOrLeft own candidates i)
-      → ((d : ℕ) → slice_index_or candidates i d ≢ own → (q : Place) (x : Proc) → slice_get places (slice_index_or candidates i d) ≡ Some q → get s.procs q ≡ Some x → is_some (step program s q) ≡ false → IsNoted program new (slice_index_or candidates i d) x)
+      → ((d : ℕ) → slice_index_or candidates i d ≢ own → (q : Place) (x : program.Proc) → slice_get places (slice_index_or candidates i d) ≡ Some q → get s.procs q ≡ Some x → is_some (step program s q) ≡ false → IsNoted program new (slice_index_or candidates i d) x)
       → AreNotedBut program s new places (OwnOrLeft own candidates (i + 1))
   noted_more i low old new waking before this n q x at is unable = go (before n q x at is unable)
     where
@@ -94,7 +91,7 @@ module _ (program : Program) (s : State Proc) (places : List Place) (own : ℕ) 
 
   -- all candidates and the one that made the piece are settled
   pub noted_all : (old new : Channels) → WakesAll old new → AreNotedBut program s old places (OwnOrLeft own candidates (length candidates))
-      → ((q : Place) (x : Proc) → slice_get places own ≡ Some q → get s.procs q ≡ Some x → is_some (step program s q) ≡ false → IsNoted program new own x) → AreNoted program s new places
+      → ((q : Place) (x : program.Proc) → slice_get places own ≡ Some q → get s.procs q ≡ Some x → is_some (step program s q) ≡ false → IsNoted program new own x) → AreNoted program s new places
   noted_all old new waking before this n q x at is unable = inr (go (before n q x at is unable))
     where
       here : n ≡ own → IsNoted program new n x
@@ -106,20 +103,20 @@ module _ (program : Program) (s : State Proc) (places : List Place) (own : ℕ) 
       go (inl (inr k)) = absurd (omega (arith, k.1, k.2))
 
 -- behind the last place nobody can step
-pub beyond : (program : Program) (s : State Proc) (places : List Place) (n : ℕ) → length places ≤ n → can_at program s places n ≡ false
+pub beyond : (program : Play) (s : State program.Proc) (places : List Place) (n : ℕ) → length places ≤ n → can_at program s places n ≡ false
 beyond program s places n high = go (slice_get places n) refl
   where
     go : (o : Option Place) → slice_get places n ≡ o → can_in program s o ≡ false
     go None e = refl
     go (Some p) e = absurd (omega (arith, high, slice_get_within places n p e))
 
-module _ (program : Program) (s : State Proc) (places : List Place) (own : ℕ) (candidates : List ℕ) (i : ℕ) (low : i < length candidates) (queue : List ℕ) (marks : List Bool) (marked : AreMarked (length places) marks queue)
+module _ (program : Play) (s : State program.Proc) (places : List Place) (own : ℕ) (candidates : List ℕ) (i : ℕ) (low : i < length candidates) (queue : List ℕ) (marks : List Bool) (marked : AreMarked (length places) marks queue)
     (able : (n : ℕ) → n ≢ own → Among n queue → can_at program s places n ≡ true) (new : Channels) where
   -- who was asked is noted where it can't step
-  pub ask_noted : ((slice_index_or candidates i 0 ≢ own) → slice_index_or marks (slice_index_or candidates i 0) false ≡ false → (q : Place) (x : Proc) → slice_get places (slice_index_or candidates i 0) ≡ Some q → get s.procs q ≡ Some x
+  pub ask_noted : ((slice_index_or candidates i 0 ≢ own) → slice_index_or marks (slice_index_or candidates i 0) false ≡ false → (q : Place) (x : program.Proc) → slice_get places (slice_index_or candidates i 0) ≡ Some q → get s.procs q ≡ Some x
       → is_some (step program s q) ≡ false → IsNoted program new (slice_index_or candidates i 0) x)
-      → (d : ℕ) → slice_index_or candidates i d ≢ own → (q : Place) (x : Proc) → slice_get places (slice_index_or candidates i d) ≡ Some q → get s.procs q ≡ Some x → is_some (step program s q) ≡ false → IsNoted program new (slice_index_or candidates i d) x
-  ask_noted asked d = subst (λ (c : ℕ). (c ≢ own) → (q : Place) (x : Proc) → slice_get places c ≡ Some q → get s.procs q ≡ Some x → is_some (step program s q) ≡ false → IsNoted program new c x) (any_given candidates i 0 d low) here
+      → (d : ℕ) → slice_index_or candidates i d ≢ own → (q : Place) (x : program.Proc) → slice_get places (slice_index_or candidates i d) ≡ Some q → get s.procs q ≡ Some x → is_some (step program s q) ≡ false → IsNoted program new (slice_index_or candidates i d) x
+  ask_noted asked d = subst (λ (c : ℕ). (c ≢ own) → (q : Place) (x : program.Proc) → slice_get places c ≡ Some q → get s.procs q ≡ Some x → is_some (step program s q) ≡ false → IsNoted program new c x) (any_given candidates i 0 d low) here
     where
       c : ℕ
       c = slice_index_or candidates i 0
@@ -128,12 +125,12 @@ module _ (program : Program) (s : State Proc) (places : List Place) (own : ℕ) 
       unmarked differs q at unable = not_true (slice_index_or marks c false) (λ e.
           cc (sym unable ∙ sym (ap (can_in program s) at) ∙ able c differs (among_is queue c (sym (marked.marked c (slice_get_within places c q at)) ∙ e))))
 
-      here : (c ≢ own) → (q : Place) (x : Proc) → slice_get places c ≡ Some q → get s.procs q ≡ Some x → is_some (step program s q) ≡ false → IsNoted program new c x
+      here : (c ≢ own) → (q : Place) (x : program.Proc) → slice_get places c ≡ Some q → get s.procs q ≡ Some x → is_some (step program s q) ≡ false → IsNoted program new c x
       here differs q x at is unable = asked differs (unmarked differs q at unable) q x at is unable
 
 -- ---- a piece
 
-module _ (program : Program) (number steps : ℕ) (s t : State Proc) (places later_places : List Place) (hs later_hs : List Turn) (paid : ℕ) (kept : IsPlayedBy program hs places s paid)
+module _ (program : Play) (law : IsLawfulPlay program) (number steps : ℕ) (s t : State program.Proc) (places later_places : List Place) (hs later_hs : List Turn) (paid : ℕ) (kept : IsPlayedBy program hs places s paid)
     (entry : IsEntry program (turn_of number steps) s places hs t later_places later_hs) (able : List ℕ) (exact : AreAble program s places able) (among : Among number able)
     (old new : Channels) (of_old : chans_of old ≡ s.chans) (of_new : chans_of new ≡ t.chans) (waking : WakesAll old new) (noted : AreNoted program s old places) where
   there_at : (o : Option Place) → slice_get places number ≡ o → can_in program s o ≡ true → (p : Place) × (slice_get places number ≡ Some p)
@@ -156,7 +153,7 @@ module _ (program : Program) (number steps : ℕ) (s t : State Proc) (places lat
   played_to = ap (λ (p : Place). play (step program) s (replicate steps p)) (sym placed) ∙ sym entry.state_is
 
   owned : IsOwned (language program) s
-  owned = kept_owned program hs places s paid kept
+  owned = kept_owned program law hs places s paid kept
 
   abbrev more : List Place
   more = starts_along (language program) s (steps_of places (turn_of number steps))
@@ -170,21 +167,21 @@ module _ (program : Program) (number steps : ℕ) (s t : State Proc) (places lat
 
   module _ (later_paid : ℕ) (later_kept : IsPlayedBy program later_hs later_places t later_paid) (parents : List ℕ) (started : AreParents later_places parents) (candidates : List ℕ)
       (woken_in : (n : ℕ) → Contains (woken_of new) n → Contains candidates n)
-      (parent_in : (q : Place) (n : ℕ) → slice_get places number ≡ Some q → ended_at (get t.procs q) ≡ true → slice_get parents number ≡ Some n → can_at program t later_places n ≡ true → Contains candidates n)
+      (parent_in : (q : Place) (n : ℕ) → slice_get places number ≡ Some q → (ended_at program) (get t.procs q) ≡ true → slice_get parents number ≡ Some n → can_at program t later_places n ≡ true → Contains candidates n)
       (new_in : (n : ℕ) → length places ≤ n → n < length later_places → Contains candidates n) where
     -- who became able is among the candidates
     pub candidates_whole : (n : ℕ) → newly (can_at program t later_places) number able n ≡ true → Contains candidates n
     candidates_whole =
         subst (λ (ps : List Place). (n : ℕ) → newly (can_at program t ps) number able n ≡ true → Contains candidates n) (sym entry.places_are)
-        (all_candidates program s t places number own_place own_at.1 steps owned legal played_to old new of_old of_new waking (one_number program hs places s paid kept) (all_there program hs places s paid kept) noted
+        (all_candidates program law s t places number own_place own_at.1 steps owned legal played_to old new of_old of_new waking (one_number program hs places s paid kept law) (all_there program hs places s paid kept) noted
         more parents (subst (λ (ps : List Place). AreParents ps parents) entry.places_are started)
-        (λ n m q e f. one_number program later_hs later_places t later_paid later_kept n m q (ap (λ (ps : List Place). slice_get ps n) entry.places_are ∙ e) (ap (λ (ps : List Place). slice_get ps m) entry.places_are ∙ f))
+        (λ n m q e f. one_number program later_hs later_places t later_paid later_kept law n m q (ap (λ (ps : List Place). slice_get ps n) entry.places_are ∙ e) (ap (λ (ps : List Place). slice_get ps m) entry.places_are ∙ f))
         able exact candidates woken_in
         (λ ended n is can. parent_in own_place n own_at.1 ended is (ap (λ (ps : List Place). can_at program t ps n) entry.places_are ∙ can)) (λ n low high. new_in n low (subst (λ (ps : List Place). n < length ps) (sym entry.places_are) high)))
 
     -- the others are noted, once the woken are taken out
     pub noted_taken : (taken : Channels) → ((c : ChanName) → waiting_reader taken c ≡ waiting_reader new c) → AreNotedBut program t taken later_places (OwnOrLeft number candidates 0)
-    noted_taken taken readers n q x at is unable = go (noted_after program s t places number own_place own_at.1 steps owned legal played_to old new of_old of_new waking (one_number program hs places s paid kept) (all_there program hs places s paid kept) noted
+    noted_taken taken readers n q x at is unable = go (noted_after program law s t places number own_place own_at.1 steps owned legal played_to old new of_old of_new waking (one_number program hs places s paid kept law) (all_there program hs places s paid kept) noted
         more n q x (ap (λ ps. slice_get ps n) (sym entry.places_are) ∙ at) is unable)
       where
         listed : Contains candidates n → OwnOrLeft number candidates 0 n
@@ -202,7 +199,7 @@ module _ (program : Program) (number steps : ℕ) (s t : State Proc) (places lat
   pub others_ready : (n : ℕ) → Among n (others_in number able) → can_at program t later_places n ≡ true
   others_ready =
       subst (λ (ps : List Place). (n : ℕ) → Among n (others_in number able) → can_at program t ps n ≡ true) (sym entry.places_are)
-      (others_can program s t places number own_place own_at.1 steps owned legal played_to old new of_old of_new waking (one_number program hs places s paid kept) (all_there program hs places s paid kept) noted able exact more)
+      (others_can program law s t places number own_place own_at.1 steps owned legal played_to old new of_old of_new waking (one_number program hs places s paid kept law) (all_there program hs places s paid kept) noted able exact more)
 
   -- so the others in the queue can step
   pub queue_ready : (n : ℕ) → n ≢ number → Among n able → can_at program t later_places n ≡ true

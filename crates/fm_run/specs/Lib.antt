@@ -1,7 +1,10 @@
+pub mod Plays
 pub mod Pieces
 pub mod Awaited
+pub mod Waiting
 pub mod Entries
 pub mod Orders
 pub mod Noted
 pub mod Runs
+pub mod Programs
 pub mod Gathered

@@ -7,26 +7,23 @@ use Rattle.fm_base.specs.Channels.{Limits, Pop}
 use Rattle.fm_chan.specs.declared.channels.Channels.{Channels}
 use Rattle.fm_chan.specs.Woken.{waiting_reader, woken_of}
 use Rattle.fm_net.specs.Machine.{Place, State, Event, child}
-use Rattle.fm_rules.specs.declared.program.Program.{Program}
-use Rattle.fm_mean.specs.Outcome.{need_of}
-use Rattle.fm_mean.specs.Process.{Proc}
-use Rattle.fm_mean.specs.Steps.{step}
+use Rattle.fm_run.specs.Plays.{Play, step, need_of}
 
 -- a process of this number that needs a message of a channel is noted there, or was woken
-abbrev pub IsNoted : Program → Channels → (number : ℕ) → Proc → Type 0
+abbrev pub IsNoted : (program : Play) → Channels → (number : ℕ) → program.Proc → Type 0
 IsNoted program channels number x = (c : ChanName) (limits : Limits) → need_of program x ≡ Some (Event c (Pop limits))
     → (waiting_reader channels c ≡ Some number) ⊎ Contains (woken_of channels) number
 
 -- so is each that can't step, but these
-abbrev pub AreNotedBut : Program → State Proc → Channels → List Place → (but : ℕ → Type 0) → Type 0
-AreNotedBut program s channels places but = (n : ℕ) (q : Place) (x : Proc) → slice_get places n ≡ Some q → get s.procs q ≡ Some x → is_some (step program s q) ≡ false
+abbrev pub AreNotedBut : (program : Play) → State program.Proc → Channels → List Place → (but : ℕ → Type 0) → Type 0
+AreNotedBut program s channels places but = (n : ℕ) (q : Place) (x : program.Proc) → slice_get places n ≡ Some q → get s.procs q ≡ Some x → is_some (step program s q) ≡ false
     → but n ⊎ IsNoted program channels n x
 
 -- the one that made the piece, or one of the list from the i-th on
 abbrev pub OwnOrLeft : (own : ℕ) → (numbers : List ℕ) → (i : ℕ) → ℕ → Type 0
 OwnOrLeft own numbers i n = (n ≡ own) ⊎ ((j : ℕ) × (i ≤ j) × (j < length numbers) × (slice_index_or numbers j n ≡ n))
 
-abbrev pub AreNoted : Program → State Proc → Channels → List Place → Type 0
+abbrev pub AreNoted : (program : Play) → State program.Proc → Channels → List Place → Type 0
 AreNoted program s channels places = AreNotedBut program s channels places (λ n. ⊥)
 
 -- the numbers of those that started the processes

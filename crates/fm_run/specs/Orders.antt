@@ -9,9 +9,7 @@ use Rattle.std.specs.declared.sync.Arc.{Arc}
 use Rattle.fm_base.specs.declared.path.Path.{Path}
 use Rattle.fm_net.specs.Machine.{Place, State}
 use Rattle.fm_net_procs.specs.Waiting as waiting
-use Rattle.fm_rules.specs.declared.program.Program.{Program}
-use Rattle.fm_mean.specs.Process.{Proc}
-use Rattle.fm_mean.specs.Steps.{language}
+use Rattle.fm_run.specs.Plays.{Play, language}
 
 -- x is in the list
 abbrev pub Among : {X : Type 0} → X → List X → Type 0
@@ -25,11 +23,11 @@ place_in a = arc_value a
 abbrev pub places_of : List (Arc Path Global) → List Place
 places_of = map place_in
 
-abbrev pub can_in : Program → State Proc → Option Place → Bool
+abbrev pub can_in : (program : Play) → State program.Proc → Option Place → Bool
 can_in program s o = waiting.can_in (language program) s o
 
 -- whether the process at this place of the order can step
-abbrev pub can_at : Program → State Proc → List Place → ℕ → Bool
+abbrev pub can_at : (program : Play) → State program.Proc → List Place → ℕ → Bool
 can_at program s places n = waiting.can_at (language program) s places n
 
 -- ---- who is chosen
@@ -73,11 +71,11 @@ in_turn own old count = others_in own old ++ (filter (is_new own old) (range_wit
 -- those that can step after a piece of this process, where the list was of those that could before it:
 -- those that can still keep their order; then those that have become able, in the order of starting; and
 -- behind them the process itself, where it can
-abbrev pub ready_after : Program → State Proc → (places : List Place) → (old : List ℕ) → (own : ℕ) → List ℕ
+abbrev pub ready_after : (program : Play) → State program.Proc → (places : List Place) → (old : List ℕ) → (own : ℕ) → List ℕ
 ready_after program s places old own = filter (can_at program s places) (in_turn own old (length places))
 
 -- main, if it can step
-abbrev pub ready_first : Program → State Proc → (places : List Place) → List ℕ
+abbrev pub ready_first : (program : Play) → State program.Proc → (places : List Place) → List ℕ
 ready_first program s places = filter (can_at program s places) (0 ∷ [])
 
 -- no number is in the list twice

@@ -15,7 +15,6 @@ use crate::orders::{Queue, chosen};
 use crate::outside::OutsideNet;
 use fm_base::NoMemory;
 use fm_net_procs::Piece;
-use fm_rules::Program;
 use std::alloc::Global;
 use std::mem::replace;
 
@@ -77,12 +76,12 @@ fn both(used: u64, cost: u64) -> Result<u64, NoMemory>
 
 impl<N: Net> Player<N> {
     /// A run before its first piece.
-    pub fn new(alloc: Global, program: &Program) -> Result<Player<N>, NoMemory>
+    pub fn new(alloc: Global, program: &N::Source) -> Result<Player<N>, NoMemory>
         ensures sound { IfOk result (λ player. N.IsSound program.now player.net) }
-        ensures played { IfOk result (λ player. IsPlayed program.now (stand_at (N.state program.now player.net) (N.order player.net) player.able.numbers.items) (N.channels player.net) (N.history player.net) player.parents.items player.able.marks.items player.used) }
+        ensures played { IfOk result (λ player. IsPlayed (N.play program.now) (stand_at (N.state program.now player.net) (N.order player.net) player.able.numbers.items) (N.channels player.net) (N.history player.net) player.parents.items player.able.marks.items player.used) }
         ensures used { IfOk result (λ player. player.used ≡ 0) }
         ensures history { IfOk result (λ player. N.history player.net ≡ []) }
-        ensures stand { IfOk result (λ player. stand_at (N.state program.now player.net) (N.order player.net) player.able.numbers.items ≡ first_stand program.now) }
+        ensures stand { IfOk result (λ player. stand_at (N.state program.now player.net) (N.order player.net) player.able.numbers.items ≡ first_stand (N.play program.now)) }
     {
         let mut net = N::first(alloc, program)?;
         let parents = vec![in alloc; 0]?;
@@ -147,24 +146,24 @@ impl<N: Net> Player<N> {
     fn keep_piece(
         &mut self,
         alloc: Global,
-        program: &Program,
+        program: &N::Source,
         number: u32,
         slice: u32,
         kind: Kind,
     ) -> Result<u32, NoMemory>
         requires some { 1 ≤ slice }
         requires sound { N.IsSound program.now self.old.net }
-        requires kept { IsPlayedBy program.now (N.history self.old.net) (N.order self.old.net) (N.state program.now self.old.net) self.old.used }
-        requires able { can_at program.now (N.state program.now self.old.net) (N.order self.old.net) number ≡ true }
+        requires kept { IsPlayedBy (N.play program.now) (N.history self.old.net) (N.order self.old.net) (N.state program.now self.old.net) self.old.used }
+        requires able { can_at (N.play program.now) (N.state program.now self.old.net) (N.order self.old.net) number ≡ true }
         requires within { (n : ℕ) → Among n self.old.able.numbers.items → n < length (N.order self.old.net) }
         requires numbered { AreNumbered (N.order self.old.net) self.old.parents.items self.old.able.marks.items self.old.able.numbers.items }
         requires joins { kind.joins ≡ true → EndsWith (N.history self.old.net) number }
         ensures sound { OnOk result (N.IsSound program.now self.new.net) }
-        ensures kept { OnOk result (IsPlayedBy program.now (N.history self.new.net) (N.order self.new.net) (N.state program.now self.new.net) self.new.used) }
+        ensures kept { OnOk result (IsPlayedBy (N.play program.now) (N.history self.new.net) (N.order self.new.net) (N.state program.now self.new.net) self.new.used) }
         ensures used { OnOk result (self.old.used < self.new.used) }
         ensures history { IfOk result (λ steps. N.history self.new.net ≡ with_piece kind.joins (N.history self.old.net) number steps) }
-        ensures made { IfOk result (λ steps. AreMade program.now number steps (N.state program.now self.old.net) (N.order self.old.net) (N.state program.now self.new.net) (N.order self.new.net)) }
-        ensures full { IfOk result (λ steps. IsFull program.now slice kind.spare (N.state program.now self.old.net) (slice_index_or (N.order self.old.net) number []) steps) }
+        ensures made { IfOk result (λ steps. AreMade (N.play program.now) number steps (N.state program.now self.old.net) (N.order self.old.net) (N.state program.now self.new.net) (N.order self.new.net)) }
+        ensures full { IfOk result (λ steps. IsFull (N.play program.now) slice kind.spare (N.state program.now self.old.net) (slice_index_or (N.order self.old.net) number []) steps) }
         ensures some_steps { IfOk result (λ steps. 1 ≤ steps) }
         ensures able { self.new.able.numbers.items ≡ self.old.able.numbers.items }
         ensures numbered { OnOk result (AreNumbered (N.order self.new.net) self.new.parents.items self.new.able.marks.items self.new.able.numbers.items) }
@@ -180,23 +179,23 @@ impl<N: Net> Player<N> {
     fn keep_steps(
         &mut self,
         alloc: Global,
-        program: &Program,
+        program: &N::Source,
         number: u32,
         steps: u32,
     ) -> Result<u32, NoMemory>
         requires some { 1 ≤ steps }
         requires sound { N.IsSound program.now self.old.net }
-        requires kept { IsPlayedBy program.now (N.history self.old.net) (N.order self.old.net) (N.state program.now self.old.net) self.old.used }
-        requires able { can_at program.now (N.state program.now self.old.net) (N.order self.old.net) number ≡ true }
+        requires kept { IsPlayedBy (N.play program.now) (N.history self.old.net) (N.order self.old.net) (N.state program.now self.old.net) self.old.used }
+        requires able { can_at (N.play program.now) (N.state program.now self.old.net) (N.order self.old.net) number ≡ true }
         requires within { (n : ℕ) → Among n self.old.able.numbers.items → n < length (N.order self.old.net) }
         requires numbered { AreNumbered (N.order self.old.net) self.old.parents.items self.old.able.marks.items self.old.able.numbers.items }
         ensures sound { OnOk result (N.IsSound program.now self.new.net) }
-        ensures kept { OnOk result (IsPlayedBy program.now (N.history self.new.net) (N.order self.new.net) (N.state program.now self.new.net) self.new.used) }
+        ensures kept { OnOk result (IsPlayedBy (N.play program.now) (N.history self.new.net) (N.order self.new.net) (N.state program.now self.new.net) self.new.used) }
         ensures used { OnOk result (self.old.used < self.new.used) }
-        ensures entry { IfOk result (λ done. IsEntry program.now (turn_of number done) (N.state program.now self.old.net) (N.order self.old.net) (N.history self.old.net) (N.state program.now self.new.net) (N.order self.new.net) (N.history self.new.net)) }
+        ensures entry { IfOk result (λ done. IsEntry (N.play program.now) (turn_of number done) (N.state program.now self.old.net) (N.order self.old.net) (N.history self.old.net) (N.state program.now self.new.net) (N.order self.new.net) (N.history self.new.net)) }
         ensures some_steps { IfOk result (λ done. 1 ≤ done) }
         ensures few { IfOk result (λ done. done ≤ steps) }
-        ensures stops { IfOk result (λ done. done < steps → can_at program.now (N.state program.now self.new.net) (N.order self.new.net) number ≡ false) }
+        ensures stops { IfOk result (λ done. done < steps → can_at (N.play program.now) (N.state program.now self.new.net) (N.order self.new.net) number ≡ false) }
         ensures able { self.new.able.numbers.items ≡ self.old.able.numbers.items }
         ensures numbered { OnOk result (AreNumbered (N.order self.new.net) self.new.parents.items self.new.able.marks.items self.new.able.numbers.items) }
         ensures waking { OnOk result (WakesAll (N.channels self.old.net) (N.channels self.new.net)) }
@@ -218,19 +217,19 @@ impl<N: Net> Player<N> {
     fn serve(
         &mut self,
         alloc: Global,
-        program: &Program,
+        program: &N::Source,
         number: u32,
         before: usize,
     ) -> Result<(), NoMemory>
         requires sound { N.IsSound program.now self.old.net }
-        requires moved { IsMoved program.now number before (N.state program.now self.old.net) (N.order self.old.net) (N.channels self.old.net) (N.history self.old.net) self.old.parents.items self.old.able.marks.items self.old.able.numbers.items self.old.used }
+        requires moved { IsMoved (N.play program.now) number before (N.state program.now self.old.net) (N.order self.old.net) (N.channels self.old.net) (N.history self.old.net) self.old.parents.items self.old.able.marks.items self.old.able.numbers.items self.old.used }
         ensures sound { OnOk result (N.IsSound program.now self.new.net) }
-        ensures played { OnOk result (IsPlayed program.now (stand_at (N.state program.now self.new.net) (N.order self.new.net) self.new.able.numbers.items) (N.channels self.new.net) (N.history self.new.net) self.new.parents.items self.new.able.marks.items self.new.used) }
+        ensures played { OnOk result (IsPlayed (N.play program.now) (stand_at (N.state program.now self.new.net) (N.order self.new.net) self.new.able.numbers.items) (N.channels self.new.net) (N.history self.new.net) self.new.parents.items self.new.able.marks.items self.new.used) }
         ensures used { self.new.used ≡ self.old.used }
         ensures state { OnOk result (N.state program.now self.new.net ≡ N.state program.now self.old.net) }
         ensures order { OnOk result (N.order self.new.net ≡ N.order self.old.net) }
         ensures history { N.history self.new.net ≡ N.history self.old.net }
-        ensures able { OnOk result (self.new.able.numbers.items ≡ ready_after program.now (N.state program.now self.old.net) (N.order self.old.net) self.old.able.numbers.items number) }
+        ensures able { OnOk result (self.new.able.numbers.items ≡ ready_after (N.play program.now) (N.state program.now self.old.net) (N.order self.old.net) self.old.able.numbers.items number) }
         ensures front { OnErr result (KeepsFront self.old.able.numbers.items self.new.able.numbers.items) }
     {
         let spare = replace(&mut self.spare, Vec::new(alloc));
@@ -261,24 +260,24 @@ impl<N: Net> Player<N> {
     pub fn play(
         &mut self,
         alloc: Global,
-        program: &Program,
+        program: &N::Source,
         number: u32,
         slice: u32,
     ) -> Result<u32, NoMemory>
         requires some { 1 ≤ slice }
         requires sound { N.IsSound program.now self.old.net }
-        requires played { IsPlayed program.now (stand_at (N.state program.now self.old.net) (N.order self.old.net) self.old.able.numbers.items) (N.channels self.old.net) (N.history self.old.net) self.old.parents.items self.old.able.marks.items self.old.used }
+        requires played { IsPlayed (N.play program.now) (stand_at (N.state program.now self.old.net) (N.order self.old.net) self.old.able.numbers.items) (N.channels self.old.net) (N.history self.old.net) self.old.parents.items self.old.able.marks.items self.old.used }
         requires able { Among number self.old.able.numbers.items }
         ensures sound { OnOk result (N.IsSound program.now self.new.net) }
-        ensures played { OnOk result (IsPlayed program.now (stand_at (N.state program.now self.new.net) (N.order self.new.net) self.new.able.numbers.items) (N.channels self.new.net) (N.history self.new.net) self.new.parents.items self.new.able.marks.items self.new.used) }
+        ensures played { OnOk result (IsPlayed (N.play program.now) (stand_at (N.state program.now self.new.net) (N.order self.new.net) self.new.able.numbers.items) (N.channels self.new.net) (N.history self.new.net) self.new.parents.items self.new.able.marks.items self.new.used) }
         ensures used { OnOk result (self.old.used < self.new.used) }
-        ensures front { OnOk result ((turns : ℕ) → self.old.used ≤ turns → IsFrontWithin program.now turns (N.history self.new.net) (N.order self.new.net)) }
-        ensures entry { IfOk result (λ steps. IsEntry program.now (turn_of number steps) (N.state program.now self.old.net) (N.order self.old.net) (N.history self.old.net) (N.state program.now self.new.net) (N.order self.new.net) (N.history self.new.net)) }
-        ensures full { IfOk result (λ steps. IsFull program.now slice true (N.state program.now self.old.net) (slice_index_or (N.order self.old.net) number []) steps) }
+        ensures front { OnOk result ((turns : ℕ) → self.old.used ≤ turns → IsFrontWithin (N.play program.now) turns (N.history self.new.net) (N.order self.new.net)) }
+        ensures entry { IfOk result (λ steps. IsEntry (N.play program.now) (turn_of number steps) (N.state program.now self.old.net) (N.order self.old.net) (N.history self.old.net) (N.state program.now self.new.net) (N.order self.new.net) (N.history self.new.net)) }
+        ensures full { IfOk result (λ steps. IsFull (N.play program.now) slice true (N.state program.now self.old.net) (slice_index_or (N.order self.old.net) number []) steps) }
         ensures some_steps { IfOk result (λ steps. 1 ≤ steps) }
         ensures stays { OnErr result (MayHaveEntry (N.history self.old.net) (N.history self.new.net)) }
         ensures queue { OnErr result (KeepsFront self.old.able.numbers.items self.new.able.numbers.items) }
-        ensures able { OnOk result (self.new.able.numbers.items ≡ ready_after program.now (N.state program.now self.new.net) (N.order self.new.net) self.old.able.numbers.items number) }
+        ensures able { OnOk result (self.new.able.numbers.items ≡ ready_after (N.play program.now) (N.state program.now self.new.net) (N.order self.new.net) self.old.able.numbers.items number) }
     {
         let before = self.net.count();
         let steps = self.keep_piece(alloc, program, number, slice, WHOLE)?;
@@ -293,25 +292,25 @@ impl<N: Net> Player<N> {
     pub fn play_steps(
         &mut self,
         alloc: Global,
-        program: &Program,
+        program: &N::Source,
         number: u32,
         steps: u32,
     ) -> Result<u32, NoMemory>
         requires some { 1 ≤ steps }
         requires sound { N.IsSound program.now self.old.net }
-        requires played { IsPlayed program.now (stand_at (N.state program.now self.old.net) (N.order self.old.net) self.old.able.numbers.items) (N.channels self.old.net) (N.history self.old.net) self.old.parents.items self.old.able.marks.items self.old.used }
+        requires played { IsPlayed (N.play program.now) (stand_at (N.state program.now self.old.net) (N.order self.old.net) self.old.able.numbers.items) (N.channels self.old.net) (N.history self.old.net) self.old.parents.items self.old.able.marks.items self.old.used }
         requires able { Among number self.old.able.numbers.items }
         ensures sound { OnOk result (N.IsSound program.now self.new.net) }
-        ensures played { OnOk result (IsPlayed program.now (stand_at (N.state program.now self.new.net) (N.order self.new.net) self.new.able.numbers.items) (N.channels self.new.net) (N.history self.new.net) self.new.parents.items self.new.able.marks.items self.new.used) }
+        ensures played { OnOk result (IsPlayed (N.play program.now) (stand_at (N.state program.now self.new.net) (N.order self.new.net) self.new.able.numbers.items) (N.channels self.new.net) (N.history self.new.net) self.new.parents.items self.new.able.marks.items self.new.used) }
         ensures used { OnOk result (self.old.used < self.new.used) }
-        ensures front { OnOk result ((turns : ℕ) → self.old.used ≤ turns → IsFrontWithin program.now turns (N.history self.new.net) (N.order self.new.net)) }
-        ensures entry { IfOk result (λ done. IsEntry program.now (turn_of number done) (N.state program.now self.old.net) (N.order self.old.net) (N.history self.old.net) (N.state program.now self.new.net) (N.order self.new.net) (N.history self.new.net)) }
+        ensures front { OnOk result ((turns : ℕ) → self.old.used ≤ turns → IsFrontWithin (N.play program.now) turns (N.history self.new.net) (N.order self.new.net)) }
+        ensures entry { IfOk result (λ done. IsEntry (N.play program.now) (turn_of number done) (N.state program.now self.old.net) (N.order self.old.net) (N.history self.old.net) (N.state program.now self.new.net) (N.order self.new.net) (N.history self.new.net)) }
         ensures some_steps { IfOk result (λ done. 1 ≤ done) }
         ensures few { IfOk result (λ done. done ≤ steps) }
-        ensures stops { IfOk result (λ done. done < steps → can_at program.now (N.state program.now self.new.net) (N.order self.new.net) number ≡ false) }
+        ensures stops { IfOk result (λ done. done < steps → can_at (N.play program.now) (N.state program.now self.new.net) (N.order self.new.net) number ≡ false) }
         ensures stays { OnErr result (MayHaveEntry (N.history self.old.net) (N.history self.new.net)) }
         ensures queue { OnErr result (KeepsFront self.old.able.numbers.items self.new.able.numbers.items) }
-        ensures able { OnOk result (self.new.able.numbers.items ≡ ready_after program.now (N.state program.now self.new.net) (N.order self.new.net) self.old.able.numbers.items number) }
+        ensures able { OnOk result (self.new.able.numbers.items ≡ ready_after (N.play program.now) (N.state program.now self.new.net) (N.order self.new.net) self.old.able.numbers.items number) }
     {
         let before = self.net.count();
         let done = self.keep_steps(alloc, program, number, steps)?;
@@ -325,22 +324,22 @@ impl<N: OutsideNet> Player<N> {
     fn keep_given(
         &mut self,
         alloc: Global,
-        program: &Program,
+        program: &N::Source,
         number: u32,
         done: &N::Done,
     ) -> Result<u32, NoMemory>
         requires sound { N.IsSound program.now self.old.net }
-        requires kept { IsPlayedBy program.now (N.history self.old.net) (N.order self.old.net) (N.state program.now self.old.net) self.old.used }
-        requires able { can_at program.now (N.state program.now self.old.net) (N.order self.old.net) number ≡ true }
+        requires kept { IsPlayedBy (N.play program.now) (N.history self.old.net) (N.order self.old.net) (N.state program.now self.old.net) self.old.used }
+        requires able { can_at (N.play program.now) (N.state program.now self.old.net) (N.order self.old.net) number ≡ true }
         requires within { (n : ℕ) → Among n self.old.able.numbers.items → n < length (N.order self.old.net) }
         requires numbered { AreNumbered (N.order self.old.net) self.old.parents.items self.old.able.marks.items self.old.able.numbers.items }
         requires own { N.is_own self.old.net number done.now }
         ensures sound { OnOk result (N.IsSound program.now self.new.net) }
-        ensures kept { OnOk result (IsPlayedBy program.now (N.history self.new.net) (N.order self.new.net) (N.state program.now self.new.net) self.new.used) }
+        ensures kept { OnOk result (IsPlayedBy (N.play program.now) (N.history self.new.net) (N.order self.new.net) (N.state program.now self.new.net) self.new.used) }
         ensures used { OnOk result (self.old.used < self.new.used) }
         ensures history { IfOk result (λ steps. N.history self.new.net ≡ with_piece false (N.history self.old.net) number steps) }
-        ensures made { IfOk result (λ steps. AreMade program.now number steps (N.state program.now self.old.net) (N.order self.old.net) (N.state program.now self.new.net) (N.order self.new.net)) }
-        ensures full { IfOk result (λ steps. IsFull program.now (N.steps_of done.now) true (N.state program.now self.old.net) (slice_index_or (N.order self.old.net) number []) steps) }
+        ensures made { IfOk result (λ steps. AreMade (N.play program.now) number steps (N.state program.now self.old.net) (N.order self.old.net) (N.state program.now self.new.net) (N.order self.new.net)) }
+        ensures full { IfOk result (λ steps. IsFull (N.play program.now) (N.steps_of done.now) true (N.state program.now self.old.net) (slice_index_or (N.order self.old.net) number []) steps) }
         ensures some_steps { IfOk result (λ steps. 1 ≤ steps) }
         ensures steps { IfOk result (λ steps. (steps ≡ N.steps_of done.now) ⊎ (steps ≡ N.steps_of done.now + 1)) }
         ensures able { self.new.able.numbers.items ≡ self.old.able.numbers.items }
@@ -361,25 +360,25 @@ impl<N: OutsideNet> Player<N> {
     pub fn give(
         &mut self,
         alloc: Global,
-        program: &Program,
+        program: &N::Source,
         number: u32,
         done: &N::Done,
     ) -> Result<u32, NoMemory>
         requires sound { N.IsSound program.now self.old.net }
-        requires played { IsPlayed program.now (stand_at (N.state program.now self.old.net) (N.order self.old.net) self.old.able.numbers.items) (N.channels self.old.net) (N.history self.old.net) self.old.parents.items self.old.able.marks.items self.old.used }
+        requires played { IsPlayed (N.play program.now) (stand_at (N.state program.now self.old.net) (N.order self.old.net) self.old.able.numbers.items) (N.channels self.old.net) (N.history self.old.net) self.old.parents.items self.old.able.marks.items self.old.used }
         requires able { Among number self.old.able.numbers.items }
         requires own { N.is_own self.old.net number done.now }
         ensures sound { OnOk result (N.IsSound program.now self.new.net) }
-        ensures played { OnOk result (IsPlayed program.now (stand_at (N.state program.now self.new.net) (N.order self.new.net) self.new.able.numbers.items) (N.channels self.new.net) (N.history self.new.net) self.new.parents.items self.new.able.marks.items self.new.used) }
+        ensures played { OnOk result (IsPlayed (N.play program.now) (stand_at (N.state program.now self.new.net) (N.order self.new.net) self.new.able.numbers.items) (N.channels self.new.net) (N.history self.new.net) self.new.parents.items self.new.able.marks.items self.new.used) }
         ensures used { OnOk result (self.old.used < self.new.used) }
-        ensures front { OnOk result ((turns : ℕ) → self.old.used ≤ turns → IsFrontWithin program.now turns (N.history self.new.net) (N.order self.new.net)) }
-        ensures entry { IfOk result (λ steps. IsEntry program.now (turn_of number steps) (N.state program.now self.old.net) (N.order self.old.net) (N.history self.old.net) (N.state program.now self.new.net) (N.order self.new.net) (N.history self.new.net)) }
-        ensures full { IfOk result (λ steps. IsFull program.now (N.steps_of done.now) true (N.state program.now self.old.net) (slice_index_or (N.order self.old.net) number []) steps) }
+        ensures front { OnOk result ((turns : ℕ) → self.old.used ≤ turns → IsFrontWithin (N.play program.now) turns (N.history self.new.net) (N.order self.new.net)) }
+        ensures entry { IfOk result (λ steps. IsEntry (N.play program.now) (turn_of number steps) (N.state program.now self.old.net) (N.order self.old.net) (N.history self.old.net) (N.state program.now self.new.net) (N.order self.new.net) (N.history self.new.net)) }
+        ensures full { IfOk result (λ steps. IsFull (N.play program.now) (N.steps_of done.now) true (N.state program.now self.old.net) (slice_index_or (N.order self.old.net) number []) steps) }
         ensures some_steps { IfOk result (λ steps. 1 ≤ steps) }
         ensures steps { IfOk result (λ steps. (steps ≡ N.steps_of done.now) ⊎ (steps ≡ N.steps_of done.now + 1)) }
         ensures stays { OnErr result (MayHaveEntry (N.history self.old.net) (N.history self.new.net)) }
         ensures queue { OnErr result (KeepsFront self.old.able.numbers.items self.new.able.numbers.items) }
-        ensures able { OnOk result (self.new.able.numbers.items ≡ ready_after program.now (N.state program.now self.new.net) (N.order self.new.net) self.old.able.numbers.items number) }
+        ensures able { OnOk result (self.new.able.numbers.items ≡ ready_after (N.play program.now) (N.state program.now self.new.net) (N.order self.new.net) self.old.able.numbers.items number) }
     {
         let before = self.net.count();
         let steps = self.keep_given(alloc, program, number, done)?;

@@ -8,7 +8,6 @@ use crate::net::Net;
 use crate::player::Player;
 use fm_base::{NoMemory, Path, Turn};
 use fm_mean::Outcome;
-use fm_rules::Program;
 use std::alloc::Global;
 use std::sync::Arc;
 
@@ -60,14 +59,14 @@ impl<N: Net> Player<N> {
 /// the next step is local. Who waits isn't asked again before it's woken.
 pub fn run_program<N: Net>(
     alloc: Global,
-    program: &Program,
+    program: &N::Source,
     choices: &[u64],
     turns: u64,
     slice: u32,
 ) -> Result<Run, NoMemory>
     requires { 1 ≤ slice }
-    ensures run { IfOk result (λ r. IsRun program.now turns r) }
-    ensures follows { IfOk result (λ r. Follows program.now slice choices.now r.history.items) }
+    ensures run { IfOk result (λ r. IsRun (N.play program.now) turns r) }
+    ensures follows { IfOk result (λ r. Follows (N.play program.now) slice choices.now r.history.items) }
 {
     let mut player: Player<N> = Player::new(alloc, program)?;
     'pieces: while let Some(number) = player.next(choices) {

@@ -10,7 +10,7 @@ use Rattle.fm_proc_language.specs.Slots.{Slots}
 use Rattle.fm_procs.specs.Readings.{order_of, procs_of}
 use Rattle.fm_outcome_code.specs.Corresponds.{BodyAlike, BodyStands, Corresponds}
 use Rattle.fm_outcome_code.specs.declared.compiled.Compiled.{Compiled}
-use Rattle.fm_run.specs.Runs.{Stand}
+use Rattle.fm_run.specs.Programs.{Stand}
 use Rattle.fm_run.specs.declared.player.Player.{Player}
 use Rattle.fm_table.specs.Inside.{IsAsItWas, IsLive, stand_in, stand_kept}
 use Rattle.fm_table.specs.Told.{HaveStarts, IsBodyOf, Out, without}

@@ -18,10 +18,11 @@ use Rattle.fm_mean.specs.Process.{Proc}
 use Rattle.fm_mean.specs.Steps.{first, first_proc, language, step}
 use Rattle.fm_mean.proofs.Lawful.{lawful}
 use Rattle.fm_mean.proofs.Laws.{owned_along}
-use Rattle.fm_run.specs.Orders.{Among, EachOnce, can_at, can_in, chosen, in_turn, is_new, others_in}
-use Rattle.fm_run.specs.Runs.{AreAble, FollowsFrom, Follows, IsNext, Stand, after_entries, after_entry, first_stand, place_of, steps_of}
+use Rattle.fm_run.specs.Orders.{Among, EachOnce, chosen, in_turn, is_new, others_in}
+use Rattle.fm_run.specs.Programs.{AreAble, Follows, FollowsFrom, IsNext, Stand, after_entries, after_entry, can_at, can_in, first_stand, play_of}
+use Rattle.fm_run.specs.Runs.{place_of, steps_of}
 use Rattle.fm_run.proofs.Able.{some_there, steps_there}
-use Rattle.fm_run.proofs.Becomes.{first_holds}
+use Rattle.fm_run.proofs.Programs.{first_holds, law_of}
 use Rattle.fm_run.proofs.Numbers.{all_in_turn, among_get, once_in_turn}
 use Rattle.fm_run.proofs.Others.{able_along}
 use Rattle.fm_run.proofs.Playing.{are_able, known, stands_at}
@@ -49,7 +50,7 @@ module _ (program : Program) where
   queued : (a : Stand) → Along a → (q : Place) → Can (step program) a.state q → (k : ℕ) × (slice_get a.places k ≡ Some q) × Among k a.able
   queued a along q can =
       let can' : is_some (step program a.state q) ≡ true = ap is_some can.1 in
-      let who = steps_there program a.state q (get a.state.procs q) refl can' in
+      let who = steps_there (play_of program) a.state q (get a.state.procs q) refl can' in
       let at = everybody (language program) (first_proc program) along.choices along.legal q who.0 (ap (λ (u : State Proc). get u.procs q) along.there ∙ who.1) in
       let is : slice_get a.places at.0 ≡ Some q = ap (λ (ps : List Place). slice_get ps at.0) along.places_are ∙ at.1 in
       (at.0, is, along.able.whole at.0 (ap (can_in program a.state) is ∙ can'))
@@ -74,7 +75,7 @@ module _ (program : Program) where
     can_own = along.able.within own (chosen_there a.able next.who)
 
     pub at_own : slice_get a.places own ≡ Some p
-    at_own = stands_at program a.state a.places own can_own
+    at_own = stands_at (play_of program) a.state a.places own can_own
 
     legal : IsLegal (step program) a.state ds
     legal = next.full.can
@@ -92,7 +93,7 @@ module _ (program : Program) where
           ∙ ap (λ (u : State Proc). starts_of (language program) (first program) along.choices ++ starts_along (language program) u ds) (sym along.there)
           ∙ sym (starts_more (language program) (first program) along.choices ds);
       able =
-          are_able program later.state later.places (in_turn own a.able (length later.places)) later.able refl (all_in_turn own a.able (length later.places))
+          are_able (play_of program) later.state later.places (in_turn own a.able (length later.places)) later.able refl (all_in_turn own a.able (length later.places))
           (once_in_turn own a.able (length later.places) along.able.once);
     }
 
@@ -109,7 +110,7 @@ module _ (program : Program) where
         found (Some q) e can =
             let apart : q ≢ p = λ same. differs (one_number a along n own q e (at_own ∙ ap Some (sym same))) in
             let here = some_there (step program a.state q) (sym (ap (can_in program a.state) e) ∙ can) in
-            let still = able_along program p t.steps a.state (owned a along) legal q apart here in
+            let still = able_along (play_of program) (law_of program) p t.steps a.state (owned a along) legal q apart here in
             ap (can_in program later.state) (longer_at a.places more n q e) ∙ ap is_some still.1
 
     -- where the first one was chosen, the others move up
@@ -159,7 +160,7 @@ module _ (program : Program) where
     (λ q can.
         let who = queued a along q can in
         let at = place_in a.able who.0 who.2 in
-        let few : length a.able ≤ length a.places = at_most (length a.places) a.able along.able.once (λ m h. known program a.state a.places m (along.able.within m h)) in
+        let few : length a.able ≤ length a.places = at_most (length a.places) a.able along.able.once (λ m h. known (play_of program) a.state a.places m (along.able.within m h)) in
         let grow = grown a (t ∷ ts) in
         let long : length places ≡ length a.places + length grow.0 = ap length (is ∙ grow.1) ∙ length-append a.places grow.0 in
         let count : suc (at.0 + (length places - suc at.0)) ≡ length places = omega (arith, at.1, few, long) in
@@ -179,7 +180,7 @@ module _ (program : Program) where
     legal = tt;
     there = refl;
     places_are = refl;
-    able = are_able program (first program) ([] ∷ []) (0 ∷ []) (first_stand program).able refl (λ n low. only n low) ((λ h. h), tt);
+    able = are_able (play_of program) (first program) ([] ∷ []) (0 ∷ []) (first_stand program).able refl (λ n low. only n low) ((λ h. h), tt);
   }
     where
       only : (n : ℕ) → n < 1 → Among n (0 ∷ [])

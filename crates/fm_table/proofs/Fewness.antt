@@ -12,7 +12,8 @@ use Rattle.fm_rules.specs.declared.program.Program.{Program}
 use Rattle.fm_mean.specs.Process.{Proc}
 use Rattle.fm_mean.specs.Steps.{first, step}
 use Rattle.fm_mean.proofs.Laws.{each_costs as step_costs}
-use Rattle.fm_run.specs.Runs.{HaveSteps, IsFrontWithin}
+use Rattle.fm_run.specs.Runs.{HaveSteps}
+use Rattle.fm_run.specs.Programs.{IsFrontWithin}
 
 -- the choices of the entries before the last one
 record Front (front : List Turn) (places cs : List Place) : Type 0 where

@@ -15,10 +15,11 @@ use Rattle.fm_mean.specs.Process.{Proc}
 use Rattle.fm_mean.specs.Steps.{first_proc, language, step}
 use Rattle.fm_mean.proofs.Lawful.{lawful}
 use Rattle.fm_mean.proofs.Laws.{owned_along}
-use Rattle.fm_run.specs.Orders.{Among, EachOnce, can_at, can_in, others_in, ready_after}
-use Rattle.fm_run.specs.Runs.{Stand, after_entry, place_of, steps_of}
+use Rattle.fm_run.specs.Orders.{Among, EachOnce, others_in}
+use Rattle.fm_run.specs.Programs.{Stand, after_entry, can_at, can_in, play_of, ready_after}
+use Rattle.fm_run.specs.Runs.{place_of, steps_of}
 use Rattle.fm_run.proofs.Able.{some_there}
-use Rattle.fm_run.proofs.Becomes.{first_holds}
+use Rattle.fm_run.proofs.Programs.{first_holds, law_of}
 use Rattle.fm_run.proofs.Numbers.{filter_among, in_filter, not_own, once_filter}
 use Rattle.fm_run.proofs.Others.{able_along}
 use Rattle.fm_table.specs.Inside.{HasEntered, HasShares, IsStanding, IsTable, stand_kept, told_in}
@@ -63,7 +64,7 @@ module _ (program : Program) (old new : Standing) (s : IsStanding program old) (
           let b = stand_kept program new in
           let apart : q ≢ p = λ same. differs (one_number n t.number q e (at_own ∙ ap Some (sym same))) in
           let here = some_there (step program a.state q) (sym (ap (can_in program a.state) e) ∙ can) in
-          let still = able_along program p t.steps a.state owned h.entry.can q apart here in
+          let still = able_along (play_of program) (law_of program) p t.steps a.state owned h.entry.can q apart here in
           let there : slice_get b.places n ≡ Some q = ap (λ (ps : List Place). slice_get ps n) h.entry.places_are ∙ longer_at a.places more n q e in
           later.able.whole n (ap (can_in program b.state) there ∙ ap (λ (u : State Proc). is_some (step program u q)) h.entry.state_is ∙ ap is_some still.1)
 

@@ -22,7 +22,7 @@ use Rattle.fm_net.proofs.Orders.{one_number_each}
 use Rattle.fm_rules.specs.declared.program.Program.{Program}
 use Rattle.fm_mean.specs.Actions.{action_in}
 use Rattle.fm_mean.specs.Machines.{HaveMachines, main_nodes}
-use Rattle.fm_mean.specs.Outcome.{need_in}
+use Rattle.fm_net_procs.specs.Waiting.{need_in}
 use Rattle.fm_mean.specs.Process.{Phase, Running, Joining, Ended, Faulted, Proc, has_ended, is_ended}
 use Rattle.fm_mean.specs.Steps.{ask_for, first_proc, language, step}
 use Rattle.fm_mean.proofs.Lawful.{lawful}
@@ -30,11 +30,12 @@ use Rattle.fm_mean.proofs.Laws.{owned_along}
 use Rattle.fm_mean.proofs.Machines.{machines_along}
 use Rattle.fm_outcome_code.specs.Corresponds.{BodyStands}
 use Rattle.fm_proc_language.specs.Slots.{Slots}
-use Rattle.fm_run.specs.Orders.{Among, EachOnce, can_at, can_in, is_new, others_in, ready_after}
-use Rattle.fm_run.specs.Runs.{AreAble, IsEntry, IsPlayedBy, Stand, place_of, steps_of}
+use Rattle.fm_run.specs.Orders.{Among, EachOnce, is_new, others_in}
+use Rattle.fm_run.specs.Programs.{AreAble, IsEntry, IsPlayedBy, Stand, can_at, can_in, play_of, ready_after}
+use Rattle.fm_run.specs.Runs.{place_of, steps_of}
 use Rattle.std.specs.List.{range_with_len}
 use Rattle.fm_run.proofs.Able.{rests, some_there, steps_there}
-use Rattle.fm_run.proofs.Becomes.{first_holds}
+use Rattle.fm_run.proofs.Programs.{first_holds, law_of}
 use Rattle.fm_run.proofs.Numbers.{filter_among, in_filter, not_own}
 use Rattle.fm_run.proofs.Others.{StaysOrEnded, able_along, others_along}
 use Rattle.fm_table.specs.Planned.{first_of, mapped, node_at, node_in, process_in, worker_at}
@@ -144,7 +145,7 @@ module _ (program : Program) (a : Stand) (hs : List Turn) (paid : ℕ) (kept : I
       go None e can = absurd (cc (sym (ap (can_in program a.state) e) ∙ can))
       go (Some q) e can =
           let steps = sym (ap (can_in program a.state) e) ∙ can in
-          let x = steps_there program a.state q (get a.state.procs q) refl steps in
+          let x = steps_there (play_of program) a.state q (get a.state.procs q) refl steps in
           record { place = q; at = e; process = x.0; is = x.1; can = steps }
 
   pub node_is : (n : ℕ) (h : There n) → node_at a n ≡ h.process.execution.node
@@ -179,7 +180,7 @@ ended_phase (Faulted line fault) e = absurd (cc e)
 
 -- who has ended has no step
 ended_rests : (program : Program) (s : State Proc) (q : Place) (x : Proc) → get s.procs q ≡ Some x → has_ended x ≡ true → is_some (step program s q) ≡ false
-ended_rests program s q x is e = rests program s q x is (ap (λ (phase : Phase). need_in (ask_for program x (action_in program x.execution phase))) (ended_phase x.phase e))
+ended_rests program s q x is e = rests (play_of program) s q x is (ap (λ (phase : Phase). need_in (ask_for program x (action_in program x.execution phase))) (ended_phase x.phase e))
 
 module _ (program : Program) (a b : Stand) (t : Turn) (hs later : List Turn) (paid : ℕ) (kept : IsPlayedBy program hs a.places a.state paid) (able : AreAble program a.state a.places a.able)
     (entry : IsEntry program t a.state a.places hs b.state b.places later) (known : is_some (slice_get a.places t.number) ≡ true) where
@@ -216,9 +217,9 @@ module _ (program : Program) (a b : Stand) (t : Turn) (hs later : List Turn) (pa
   node_stays n h differs =
       let k = there program a hs paid kept able n h in
       let later_at : slice_get b.places n ≡ Some k.place = ap (λ (ps : List Place). slice_get ps n) entry.places_are ∙ longer_at a.places more n k.place k.at in
-      go k later_at (subst (λ (s : State Proc). StaysOrEnded k.process (get s.procs k.place)) (sym entry.state_is) (others_along program own t.steps a.state owned entry.can k.place (apart n k.place k.at differs) k.process k.is))
+      go k later_at (subst (λ (s : State Proc). StaysOrEnded (play_of program) k.process (get s.procs k.place)) (sym entry.state_is) (others_along (play_of program) (law_of program) own t.steps a.state owned entry.can k.place (apart n k.place k.at differs) k.process k.is))
     where
-      go : (k : There program a hs paid kept able n) → slice_get b.places n ≡ Some k.place → StaysOrEnded k.process (get b.state.procs k.place) → node_at b n ≡ node_at a n
+      go : (k : There program a hs paid kept able n) → slice_get b.places n ≡ Some k.place → StaysOrEnded (play_of program) k.process (get b.state.procs k.place) → node_at b n ≡ node_at a n
       go k at (inl same) = ap (λ (o : Option Place). node_in (process_in b.state o)) at ∙ ap node_in same ∙ sym (node_is program a hs paid kept able n k)
       go k at (inr ended) = absurd (cc (sym k.can ∙ ended_rests program a.state k.place k.process k.is ended.0))
 
@@ -228,7 +229,7 @@ module _ (program : Program) (a b : Stand) (t : Turn) (hs later : List Turn) (pa
       let k = there program a hs paid kept able n h in
       let later_at : slice_get b.places n ≡ Some k.place = ap (λ (ps : List Place). slice_get ps n) entry.places_are ∙ longer_at a.places more n k.place k.at in
       let same : q ≡ k.place = some_place q k.place (sym at ∙ later_at) in
-      go k (subst (λ (r : Place). get b.state.procs r ≡ Some x) same is) (subst (λ (s : State Proc). StaysOrEnded k.process (get s.procs k.place)) (sym entry.state_is) (others_along program own t.steps a.state owned entry.can k.place (apart n k.place k.at differs) k.process k.is))
+      go k (subst (λ (r : Place). get b.state.procs r ≡ Some x) same is) (subst (λ (s : State Proc). StaysOrEnded (play_of program) k.process (get s.procs k.place)) (sym entry.state_is) (others_along (play_of program) (law_of program) own t.steps a.state owned entry.can k.place (apart n k.place k.at differs) k.process k.is))
     where
       some_place : (r p : Place) → Some r ≡ Some p → r ≡ p
       some_place r p e = cc
@@ -236,7 +237,7 @@ module _ (program : Program) (a b : Stand) (t : Turn) (hs later : List Turn) (pa
       some_process : (y z : Proc) → Some y ≡ Some z → y ≡ z
       some_process y z e = cc
 
-      go : (k : There program a hs paid kept able n) → get b.state.procs k.place ≡ Some x → StaysOrEnded k.process (get b.state.procs k.place) → (slots : Slots) × BodyStands program slots x start
+      go : (k : There program a hs paid kept able n) → get b.state.procs k.place ≡ Some x → StaysOrEnded (play_of program) k.process (get b.state.procs k.place) → (slots : Slots) × BodyStands program slots x start
       go k here (inl same) = subst (λ (y : Proc). (slots : Slots) × BodyStands program slots y start) (some_process k.process x (sym same ∙ here)) (stood k.place k.process k.at k.is)
       go k here (inr ended) = absurd (cc (sym k.can ∙ ended_rests program a.state k.place k.process k.is ended.0))
 
@@ -244,7 +245,7 @@ module _ (program : Program) (a b : Stand) (t : Turn) (hs later : List Turn) (pa
   other_can n h differs =
       let k = there program a hs paid kept able n h in
       let later_at : slice_get b.places n ≡ Some k.place = ap (λ (ps : List Place). slice_get ps n) entry.places_are ∙ longer_at a.places more n k.place k.at in
-      let still = able_along program own t.steps a.state owned entry.can k.place (apart n k.place k.at differs) (some_there (step program a.state k.place) k.can) in
+      let still = able_along (play_of program) (law_of program) own t.steps a.state owned entry.can k.place (apart n k.place k.at differs) (some_there (step program a.state k.place) k.can) in
       ap (can_in program b.state) later_at ∙ ap (λ (s : State Proc). is_some (step program s k.place)) entry.state_is ∙ ap is_some still.1
 
   abbrev others : List ℕ

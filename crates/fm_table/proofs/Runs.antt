@@ -2,7 +2,7 @@
 use Rattle.std.proofs.Common.{◌≡◌, ℕ, zero, suc, ◌+◌, ◌-◌, ◌%◌, ◌<◌, ◌≤◌, Bool, true, false, cond, Some, None, List, [], ◌∷◌, length, get_or, refl, sym, ap, ◌∙◌, subst, arith}
 use Rattle.std.specs.Prelude.{slice_get}
 use Rattle.fm_run.specs.Orders.{chosen, places_of}
-use Rattle.fm_run.specs.Runs.{Follows, IsRun}
+use Rattle.fm_run.specs.Programs.{Follows, IsRun, play_of}
 use Rattle.fm_run.specs.declared.run.Ending.{Ending}
 use Rattle.fm_run.specs.declared.run.Ending.TheVariants as ending
 use Rattle.fm_run.specs.declared.run.Run.{Run}
@@ -41,9 +41,9 @@ pub record IsSame (choices : List ℕ) (a b : Told) (made : Bool) : Type 0 where
 -- the run of a table in which nothing can be made
 pub run_by : (a : Told) (e : Ending) → IsKept a → IsEndingOf a e → (r : Run) → r.history.items ≡ a.history → places_of r.paths.items ≡ (stand_of a).places → r.ending ≡ e → IsRun a.program a.setup.turns r
 run_by a (ending.Ended o) kept ends r history paths is =
-    run_ended a.program a.setup.turns a.history (stand_of a).places (stand_of a).state a.queue (cost_of a) kept.played kept.able ends.1 ends.0 kept.front o ends.2 r history paths is
+    run_ended (play_of a.program) a.setup.turns a.history (stand_of a).places (stand_of a).state a.queue (cost_of a) kept.played kept.able ends.1 ends.0 kept.front o ends.2 r history paths is
 run_by a ending.Spent kept ends r history paths is =
-    run_spent a.program a.setup.turns a.history (stand_of a).places (stand_of a).state (cost_of a) kept.played ends kept.front r history paths is
+    run_spent (play_of a.program) a.setup.turns a.history (stand_of a).places (stand_of a).state (cost_of a) kept.played ends kept.front r history paths is
 
 -- after a turn: it follows the choices, has the same program and setup, and is idle where no piece was made
 pub turn_keeps : (choices : List ℕ) (choice : ℕ) (a b : Told) (made : Bool) → ((able : List ℕ) → chosen (Some choice) able ≡ chosen (slice_get choices (length a.history)) able) → a ≡ told_at a.program a.setup a.history → Follows a.program a.setup.slice choices a.history

@@ -10,7 +10,8 @@ use Rattle.fm_net.proofs.Orders.{starts_more}
 use Rattle.fm_rules.specs.declared.program.Program.{Program}
 use Rattle.fm_mean.specs.Steps.{first, language, step}
 use Rattle.fm_run.specs.Orders.{places_of}
-use Rattle.fm_run.specs.Runs.{Follows, FollowsFrom, IsRun, Stand, after_entries, after_entry, first_stand, place_of}
+use Rattle.fm_run.specs.Runs.{place_of}
+use Rattle.fm_run.specs.Programs.{Follows, FollowsFrom, IsRun, Stand, after_entries, after_entry, first_stand}
 use Rattle.fm_run.specs.declared.run.Run.{Run}
 use Rattle.fm_table.specs.Fair.{IsFair}
 use Rattle.fm_table.proofs.Fairness.{Along, along_first, along_more, at_own, choices_are, fair, first_choices}

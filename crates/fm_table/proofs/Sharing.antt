@@ -19,7 +19,7 @@ use Rattle.fm_proc_language.specs.Processes.{CodeProc}
 use Rattle.fm_procs.specs.Readings.{order_of, procs_of}
 use Rattle.fm_outcome_code.specs.Corresponds.{BodyAlike, Corresponds}
 use Rattle.fm_run.specs.Orders.{Among, EachOnce, others_in}
-use Rattle.fm_run.specs.Runs.{Stand}
+use Rattle.fm_run.specs.Programs.{Stand}
 use Rattle.fm_run.specs.declared.orders.Queue.{Queue}
 use Rattle.fm_run.specs.declared.player.Player.{Player}
 use Rattle.fm_run.proofs.Numbers.{filter_among, once_filter}

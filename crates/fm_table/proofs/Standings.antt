@@ -11,8 +11,9 @@ use Rattle.fm_rules.specs.declared.program.Program.{Program}
 use Rattle.fm_mean.specs.Process.{Proc}
 use Rattle.fm_mean.specs.Steps.{first, language, step}
 use Rattle.fm_run.specs.Entries.{MayHaveEntry, turn_of}
-use Rattle.fm_run.specs.Orders.{Among, AreMarked, EachOnce, KeepsFront, can_at, is_among, places_of, ready_after}
-use Rattle.fm_run.specs.Runs.{AreAble, IsEntry, IsFrontWithin, IsPlayed, IsPlayedBy, Stand, after_entry, first_stand, steps_of}
+use Rattle.fm_run.specs.Orders.{Among, AreMarked, EachOnce, KeepsFront, is_among, places_of}
+use Rattle.fm_run.specs.Programs.{AreAble, IsEntry, IsFrontWithin, IsPlayed, IsPlayedBy, Stand, after_entry, can_at, first_stand, play_of, ready_after}
+use Rattle.fm_run.specs.Runs.{steps_of}
 use Rattle.fm_run.specs.declared.player.Player.{Player}
 use Rattle.fm_run.proofs.Following.{entries_more, moved_is}
 use Rattle.fm_run.proofs.Numbers.{among_is, is_among_from}
@@ -31,7 +32,7 @@ cost_is program history places s paid same k =
 -- an entry more leads where its process's steps lead, be the queue what it may
 pub entry_stand : (program : Program) (ts : List Turn) (queue later : List ℕ) (t : Turn) → later ≡ (after_entry program (stand_with program ts queue) t).able → stand_with program (ts ++ t ∷ []) later ≡ after_entry program (stand_with program ts queue) t
 entry_stand program ts queue later t is =
-    ap (λ (b : Stand). record { state = b.state; places = b.places; able = later }) (entries_more program (first_stand program) ts t)
+    ap (λ (b : Stand). record { state = b.state; places = b.places; able = later }) (entries_more (play_of program) (first_stand program) ts t)
     ∙ ap (λ (ns : List ℕ). record { state = (after_entry program (stand_with program ts queue) t).state; places = (after_entry program (stand_with program ts queue) t).places; able = ns }) is
 
 -- ---- processes in memory that stand where the schedule leads
@@ -67,7 +68,7 @@ pub live_more : (program : Program) (t : Turn) (old new : Player Compiled) → I
     → IsPlayed program (stand_in program new) new.net.stacks.channels new.net.history new.parents.items new.able.marks.items new.used → IsLive program new
 live_more program t old new was made sound now =
     let there : stand_in program new ≡ after_entry program (stand_with program old.net.history old.able.numbers.items) t =
-    moved_is program (stand_in program old) t old.net.history (stand_in program new) new.net.history made.entry made.able ∙ ap (λ (b : Stand). after_entry program b t) was.stand_is in
+    moved_is (play_of program) (stand_in program old) t old.net.history (stand_in program new) new.net.history made.entry made.able ∙ ap (λ (b : Stand). after_entry program b t) was.stand_is in
     record {
       sound = sound;
       played = now;

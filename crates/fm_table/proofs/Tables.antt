@@ -13,9 +13,9 @@ use Rattle.fm_rules.specs.declared.program.Program.{Program}
 use Rattle.fm_mean.specs.Process.{Proc}
 use Rattle.fm_mean.specs.Steps.{language, step}
 use Rattle.fm_run.specs.Entries.{turn_of}
-use Rattle.fm_run.specs.Orders.{Among, EachOnce, can_at, can_in, chosen}
-use Rattle.fm_run.specs.Pieces.{after_steps}
-use Rattle.fm_run.specs.Runs.{AreAble, Follows, IsFrontWithin, IsNext, Stand, after_entry, first_stand, place_of, steps_of}
+use Rattle.fm_run.specs.Orders.{Among, EachOnce, chosen}
+use Rattle.fm_run.specs.Programs.{AreAble, Follows, IsFrontWithin, IsNext, Stand, after_entry, after_steps, can_at, can_in, first_stand, play_of}
+use Rattle.fm_run.specs.Runs.{place_of, steps_of}
 use Rattle.fm_run.proofs.Following.{entries_more, follows_more}
 use Rattle.fm_run.proofs.Playing.{front_none, nobody_can, started_all}
 use Rattle.fm_table.specs.Inside.{EntersTo, HasShares, IsAsItWas, IsLive, IsStanding, IsTable, outs_of, stand_in, stand_kept, told_in}
@@ -78,8 +78,8 @@ spent_by false false e = absurd (cc e)
 -- where nobody is in the queue, nobody can step
 pub ended_final : (a : Told) → IsKept a → a.queue ≡ [] → IsFinal (step a.program) (stand_of a).state
 ended_final a kept none =
-    nobody_can a.program (stand_of a).state (stand_of a).places (subst (λ (ns : List ℕ). AreAble a.program (stand_of a).state (stand_of a).places ns) none kept.able)
-    (started_all a.program a.history (stand_of a).places (stand_of a).state (cost_of a) kept.played)
+    nobody_can (play_of a.program) (stand_of a).state (stand_of a).places (subst (λ (ns : List ℕ). AreAble a.program (stand_of a).state (stand_of a).places ns) none kept.able)
+    (started_all (play_of a.program) a.history (stand_of a).places (stand_of a).state (cost_of a) kept.played)
 
 pub phase_final : (a : Told) → IsKept a → phase_of a ≡ Ended → IsFinal (step a.program) (stand_of a).state
 phase_final a kept e = ended_final a kept (none_of a.queue (ended_by (nat_lt a.setup.turns (cost_of a)) (has_some a.queue) e).1)
@@ -187,7 +187,7 @@ no_steps t a none = subst (λ (n : ℕ). MakesSteps t.number n a a) (sym none) (
 
 -- an entry more of a table to which entries alone led
 pub entry_at : (program : Program) (setup : Setup) (ts : List Turn) (t : Turn) → with_entry (told_at program setup ts) t ≡ told_at program setup (ts ++ t ∷ [])
-entry_at program setup ts t = ap (λ (b : Stand). record { program = program; setup = setup; history = ts ++ t ∷ []; queue = b.able; out = [] }) (sym (entries_more program (first_stand program) ts t))
+entry_at program setup ts t = ap (λ (b : Stand). record { program = program; setup = setup; history = ts ++ t ∷ []; queue = b.able; out = [] }) (sym (entries_more (play_of program) (first_stand program) ts t))
 
 -- a turn more follows the choices
 pub turn_follows : (choices : List ℕ) (choice : ℕ) (a b : Told) → ((able : List ℕ) → chosen (Some choice) able ≡ chosen (slice_get choices (length a.history)) able) → a ≡ told_at a.program a.setup a.history → Follows a.program a.setup.slice choices a.history → TurnsTo choice a b
@@ -200,7 +200,7 @@ turn_follows choices choice a b same alone follows h =
     let here : 0 + length a.history ≡ length a.history = omega arith in
     let next_here = subst (λ (k : ℕ). IsNext a.program a.setup.slice (slice_get choices k) led h.entry) (sym here) next in
     subst (λ (ts : List Turn). Follows a.program a.setup.slice choices ts) (sym (ap (λ (c : Told). c.history) h.told))
-    (follows_more a.program a.setup.slice choices 0 (first_stand a.program) a.history h.entry follows next_here)
+    (follows_more (play_of a.program) a.setup.slice choices 0 (first_stand a.program) a.history h.entry follows next_here)
 
 -- behind a turn it is such a table still
 pub turn_alone : (choice : ℕ) (a b : Told) → a ≡ told_at a.program a.setup a.history → TurnsTo choice a b → b ≡ told_at a.program a.setup b.history
@@ -212,7 +212,7 @@ turn_alone choice a b alone h =
 pub first_table : (program : Program) (setup : Setup) (s : Standing) → IsStanding program s → s.player.net.history ≡ [] → (out : List Taken) → out ≡ [] → (shares : Shares) → HasShares program setup (stand_kept program s) shares → IsTable program setup s (outs_of out) shares
 first_table program setup s standing none out free shares shared = record {
   standing = standing;
-  front = front_none program setup.turns s.player.net.history (stand_kept program s).places none;
+  front = front_none (play_of program) setup.turns s.player.net.history (stand_kept program s).places none;
   out_able = λ n h. absurd (subst (λ (os : List Taken). Among n (numbers_out (outs_of os))) free h);
   out_once = subst (λ (os : List Taken). EachOnce (numbers_out (outs_of os))) (sym free) tt;
   out_start = subst (λ (os : List Taken). HaveStarts program (stand_kept program s) (outs_of os)) (sym free) tt;

@@ -9,8 +9,8 @@ use Rattle.fm_code.specs.declared.body.Body.{Body}
 use Rattle.fm_machine.specs.declared.done.Done.{Done}
 use Rattle.fm_rules.specs.declared.program.Program.{Program}
 use Rattle.fm_run.specs.Entries.{turn_of}
-use Rattle.fm_run.specs.Orders.{Among, AreMarked, EachOnce, can_at, chosen, others_in}
-use Rattle.fm_run.specs.Runs.{IsFrontWithin}
+use Rattle.fm_run.specs.Orders.{Among, AreMarked, EachOnce, chosen, others_in}
+use Rattle.fm_run.specs.Programs.{IsFrontWithin, can_at}
 use Rattle.fm_run.specs.declared.player.Player.{Player}
 use Rattle.fm_run.proofs.Numbers.{among_either, among_filter, among_get, among_is, among_left, among_right, filter_among, in_filter, is_among_from, not_own, once_append, once_filter}
 use Rattle.fm_outcome_code.specs.declared.compiled.Compiled.{Compiled}

@@ -6,7 +6,7 @@ use Rattle.fm_base.specs.declared.schedule.Turn.{Turn}
 use Rattle.fm_code.specs.declared.body.Body.{Body}
 use Rattle.fm_machine.specs.declared.done.Done.{Done}
 use Rattle.fm_run.specs.Orders.{others_in}
-use Rattle.fm_run.specs.Pieces.{IsFull}
+use Rattle.fm_run.specs.Programs.{IsFull}
 use Rattle.fm_run.specs.Runs.{place_of}
 use Rattle.fm_net.specs.Machine.{Place}
 use Rattle.fm_workers.specs.declared.shared.Given.{Given}

@@ -11,9 +11,9 @@ use Rattle.fm_mean.specs.Steps.{step}
 use Rattle.fm_machine.specs.declared.done.Done.{Done}
 use Rattle.fm_procs.specs.Readings.{order_of}
 use Rattle.fm_run.specs.Entries.{turn_of}
-use Rattle.fm_run.specs.Orders.{Among, EachOnce, can_at, others_in, places_of, ready_after}
-use Rattle.fm_run.specs.Pieces.{IsFull}
-use Rattle.fm_run.specs.Runs.{AreAble, IsEntry, IsFrontWithin, IsPlayed, IsPlayedBy, Stand, place_of, stand_at, steps_of}
+use Rattle.fm_run.specs.Orders.{Among, EachOnce, others_in, places_of}
+use Rattle.fm_run.specs.Programs.{AreAble, IsEntry, IsFrontWithin, IsFull, IsPlayed, IsPlayedBy, Stand, can_at, ready_after}
+use Rattle.fm_run.specs.Runs.{place_of, stand_at, steps_of}
 use Rattle.fm_run.specs.declared.orders.Queue.{Queue}
 use Rattle.fm_run.specs.declared.player.Player.{Player}
 use Rattle.fm_outcome_code.specs.Played.{played}

@@ -8,7 +8,7 @@ use Rattle.fm_net.specs.Machine.{Place, State}
 use Rattle.fm_rules.specs.declared.program.Program.{Program}
 use Rattle.fm_mean.specs.Machines.{main_nodes}
 use Rattle.fm_mean.specs.Process.{Proc}
-use Rattle.fm_run.specs.Runs.{Stand}
+use Rattle.fm_run.specs.Programs.{Stand}
 
 -- the process at a place, if there is one
 abbrev pub process_in : State Proc → Option Place → Option Proc

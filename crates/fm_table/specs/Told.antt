@@ -15,7 +15,7 @@ use Rattle.fm_code.specs.declared.body.Body.{Body}
 use Rattle.fm_run.specs.declared.run.Ending.{Ending}
 use Rattle.fm_run.specs.declared.run.Ending.TheVariants as ending
 use Rattle.fm_run.specs.Orders.{Among, EachOnce, is_among}
-use Rattle.fm_run.specs.Runs.{AreAble, IsFrontWithin, IsPlayedBy, Stand, after_entries, after_entry, first_stand}
+use Rattle.fm_run.specs.Programs.{AreAble, IsFrontWithin, IsPlayedBy, Stand, after_entries, after_entry, first_stand}
 use Rattle.fm_outcome_code.specs.Corresponds.{BodyStands}
 use Rattle.fm_outcome_code.specs.Played.{choices_in}
 use Rattle.fm_proc_language.specs.Slots.{Slots}

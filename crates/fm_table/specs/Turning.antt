@@ -7,7 +7,7 @@ use Rattle.fm_net.specs.Machine.{Place}
 use Rattle.fm_mean.specs.Steps.{step}
 use Rattle.fm_run.specs.Entries.{turn_of}
 use Rattle.fm_run.specs.Orders.{chosen}
-use Rattle.fm_run.specs.Pieces.{IsFull, after_steps}
+use Rattle.fm_run.specs.Programs.{IsFull, after_steps}
 use Rattle.fm_run.specs.Runs.{place_of, steps_of}
 use Rattle.fm_table.specs.Giving.{taken_for}
 use Rattle.fm_table.specs.Told.{Told, cost_of, ready_of, stand_of, with_entry}

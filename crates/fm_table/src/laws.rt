@@ -4,7 +4,7 @@ ghost use Rattle.std.specs.Prelude.{ℕ, List, []};
 ghost use Rattle.fm_base.specs.declared.schedule.Turn.{Turn};
 ghost use Rattle.fm_rules.specs.declared.program.Program.{Program};
 ghost use Rattle.fm_run.specs.Orders.{places_of};
-ghost use Rattle.fm_run.specs.Runs.{Follows, IsRun, after_entries, first_stand};
+ghost use Rattle.fm_run.specs.Programs.{Follows, IsRun, after_entries, first_stand};
 ghost use Rattle.fm_run.specs.declared.run.Run as declared_run;
 ghost use Rattle.fm_table.specs.Fair.{IsFair};
 

@@ -6,7 +6,8 @@ ghost use Rattle.fm_mean.specs.Outcome.{outcome_of};
 ghost use Rattle.fm_net.specs.Machine.{Place};
 ghost use Rattle.fm_run.specs.Entries.{MayHaveEntry, turn_of};
 ghost use Rattle.fm_outcome_code.specs.Given.{IsOwn};
-ghost use Rattle.fm_run.specs.Orders.{Among, KeepsFront, can_at, places_of};
+ghost use Rattle.fm_run.specs.Orders.{Among, KeepsFront, places_of};
+ghost use Rattle.fm_run.specs.Programs.{can_at};
 ghost use Rattle.fm_table.specs.Inside.{HasMade, IsAsked, IsGivenSo, IsLive, MakesSo, stand_in};
 
 use fm_base::{NoMemory, Path};

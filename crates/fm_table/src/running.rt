@@ -2,7 +2,7 @@
 
 ghost use Rattle.std.specs.Prelude.{◌≡◌, ℕ, List, [], Some, slice_get, IfOk};
 ghost use Rattle.fm_run.specs.Orders.{chosen};
-ghost use Rattle.fm_run.specs.Runs.{Follows, IsRun};
+ghost use Rattle.fm_run.specs.Programs.{Follows, IsRun};
 ghost use Rattle.fm_table.specs.Told.{IsEndingOf, IsIdle};
 
 use crate::table::Table;

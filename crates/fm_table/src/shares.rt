@@ -4,7 +4,7 @@ ghost use Rattle.std.specs.Prelude.{◌≡◌, ◌<◌, ◌++◌, ◌∷◌, ◌
 ghost use Rattle.fm_mean.specs.Machines.{main_nodes};
 ghost use Rattle.fm_rules.specs.declared.program.Program.{Program};
 ghost use Rattle.fm_run.specs.Orders.{Among, EachOnce, others_in};
-ghost use Rattle.fm_run.specs.Runs.{Stand};
+ghost use Rattle.fm_run.specs.Programs.{Stand};
 ghost use Rattle.fm_table.specs.Inside.{AreBehind, HasShares, HaveLeft, IsLive, IsLiveOn, IsStanding, outs_of, shares_of, stand_in, stand_kept};
 ghost use Rattle.fm_table.specs.Planned.{first_of, mapped, worker_at};
 ghost use Rattle.fm_table.specs.Told.{ready_in};

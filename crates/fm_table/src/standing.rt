@@ -4,8 +4,8 @@ ghost use Rattle.std.specs.Prelude.{◌≡◌, ◌≤◌, true, false, [], Ok, I
 ghost use Rattle.fm_mean.specs.Outcome.{outcome_of};
 ghost use Rattle.fm_run.specs.Entries.{turn_of};
 ghost use Rattle.fm_rules.specs.declared.program.Program.{Program};
-ghost use Rattle.fm_run.specs.Orders.{can_at, places_of};
-ghost use Rattle.fm_run.specs.Runs.{first_stand};
+ghost use Rattle.fm_run.specs.Orders.{places_of};
+ghost use Rattle.fm_run.specs.Programs.{can_at, first_stand};
 ghost use Rattle.fm_table.specs.Inside.{HasEntered, IsAsItWas, IsAsked, IsStanding, MakesSo, stand_kept};
 ghost use Rattle.fm_table.specs.Told.{cost_by, has_some};
 

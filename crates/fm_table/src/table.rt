@@ -4,7 +4,8 @@ ghost use Rattle.std.specs.Prelude.{◌≡◌, ◌≤◌, ◌<◌, ℕ, nat_lt, 
 ghost use Rattle.fm_sched.specs.Schedule.{IsFinal};
 ghost use Rattle.fm_mean.specs.Outcome.{outcome_of};
 ghost use Rattle.fm_mean.specs.Steps.{step};
-ghost use Rattle.fm_run.specs.Orders.{Among, can_at, place_in, places_of};
+ghost use Rattle.fm_run.specs.Orders.{Among, place_in, places_of};
+ghost use Rattle.fm_run.specs.Programs.{can_at};
 ghost use Rattle.fm_table.specs.Giving.{CallsBack, GivenTo, TakesTo, taken, taken_for};
 ghost use Rattle.fm_table.specs.Inside.{EntersTo, IsAsked};
 ghost use Rattle.fm_table.specs.Told.{IsBodyOf, IsIdle, IsKept, cost_of, first_told, phase_by, phase_of, ready_of, stand_of};

@@ -40,7 +40,7 @@ use Rattle.fm_object.specs.Texts.{object_text}
 use Rattle.fm_verdict.specs.Program.{IsCheckedOf}
 use Rattle.fm_verdict.specs.Verdict.{IsBroken, IsBrokenForm, AreStatementsOf}
 use Rattle.fm_run.specs.Orders.{places_of}
-use Rattle.fm_run.specs.Runs.{EndsSo, Follows, IsRun}
+use Rattle.fm_run.specs.Programs.{EndsSo, Follows, IsRun}
 use Rattle.fm_run.specs.declared.run.Ending.{Ending}
 use Rattle.fm_run.specs.declared.run.Ending.TheVariants as ending
 use Rattle.fm_run.specs.declared.run.Run as run

@@ -22,7 +22,8 @@ use Rattle.fm_replay_law.specs.Entries.{AreSteps}
 use Rattle.fm_report.specs.Report.{report_text, spent_text}
 use Rattle.fm_run.specs.Entries.{turn_of}
 use Rattle.fm_run.specs.Orders.{places_of}
-use Rattle.fm_run.specs.Runs.{HaveSteps, IsRun, place_of}
+use Rattle.fm_run.specs.Runs.{HaveSteps, place_of}
+use Rattle.fm_run.specs.Programs.{IsRun}
 use Rattle.fm_run.specs.declared.run.Run as run
 use Rattle.fm_table.specs.Told.{IsKept, Told, cost_of as told_cost, stand_of, with_entry}
 use Rattle.fm_table.specs.Turning.{MakesSteps, PlaysTo, with_steps}

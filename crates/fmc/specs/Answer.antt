@@ -33,7 +33,8 @@ use Rattle.fm_object.specs.Texts.{object_text}
 use Rattle.fm_flow_law.specs.Flow.{IsFlowSafe, IsFlowVerdict}
 use Rattle.fm_verdict.specs.Verdict.{IsBroken, AreStatementsOf}
 use Rattle.fm_verdict.specs.Program.{IsCheckedOf}
-use Rattle.fm_run.specs.Runs.{HaveSteps, IsFrontWithin, Follows}
+use Rattle.fm_run.specs.Runs.{HaveSteps}
+use Rattle.fm_run.specs.Programs.{Follows, IsFrontWithin}
 use Rattle.fm_table.specs.Fair.{IsFair}
 use Rattle.fm_trace.specs.Texts.{IsFirstMalformed, IsTraceText, trace_of_history, trace_text}
 use Rattle.fm_make.specs.Made.{made_text}

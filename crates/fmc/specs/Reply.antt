@@ -13,7 +13,7 @@ use Rattle.fm_gen.specs.Programs.{code_of}
 use Rattle.fm_image.specs.ImageOf.{image_of}
 use Rattle.fm_object.specs.Texts.{object_text}
 use Rattle.fm_verdict.specs.Program.{IsCheckedOf}
-use Rattle.fm_run.specs.Runs.{Follows, IsRun}
+use Rattle.fm_run.specs.Programs.{Follows, IsRun}
 use Rattle.fm_run.specs.declared.run.Run as run
 use Rattle.fm_run.specs.declared.run.Ending.{Ending}
 use Rattle.fm_run.specs.declared.run.Ending.TheVariants.{Ended, Spent}

@@ -3,7 +3,7 @@
 ghost use Rattle.std.specs.Prelude.{◌≡◌, ◌≤◌, [], length, IfOk, IfErr, true};
 ghost use Rattle.fm_base.specs.Verdict.{IsRefusal};
 ghost use Rattle.fm_verdict.specs.Verdict.{IsBroken};
-ghost use Rattle.fm_run.specs.Runs.{IsRun};
+ghost use Rattle.fm_run.specs.Programs.{IsRun};
 ghost use Rattle.fmc.specs.Outcomes.{source_limit};
 ghost use Rattle.fmc.specs.Reply.{IsFairlySpent, IsRunBy, IsRunOf, IsTableOf, is_spent_by};
 

@@ -3,7 +3,7 @@
 use Rattle.std.specs.Prelude.{◌≡◌, ℕ, Bool, List}
 use Rattle.fm_rules.specs.declared.program.Program.{Program}
 use Rattle.fm_verdict.specs.Program.{IsCheckedOf}
-use Rattle.fm_run.specs.Runs.{IsRun}
+use Rattle.fm_run.specs.Programs.{IsRun}
 use Rattle.fm_run.specs.declared.run.Ending.{Ending}
 use Rattle.fm_run.specs.declared.run.Ending.TheVariants.{Ended, Spent}
 use Rattle.fm_run.specs.declared.run.Run.{Run}

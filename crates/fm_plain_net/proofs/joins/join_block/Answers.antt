@@ -6,11 +6,12 @@ use Rattle.fm_finmap.proofs.Inserts.{insert_here}
 use Rattle.fm_mean.specs.Process.{Proc}
 use Rattle.fm_net.specs.Machine.{Place, Procs, State}
 use Rattle.fm_net.proofs.Keys.{path_order}
+use Rattle.fm_run.specs.Programs.{play_of}
 use Rattle.fm_run.specs.Awaited.{awaited_in, awaits}
 use Rattle.fm_plain_net.specs.Readings.{actor_place, order_of, procs_of, tree_of}
 use Rattle.fm_plain_net.proofs.Families.{joined_family, kids_awaited}
 use Rattle.fm_run.proofs.Able.{steps_there}
-use Rattle.fm_run.proofs.Steps.{owned_reached}
+use Rattle.fm_run.proofs.Programs.{owned_reached}
 use Rattle.fm_plain_net.proofs.Performed.{reached_step}
 use Rattle.fm_plain_net.proofs.Doing.{joined_runs, still_there}
 use Rattle.fm_plain_net.proofs.Joining.{all_kids, gathered_kids, join_held, join_starts, join_steps, kids_drop}
@@ -22,7 +23,7 @@ join_one-requires-clause-can c = λ y e.
     let P = c.args.program.now in
     let s : State Proc = record { procs = procs_of P c.args.entries.now; chans = chans_of c.args.channels.now } in
     let p = (actor_place c.args.actor.now) in
-    let who = steps_there P s p (get s.procs p) refl c.requires.can in
+    let who = steps_there (play_of P) s p (get s.procs p) refl c.requires.can in
     let told = c.requires.event who.0 who.1 in
     let children = joined_family P who.0 c.args.block c.args.next told (order_of c.args.entries.now) c.family-family.result.first p (c.family-family.ensures.first P p who.0 c.requires.actor who.1 c.requires.families) c.family-family.result.count (c.family-family.ensures.count P p who.0 c.requires.actor who.1 ∙ kids_awaited who.0.phase) in
     let is : get s.procs p ≡ Some y = sym (ap (λ m. get m p) (c.in_ok-left.ensures.processes P p c.args.block children) ∙ still_there p (Some (c.args.block, c.family-family.result.count)) s.procs) ∙ e in
@@ -38,7 +39,7 @@ returns-clause-step c =
     let P = c.args.program.now in
     let s : State Proc = record { procs = procs_of P c.args.entries.now; chans = chans_of c.args.channels.now } in
     let p = (actor_place c.args.actor.now) in
-    let who = steps_there P s p (get s.procs p) refl c.requires.can in
+    let who = steps_there (play_of P) s p (get s.procs p) refl c.requires.can in
     let x = who.0 in
     let does = c.requires.event x who.1 in
     let children = joined_family P x c.args.block c.args.next does (order_of c.args.entries.now) c.family-family.result.first p (c.family-family.ensures.first P p x c.requires.actor who.1 c.requires.families) c.family-family.result.count (c.family-family.ensures.count P p x c.requires.actor who.1 ∙ kids_awaited x.phase) in
@@ -53,7 +54,7 @@ returns-clause-starts c =
     let P = c.args.program.now in
     let s : State Proc = record { procs = procs_of P c.args.entries.now; chans = chans_of c.args.channels.now } in
     let p = (actor_place c.args.actor.now) in
-    let who = steps_there P s p (get s.procs p) refl c.requires.can in
+    let who = steps_there (play_of P) s p (get s.procs p) refl c.requires.can in
     let x = who.0 in
     let does = c.requires.event x who.1 in
     let children = joined_family P x c.args.block c.args.next does (order_of c.args.entries.now) c.family-family.result.first p (c.family-family.ensures.first P p x c.requires.actor who.1 c.requires.families) c.family-family.result.count (c.family-family.ensures.count P p x c.requires.actor who.1 ∙ kids_awaited x.phase) in
@@ -68,7 +69,7 @@ returns-clause-fits c =
     let P = c.args.program.now in
     let s : State Proc = record { procs = procs_of P c.args.entries.now; chans = chans_of c.args.channels.now } in
     let p = (actor_place c.args.actor.now) in
-    let who = steps_there P s p (get s.procs p) refl c.requires.can in
+    let who = steps_there (play_of P) s p (get s.procs p) refl c.requires.can in
     let x = who.0 in
     let does = c.requires.event x who.1 in
     let children = joined_family P x c.args.block c.args.next does (order_of c.args.entries.now) c.family-family.result.first p (c.family-family.ensures.first P p x c.requires.actor who.1 c.requires.families) c.family-family.result.count (c.family-family.ensures.count P p x c.requires.actor who.1 ∙ kids_awaited x.phase) in
@@ -86,7 +87,7 @@ returns-clause-next c = λ but.
     let P = c.args.program.now in
     let s : State Proc = record { procs = procs_of P c.args.entries.now; chans = chans_of c.args.channels.now } in
     let p = (actor_place c.args.actor.now) in
-    let who = steps_there P s p (get s.procs p) refl c.requires.can in
+    let who = steps_there (play_of P) s p (get s.procs p) refl c.requires.can in
     let does = c.requires.event who.0 who.1 in
     let children = joined_family P who.0 c.args.block c.args.next does (order_of c.args.entries.now) c.family-family.result.first p (c.family-family.ensures.first P p who.0 c.requires.actor who.1 c.requires.families) c.family-family.result.count (c.family-family.ensures.count P p who.0 c.requires.actor who.1 ∙ kids_awaited who.0.phase) in
     let kids = gathered_kids P s p who.0 who.1 c.args.ports.now c.args.block c.args.next does (owned_reached P s c.requires.fits.reached) c.requires.fits.held c.requires.can c.family-family.result.count (c.family-family.ensures.count P p who.0 c.requires.actor who.1 ∙ kids_awaited who.0.phase) in
@@ -103,7 +104,7 @@ returns-clause-families c =
     let P = c.args.program.now in
     let s : State Proc = record { procs = procs_of P c.args.entries.now; chans = chans_of c.args.channels.now } in
     let p = (actor_place c.args.actor.now) in
-    let who = steps_there P s p (get s.procs p) refl c.requires.can in
+    let who = steps_there (play_of P) s p (get s.procs p) refl c.requires.can in
     let x = who.0 in
     let does = c.requires.event x who.1 in
     let children = joined_family P x c.args.block c.args.next does (order_of c.args.entries.now) c.family-family.result.first p (c.family-family.ensures.first P p x c.requires.actor who.1 c.requires.families) c.family-family.result.count (c.family-family.ensures.count P p x c.requires.actor who.1 ∙ kids_awaited x.phase) in

@@ -20,10 +20,10 @@ returns-then-branch-clause-waking g c = IfOk-weaker c.put.result _ _ (λ u is. w
 
 pub returns-then-branch-clause-noted : goal.returns-then-branch-clause-noted
 returns-then-branch-clause-noted g c =
-    let P = c.args.program.now in
+    let P = g.N.Net.play c.args.program.now in
     let can : c.in_ok-can_step.field-0 ≡ true = search rules in
     IfOk-weaker c.put.result _ _ (λ u is q x at here unable.
-    absurd (cc (sym unable ∙ who_is P (g.N.Net.state P c.args.net.now) (g.N.Net.order c.args.net.now) c.args.number (sym c.in_ok-can_step.ensures ∙ can) q at))) c.put.ensures.numbers
+    absurd (cc (sym unable ∙ who_is P (g.N.Net.state c.args.program.now c.args.net.now) (g.N.Net.order c.args.net.now) c.args.number (sym c.in_ok-can_step.ensures ∙ can) q at))) c.put.ensures.numbers
 
 pub note-requires-clause-waits : goal.note-requires-clause-waits
 note-requires-clause-waits g c =

@@ -2,9 +2,8 @@ use Rattle.std.proofs.Common.{List, ◌≡◌, ◌≢◌, ◌∷◌, ◌++◌, �
 use Rattle.std.specs.FinMap.{get}
 use Rattle.fm_net.specs.Machine.{Place, State}
 use Rattle.fm_net.specs.Owned.{IsOwned}
-use Rattle.fm_mean.specs.Process.{Proc}
-use Rattle.fm_mean.specs.Steps.{language, step}
 use Rattle.std.specs.Prelude.{is_some, slice_get, slice_index_or, not, ◌==◌, ◌&&◌}
+use Rattle.fm_run.specs.Plays.{language, step}
 use Rattle.fm_run.specs.Noted.{AreNotedBut, IsNoted, OwnOrLeft}
 use Rattle.fm_run.specs.Orders.{can_at}
 use Rattle.fm_run.proofs.Queueing.{AreAsked, able_more, all_asked, asked_step, front_same, front_stays, front_then, none_asked, once_more}
@@ -26,20 +25,20 @@ candidates-init g c = record {
 }
 
 pub ask-requires-clause-owned : goal.ask-requires-clause-owned
-ask-requires-clause-owned g c = subst (IsOwned (language c.args.program.now)) (sym c.candidates.invariant.state) c.requires.owned
+ask-requires-clause-owned g c = subst (IsOwned (language (g.N.Net.play c.args.program.now))) (sym c.candidates.invariant.state) c.requires.owned
 
 pub candidates-preserved : goal.candidates-preserved
 candidates-preserved g c =
-    let P = c.args.program.now in
-    let s = g.N.Net.state P c.args.net.now in
+    let P = g.N.Net.play c.args.program.now in
+    let s = g.N.Net.state c.args.program.now c.args.net.now in
     let ps = g.N.Net.order c.args.net.now in
     let can = can_at P s ps in
     let cs = c.args.candidates.now in
     let i = c.candidates.number-index in
     let before = c.candidates.invariant in
     let marks = c.candidates.able.marks.items in
-    let is = subst (λ (u : State Proc). c.ask.new.able.numbers.items ≡ c.candidates.able.numbers.items ++ cond ((not (slice_index_or cs i 0 == c.args.own) && not (slice_index_or marks (slice_index_or cs i 0) false)) && can_at P u ps (slice_index_or cs i 0)) (slice_index_or cs i 0 ∷ []) []) before.state
-    (subst (λ (rs : List Place). c.ask.new.able.numbers.items ≡ c.candidates.able.numbers.items ++ cond ((not (slice_index_or cs i 0 == c.args.own) && not (slice_index_or marks (slice_index_or cs i 0) false)) && can_at P (g.N.Net.state P c.candidates.net) rs (slice_index_or cs i 0)) (slice_index_or cs i 0 ∷ []) []) before.order c.in_ok-ask.ensures.queue) in
+    let is = subst (λ (u : State P.Proc). c.ask.new.able.numbers.items ≡ c.candidates.able.numbers.items ++ cond ((not (slice_index_or cs i 0 == c.args.own) && not (slice_index_or marks (slice_index_or cs i 0) false)) && can_at P u ps (slice_index_or cs i 0)) (slice_index_or cs i 0 ∷ []) []) before.state
+    (subst (λ (rs : List Place). c.ask.new.able.numbers.items ≡ c.candidates.able.numbers.items ++ cond ((not (slice_index_or cs i 0 == c.args.own) && not (slice_index_or marks (slice_index_or cs i 0) false)) && can_at P (g.N.Net.state c.args.program.now c.candidates.net) rs (slice_index_or cs i 0)) (slice_index_or cs i 0 ∷ []) []) before.order c.in_ok-ask.ensures.queue) in
     record {
       marks = c.in_ok-ask.ensures.marks (length ps) before.marks;
       order = c.in_ok-ask.ensures.order ∙ before.order;
@@ -53,25 +52,25 @@ candidates-preserved g c =
       noted = λ all noted.
           noted_more P s ps c.args.own cs i (omega arith) (g.N.Net.channels c.candidates.net) (g.N.Net.channels c.ask.new.net) c.in_ok-ask.ensures.waking (before.noted all noted)
           (ask_noted P s ps c.args.own cs i (omega arith) c.candidates.able.numbers.items marks before.marks (before.able all) (g.N.Net.channels c.ask.new.net)
-          (subst (λ (u : State Proc). (slice_index_or cs i 0 ≢ c.args.own) → slice_index_or marks (slice_index_or cs i 0) false ≡ false → (q : Place) (x : Proc) → slice_get ps (slice_index_or cs i 0) ≡ Some q → get u.procs q ≡ Some x
+          (subst (λ (u : State P.Proc). (slice_index_or cs i 0 ≢ c.args.own) → slice_index_or marks (slice_index_or cs i 0) false ≡ false → (q : Place) (x : P.Proc) → slice_get ps (slice_index_or cs i 0) ≡ Some q → get u.procs q ≡ Some x
           → is_some (step P u q) ≡ false → IsNoted P (g.N.Net.channels c.ask.new.net) (slice_index_or cs i 0) x) before.state
-          (subst (λ (rs : List Place). (slice_index_or cs i 0 ≢ c.args.own) → slice_index_or marks (slice_index_or cs i 0) false ≡ false → (q : Place) (x : Proc) → slice_get rs (slice_index_or cs i 0) ≡ Some q → get (g.N.Net.state P c.candidates.net).procs q ≡ Some x
-          → is_some (step P (g.N.Net.state P c.candidates.net) q) ≡ false → IsNoted P (g.N.Net.channels c.ask.new.net) (slice_index_or cs i 0) x) before.order c.in_ok-ask.ensures.noted)));
+          (subst (λ (rs : List Place). (slice_index_or cs i 0 ≢ c.args.own) → slice_index_or marks (slice_index_or cs i 0) false ≡ false → (q : Place) (x : P.Proc) → slice_get rs (slice_index_or cs i 0) ≡ Some q → get (g.N.Net.state c.args.program.now c.candidates.net).procs q ≡ Some x
+          → is_some (step P (g.N.Net.state c.args.program.now c.candidates.net) q) ≡ false → IsNoted P (g.N.Net.channels c.ask.new.net) (slice_index_or cs i 0) x) before.order c.in_ok-ask.ensures.noted)));
     }
 
 pub returns-clause-queue : goal.returns-clause-queue
 returns-clause-queue g c = λ whole.
-    let P = c.args.program.now in
-    let s = g.N.Net.state P c.args.net.now in
+    let P = g.N.Net.play c.args.program.now in
+    let s = g.N.Net.state c.args.program.now c.args.net.now in
     let ps = g.N.Net.order c.args.net.now in
     let all : c.candidates.number-index ≡ length c.args.candidates.now = omega arith in
     all_asked (can_at P s ps) c.args.own c.args.able.now.numbers.items c.args.candidates.now c.requires.sorted whole c.candidates.able.numbers.items (subst (λ (i : ℕ). AreAsked (can_at P s ps) c.args.own c.args.able.now.numbers.items c.args.candidates.now i c.candidates.able.numbers.items) all (c.candidates.invariant.queue whole)) (length ps) (beyond P s ps)
 
 pub returns-clause-noted : goal.returns-clause-noted
 returns-clause-noted g c = λ all before.
-    let P = c.args.program.now in
+    let P = g.N.Net.play c.args.program.now in
     let every : c.candidates.number-index ≡ length c.args.candidates.now = omega arith in
-    subst (λ (i : ℕ). AreNotedBut P (g.N.Net.state P c.args.net.now) (g.N.Net.channels c.candidates.net) (g.N.Net.order c.args.net.now) (OwnOrLeft c.args.own c.args.candidates.now i)) every (c.candidates.invariant.noted all before)
+    subst (λ (i : ℕ). AreNotedBut P (g.N.Net.state c.args.program.now c.args.net.now) (g.N.Net.channels c.candidates.net) (g.N.Net.order c.args.net.now) (OwnOrLeft c.args.own c.args.candidates.now i)) every (c.candidates.invariant.noted all before)
 
 pub returns-in_err-ask-clause-history : goal.returns-in_err-ask-clause-history
 returns-in_err-ask-clause-history g c = c.ask.ensures.history ∙ c.candidates.invariant.history

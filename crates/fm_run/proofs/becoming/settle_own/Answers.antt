@@ -14,9 +14,9 @@ returns-then-branch-clause-waking g c = wakes_nobody (g.N.Net.channels c.args.ne
 
 pub returns-then-branch-clause-noted : goal.returns-then-branch-clause-noted
 returns-then-branch-clause-noted g c = λ q x at here unable.
-    let P = c.args.program.now in
+    let P = g.N.Net.play c.args.program.now in
     let can : c.in_ok-can_step.field-0 ≡ true = search rules in
-    absurd (cc (sym unable ∙ who_is P (g.N.Net.state P c.args.net.now) (g.N.Net.order c.args.net.now) c.args.own (sym c.in_ok-can_step.ensures ∙ can) q at))
+    absurd (cc (sym unable ∙ who_is P (g.N.Net.state c.args.program.now c.args.net.now) (g.N.Net.order c.args.net.now) c.args.own (sym c.in_ok-can_step.ensures ∙ can) q at))
 
 pub note-requires-clause-waits : goal.note-requires-clause-waits
 note-requires-clause-waits g c =

@@ -9,10 +9,10 @@ invariant-pieces g l =
     let stand = stand_at (g.N.Net.state l.program net) (g.N.Net.order net) l.player.able.numbers.items in
     record {
       sound : g.N.Net.IsSound l.program net;
-      played : IsPlayed l.program stand (g.N.Net.channels net) (g.N.Net.history net) l.player.parents.items l.player.able.marks.items l.player.used;
+      played : IsPlayed (g.N.Net.play l.program) stand (g.N.Net.channels net) (g.N.Net.history net) l.player.parents.items l.player.able.marks.items l.player.used;
       within : l.player.used ≤ l.turns;
-      front : IsFrontWithin l.program l.turns (g.N.Net.history net) (g.N.Net.order net);
-      followed : IsFollowed l.program l.slice l.choices (g.N.Net.history net) stand;
+      front : IsFrontWithin (g.N.Net.play l.program) l.turns (g.N.Net.history net) (g.N.Net.order net);
+      followed : IsFollowed (g.N.Net.play l.program) l.slice l.choices (g.N.Net.history net) stand;
     }
 
 abbrev pub decreases-pieces : goal.decreases-pieces

@@ -1,4 +1,5 @@
 use Rattle.std.proofs.Common.{◌≡◌, false, true, refl, sym, ◌∙◌, rules}
+use Rattle.fm_run.specs.Programs.{play_of}
 use Rattle.fm_run.proofs.Numbers.{among_is}
 use Rattle.fm_run.proofs.Playing.{known, known_place}
 use Rattle.fm_table.specs.Inside.{stand_in}
@@ -8,7 +9,7 @@ use Rattle.fm_table.proofs.making.make_steps.Goals as goal
 pub is_able-requires : goal.is_able-requires
 is_able-requires c =
     let a = stand_in c.args.program.now c.args.player.now in
-    (_, c.requires.live.played.numbered.marked, λ n h. known c.args.program.now a.state a.places n (c.requires.live.played.able.within n h))
+    (_, c.requires.live.played.numbered.marked, λ n h. known (play_of c.args.program.now) a.state a.places n (c.requires.live.played.able.within n h))
 
 pub returns-then-not-is_able-clause-none : goal.returns-then-not-is_able-clause-none
 returns-then-not-is_able-clause-none c = λ e.
@@ -40,7 +41,7 @@ returns-in-Slice-clause-live c =
     let e = c.play.ensures in
     let some : c.is_able.result ≡ true = search rules in
     let among = among_is old.able.numbers.items n (sym c.is_able.ensures ∙ some) in
-    steps_live P old new n c.play.result c.requires.live (all_made P old new n c.play.result (known_place P a.state a.places n (c.requires.live.played.able.within n among)) e.entry e.able e.some_steps e.front e.used) e.sound e.played
+    steps_live P old new n c.play.result c.requires.live (all_made P old new n c.play.result (known_place (play_of P) a.state a.places n (c.requires.live.played.able.within n among)) e.entry e.able e.some_steps e.front e.used) e.sound e.played
 
 pub returns-in-Slice-clause-made : goal.returns-in-Slice-clause-made
 returns-in-Slice-clause-made c =
@@ -52,7 +53,7 @@ returns-in-Slice-clause-made c =
     let e = c.play.ensures in
     let some : c.is_able.result ≡ true = search rules in
     let among = among_is old.able.numbers.items n (sym c.is_able.ensures ∙ some) in
-    made_some P old new n c.play.result (all_made P old new n c.play.result (known_place P a.state a.places n (c.requires.live.played.able.within n among)) e.entry e.able e.some_steps e.front e.used)
+    made_some P old new n c.play.result (all_made P old new n c.play.result (known_place (play_of P) a.state a.places n (c.requires.live.played.able.within n among)) e.entry e.able e.some_steps e.front e.used)
 
 pub returns-in-Steps-clause-live : goal.returns-in-Steps-clause-live
 returns-in-Steps-clause-live c =
@@ -64,7 +65,7 @@ returns-in-Steps-clause-live c =
     let e = c.play_steps.ensures in
     let some : c.is_able.result ≡ true = search rules in
     let among = among_is old.able.numbers.items n (sym c.is_able.ensures ∙ some) in
-    steps_live P old new n c.play_steps.result c.requires.live (all_made P old new n c.play_steps.result (known_place P a.state a.places n (c.requires.live.played.able.within n among)) e.entry e.able e.some_steps e.front e.used) e.sound e.played
+    steps_live P old new n c.play_steps.result c.requires.live (all_made P old new n c.play_steps.result (known_place (play_of P) a.state a.places n (c.requires.live.played.able.within n among)) e.entry e.able e.some_steps e.front e.used) e.sound e.played
 
 pub returns-in-Steps-clause-made : goal.returns-in-Steps-clause-made
 returns-in-Steps-clause-made c =
@@ -76,4 +77,4 @@ returns-in-Steps-clause-made c =
     let e = c.play_steps.ensures in
     let some : c.is_able.result ≡ true = search rules in
     let among = among_is old.able.numbers.items n (sym c.is_able.ensures ∙ some) in
-    made_some P old new n c.play_steps.result (all_made P old new n c.play_steps.result (known_place P a.state a.places n (c.requires.live.played.able.within n among)) e.entry e.able e.some_steps e.front e.used)
+    made_some P old new n c.play_steps.result (all_made P old new n c.play_steps.result (known_place (play_of P) a.state a.places n (c.requires.live.played.able.within n among)) e.entry e.able e.some_steps e.front e.used)

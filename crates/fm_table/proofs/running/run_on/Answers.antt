@@ -2,7 +2,7 @@ use Rattle.std.proofs.Common.{◌≡◌, ◌<◌, Bool, true, refl, sym, subst, 
 use Rattle.std.proofs.lemmas.Result.{IfOk-weaker}
 use Rattle.fm_base.specs.declared.schedule.Setup.{Setup}
 use Rattle.fm_rules.specs.declared.program.Program.{Program}
-use Rattle.fm_run.specs.Runs.{IsRun}
+use Rattle.fm_run.specs.Programs.{IsRun}
 use Rattle.fm_table.proofs.Runs.{left_less, left_of, stays_on}
 use Rattle.fm_table.proofs.running.run_on.Goals as goal
 

@@ -5,7 +5,7 @@ use Rattle.fm_base.specs.declared.schedule.Setup.{Setup}
 use Rattle.fm_base.specs.declared.schedule.Turn.{Turn}
 use Rattle.fm_rules.specs.declared.program.Program.{Program}
 use Rattle.fm_run.specs.Orders.{chosen}
-use Rattle.fm_run.specs.Runs.{Follows, IsRun}
+use Rattle.fm_run.specs.Programs.{Follows, IsRun}
 use Rattle.fm_table.specs.Told.{Told, told_at}
 use Rattle.fm_table.proofs.Runs.{left_less, left_of, turn_keeps}
 use Rattle.fm_table.proofs.running.run_table.Goals as goal

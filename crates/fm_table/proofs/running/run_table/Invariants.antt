@@ -1,5 +1,5 @@
 use Rattle.std.proofs.Common.{◌≡◌, false}
-use Rattle.fm_run.specs.Runs.{Follows}
+use Rattle.fm_run.specs.Programs.{Follows}
 use Rattle.fm_table.specs.Told.{IsIdle, told_at}
 use Rattle.fm_table.proofs.Runs.{left_of}
 use Rattle.fm_table.proofs.running.run_table.Given as goal

@@ -1,7 +1,7 @@
 use Rattle.std.proofs.Common.{subst}
 use Rattle.fm_base.specs.declared.schedule.Setup.{Setup}
 use Rattle.fm_rules.specs.declared.program.Program.{Program}
-use Rattle.fm_run.specs.Runs.{IsRun}
+use Rattle.fm_run.specs.Programs.{IsRun}
 use Rattle.fmc.specs.Reply.{IsFairlySpent}
 use Rattle.fmc.proofs.AnswerLaws.{both_ok, turned_fair}
 use Rattle.fmc.proofs.playing.run_by_workers.Goals as goal

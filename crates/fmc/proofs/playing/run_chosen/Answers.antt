@@ -1,6 +1,6 @@
 use Rattle.std.proofs.Common.{subst}
 use Rattle.fm_rules.specs.declared.program.Program.{Program}
-use Rattle.fm_run.specs.Runs.{Follows, IsRun}
+use Rattle.fm_run.specs.Programs.{Follows, IsRun}
 use Rattle.fmc.proofs.playing.run_chosen.Goals as goal
 
 pub returns-clause-run : goal.returns-clause-run

@@ -1,6 +1,6 @@
 use Rattle.std.proofs.Common.{subst}
 use Rattle.fm_rules.specs.declared.program.Program.{Program}
-use Rattle.fm_run.specs.Runs.{IsRun}
+use Rattle.fm_run.specs.Programs.{IsRun}
 use Rattle.fmc.specs.Reply.{IsFairlySpent}
 use Rattle.fmc.proofs.playing.run_source.Goals as goal
 

@@ -3,8 +3,7 @@ use Rattle.std.specs.Prelude.{slice_get}
 use Rattle.std.proofs.lemmas.Option.{get_or_from_slice_get}
 use Rattle.fm_net.specs.Machine.{Place}
 use Rattle.fm_net.specs.Starts.{child_places}
-use Rattle.fm_run.specs.Orders.{can_in}
-use Rattle.fm_run.specs.Pieces.{IsPiece}
+use Rattle.fm_run.specs.Programs.{IsPiece, can_in}
 use Rattle.fm_procs.specs.Readings.{actor_place, order_of, state_of}
 use Rattle.fm_outcome_code.specs.Played.{played}
 use Rattle.fm_outcome_code.proofs.Standing.{steps_alike}

@@ -3,8 +3,7 @@ use Rattle.std.specs.Prelude.{slice_get}
 use Rattle.std.proofs.lemmas.Option.{get_or_from_slice_get}
 use Rattle.fm_net.specs.Machine.{Place}
 use Rattle.fm_net.specs.Starts.{child_places}
-use Rattle.fm_run.specs.Orders.{can_in}
-use Rattle.fm_run.specs.Pieces.{IsPiece}
+use Rattle.fm_run.specs.Programs.{IsPiece, can_in, play_of}
 use Rattle.fm_run.proofs.Playing.{known_place}
 use Rattle.fm_plain_net.specs.Readings.{actor_place, order_of, state_of}
 use Rattle.fm_plain_net.proofs.Sound.{new_reached}
@@ -14,7 +13,7 @@ pub actor-requires : goal.actor-requires
 actor-requires c =
     let P = c.args.program.now in
     let trees = c.args.self.now.trees in
-    known_place P (state_of P trees) (order_of trees.entries) c.args.number c.requires.able
+    known_place (play_of P) (state_of P trees) (order_of trees.entries) c.args.number c.requires.able
 
 pub make_piece-requires-clause-told : goal.make_piece-requires-clause-told
 make_piece-requires-clause-told c = c.requires.sound.told

@@ -16,7 +16,7 @@ use Rattle.fm_plain_net.specs.Goes.{MeetsIt}
 use Rattle.fm_plain_net.specs.Held.{Fits, MayDrop}
 use Rattle.fm_run.specs.Awaited.{awaits}
 use Rattle.fm_plain_net.specs.Readings.{tree_of}
-use Rattle.fm_run.specs.Pieces.{has_local}
+use Rattle.fm_run.specs.Programs.{has_local}
 use Rattle.fm_plain_net.proofs.Advancing.{event_advances, lets_advances, lets_drop, more_advances}
 use Rattle.fm_plain_net.proofs.Awaiting.{under_way}
 use Rattle.fm_plain_net.proofs.Performing.{dropped_there}

@@ -4,7 +4,7 @@ use Rattle.fm_mean.specs.Actions.{Meets}
 use Rattle.fm_plain.specs.Events.{event_by}
 use Rattle.fm_chan.specs.Received.{pops_at}
 use Rattle.fm_plain_net.specs.Readings.{tree_of}
-use Rattle.fm_run.proofs.Steps.{owned_reached}
+use Rattle.fm_run.proofs.Programs.{owned_reached}
 use Rattle.fm_plain_net.proofs.Nexts.{free_steps, receive_kept, receive_steps}
 use Rattle.fm_plain_net.proofs.Waited.{joins_block}
 use Rattle.fm_plain_net.proofs.Waiting.{begin_free, end_free, fail_free, make_free, probe_free, send_free}

@@ -12,7 +12,7 @@ use Rattle.fm_run.specs.Awaited.{awaits}
 use Rattle.fm_plain_net.specs.Readings.{tree_of}
 use Rattle.fm_plain_net.proofs.Doing.{can_perform, joins_none}
 use Rattle.fm_plain_net.proofs.Performed.{steps_to}
-use Rattle.fm_run.proofs.Steps.{owned_reached}
+use Rattle.fm_run.proofs.Programs.{owned_reached}
 use Rattle.fm_plain_net.proofs.processes.TreeProcProc.perform.Goals as goal
 
 none_from : {A : Type 0} (o : Option A) → is_some o ≡ false → o ≡ None

@@ -1,5 +1,5 @@
 use Rattle.fm_plain_net.proofs.Nexts.{next_waits}
-use Rattle.fm_run.proofs.Steps.{owned_reached}
+use Rattle.fm_run.proofs.Programs.{owned_reached}
 use Rattle.fm_plain_net.proofs.processes.TreeProcProc.waiting.Goals as goal
 
 pub returns : goal.returns

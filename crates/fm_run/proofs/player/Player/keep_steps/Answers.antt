@@ -20,7 +20,7 @@ keep_piece-requires-clause-joins g c = λ e. absurd (cc (sym e))
 
 pub pieces-init : goal.pieces-init
 pieces-init g c =
-    let P = c.args.program.now in
+    let P = g.N.Net.play c.args.program.now in
     let old = c.args.self.now in
     let now = c.keep_piece.new.self in
     let made = c.in_ok-done.ensures.made in
@@ -29,7 +29,7 @@ pieces-init g c =
       kept = c.in_ok-done.ensures.kept;
       used = c.in_ok-done.ensures.used;
       entry =
-          entry_of P c.args.number c.in_ok-done.done (g.N.Net.state P old.net) (g.N.Net.state P now.net) (g.N.Net.order old.net) (g.N.Net.order now.net) (g.N.Net.history old.net) (g.N.Net.history now.net)
+          entry_of P c.args.number c.in_ok-done.done (g.N.Net.state c.args.program.now old.net) (g.N.Net.state c.args.program.now now.net) (g.N.Net.order old.net) (g.N.Net.order now.net) (g.N.Net.history old.net) (g.N.Net.history now.net)
           made c.in_ok-done.ensures.history;
       some = c.in_ok-done.ensures.some_steps;
       few = c.in_ok-done.ensures.full.within;
@@ -41,9 +41,9 @@ pieces-init g c =
 
 pub can_step-requires-clause-owned : goal.can_step-requires-clause-owned
 can_step-requires-clause-owned g c =
-    let P = c.args.program.now in
+    let P = g.N.Net.play c.args.program.now in
     let now = c.pieces.self in
-    kept_owned P (g.N.Net.history now.net) (g.N.Net.order now.net) (g.N.Net.state P now.net) now.used c.pieces.invariant.kept
+    kept_owned P (g.met.N.Net.lawful c.args.program.now now.net c.pieces.invariant.sound) (g.N.Net.history now.net) (g.N.Net.order now.net) (g.N.Net.state c.args.program.now now.net) now.used c.pieces.invariant.kept
 
 pub keep_piece-requires-in-pieces-clause-able : goal.keep_piece-requires-in-pieces-clause-able
 keep_piece-requires-in-pieces-clause-able g c =
@@ -60,19 +60,19 @@ keep_piece-requires-in-pieces-clause-joins g c = λ e. record {
 
 pub pieces-preserved : goal.pieces-preserved
 pieces-preserved g c =
-    let P = c.args.program.now in
+    let P = g.N.Net.play c.args.program.now in
     let n = c.args.number in
     let old = c.args.self.now in
     let mid = c.pieces.self in
     let now = c.keep_piece-in-pieces.new.self in
     let made = c.in_ok-more.ensures.made in
-    let who = stands_at P (g.N.Net.state P old.net) (g.N.Net.order old.net) n c.requires.able in
+    let who = stands_at P (g.N.Net.state c.args.program.now old.net) (g.N.Net.order old.net) n c.requires.able in
     record {
       sound = c.in_ok-more.ensures.sound;
       kept = c.in_ok-more.ensures.kept;
       used = omega (arith, c.in_ok-more.ensures.used, c.pieces.invariant.used);
       entry =
-          entry_joined P n c.pieces.done c.in_ok-more.more (slice_index_or (g.N.Net.order old.net) n []) (g.N.Net.state P old.net) (g.N.Net.state P mid.net) (g.N.Net.state P now.net) (g.N.Net.order old.net) (g.N.Net.order mid.net) (g.N.Net.order now.net)
+          entry_joined P n c.pieces.done c.in_ok-more.more (slice_index_or (g.N.Net.order old.net) n []) (g.N.Net.state c.args.program.now old.net) (g.N.Net.state c.args.program.now mid.net) (g.N.Net.state c.args.program.now now.net) (g.N.Net.order old.net) (g.N.Net.order mid.net) (g.N.Net.order now.net)
           (g.N.Net.history old.net) (g.N.Net.history mid.net) (g.N.Net.history now.net) who c.pieces.invariant.entry made c.in_ok-more.ensures.history;
       some = omega (arith, c.pieces.invariant.some);
       few = let low = c.in_ok-more.ensures.full.within in omega (arith, low);

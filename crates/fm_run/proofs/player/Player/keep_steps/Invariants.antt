@@ -10,12 +10,12 @@ abbrev pub invariant-pieces : goal.invariant-pieces
 invariant-pieces g l =
     let old = l.fn.self in
     let now = l.self in
-    let P = l.program in
+    let P = g.N.Net.play l.program in
     record {
-      sound : g.N.Net.IsSound P now.net;
-      kept : IsPlayedBy P (g.N.Net.history now.net) (g.N.Net.order now.net) (g.N.Net.state P now.net) now.used;
+      sound : g.N.Net.IsSound l.program now.net;
+      kept : IsPlayedBy P (g.N.Net.history now.net) (g.N.Net.order now.net) (g.N.Net.state l.program now.net) now.used;
       used : old.used < now.used;
-      entry : IsEntry P (turn_of l.number l.done) (g.N.Net.state P old.net) (g.N.Net.order old.net) (g.N.Net.history old.net) (g.N.Net.state P now.net) (g.N.Net.order now.net) (g.N.Net.history now.net);
+      entry : IsEntry P (turn_of l.number l.done) (g.N.Net.state l.program old.net) (g.N.Net.order old.net) (g.N.Net.history old.net) (g.N.Net.state l.program now.net) (g.N.Net.order now.net) (g.N.Net.history now.net);
       some : 1 ≤ l.done;
       few : l.done ≤ l.steps;
       able : now.able.numbers.items ≡ old.able.numbers.items;

@@ -2,7 +2,6 @@ use Rattle.std.proofs.Common.{◌<◌, ℕ, inr, ap, ap₂, sym, subst, ◌∙�
 use Rattle.std.specs.Prelude.{List}
 use Rattle.fm_base.specs.declared.schedule.Turn.{Turn}
 use Rattle.fm_net.specs.Machine.{Place, State}
-use Rattle.fm_mean.specs.Process.{Proc}
 use Rattle.fm_run.specs.Orders.{Among, KeepsFront, ready_after}
 use Rattle.fm_run.specs.Entries.{turn_of}
 use Rattle.fm_run.specs.Runs.{AreAble, IsEntry}
@@ -18,31 +17,31 @@ keep_piece-requires-clause-able g c = c.requires.played.able.within c.args.numbe
 pub keep_piece-requires-clause-within : goal.keep_piece-requires-clause-within
 keep_piece-requires-clause-within g c = λ n h.
     let old = c.args.self.now in
-    known c.args.program.now (g.N.Net.state c.args.program.now old.net) (g.N.Net.order old.net) n (c.requires.played.able.within n h)
+    known (g.N.Net.play c.args.program.now) (g.N.Net.state c.args.program.now old.net) (g.N.Net.order old.net) n (c.requires.played.able.within n h)
 
 pub keep_piece-requires-clause-joins : goal.keep_piece-requires-clause-joins
 keep_piece-requires-clause-joins g c = λ e. absurd (cc (sym e))
 
 pub serve-requires-clause-moved : goal.serve-requires-clause-moved
 serve-requires-clause-moved g c =
-    let P = c.args.program.now in
+    let P = g.N.Net.play c.args.program.now in
     let old = c.args.self.now in
     let mid = c.keep_piece.new.self in
     let able = c.in_ok-steps.ensures.able in
     record {
-      state = g.N.Net.state P old.net;
+      state = g.N.Net.state c.args.program.now old.net;
       places = g.N.Net.order old.net;
       history = g.N.Net.history old.net;
       spent = old.used;
       old = g.N.Net.channels old.net;
       steps = c.in_ok-steps.steps;
       kept = c.requires.played.history;
-      exact = subst (AreAble P (g.N.Net.state P old.net) (g.N.Net.order old.net)) (sym able) c.requires.played.able;
+      exact = subst (AreAble P (g.N.Net.state c.args.program.now old.net) (g.N.Net.order old.net)) (sym able) c.requires.played.able;
       among = subst (Among c.args.number) (sym able) c.requires.able;
       noted = c.requires.played.noted;
-      old_chans = g.met.N.Net.channels_are P old.net c.requires.sound;
+      old_chans = g.met.N.Net.channels_are c.args.program.now old.net c.requires.sound;
       entry =
-          entry_of P c.args.number c.in_ok-steps.steps (g.N.Net.state P old.net) (g.N.Net.state P mid.net) (g.N.Net.order old.net) (g.N.Net.order mid.net) (g.N.Net.history old.net) (g.N.Net.history mid.net)
+          entry_of P c.args.number c.in_ok-steps.steps (g.N.Net.state c.args.program.now old.net) (g.N.Net.state c.args.program.now mid.net) (g.N.Net.order old.net) (g.N.Net.order mid.net) (g.N.Net.history old.net) (g.N.Net.history mid.net)
           c.in_ok-steps.ensures.made c.in_ok-steps.ensures.history;
       kept_later = c.in_ok-steps.ensures.kept;
       waking = c.in_ok-steps.ensures.waking;
@@ -55,34 +54,34 @@ returns-clause-used g c = subst (λ n. c.args.self.now.used < n) (sym c.in_ok-se
 
 pub returns-clause-front : goal.returns-clause-front
 returns-clause-front g c = λ turns low.
-    let P = c.args.program.now in
+    let P = g.N.Net.play c.args.program.now in
     let old = c.args.self.now in
     let mid = c.keep_piece.new.self in
     let later = c.serve.new.self in
-    front_more P (g.N.Net.history old.net) (g.N.Net.order old.net) (g.N.Net.state P old.net) old.used c.requires.played.history (turn_of c.args.number c.in_ok-steps.steps) _
+    front_more P (g.N.Net.history old.net) (g.N.Net.order old.net) (g.N.Net.state c.args.program.now old.net) old.used c.requires.played.history (turn_of c.args.number c.in_ok-steps.steps) _
     (g.N.Net.history later.net) (c.in_ok-serve.ensures.history ∙ c.in_ok-steps.ensures.history) (g.N.Net.order later.net) (c.in_ok-serve.ensures.order ∙ c.in_ok-steps.ensures.made.places_are) turns low
 
 pub returns-clause-entry : goal.returns-clause-entry
 returns-clause-entry g c =
-    let P = c.args.program.now in
+    let P = g.N.Net.play c.args.program.now in
     let old = c.args.self.now in
     let mid = c.keep_piece.new.self in
     let later = c.serve.new.self in
     let t = turn_of c.args.number c.in_ok-steps.steps in
-    let s = g.N.Net.state P old.net in
+    let s = g.N.Net.state c.args.program.now old.net in
     let ps = g.N.Net.order old.net in
     let hs = g.N.Net.history old.net in
-    subst (λ (ts : List Turn). IsEntry P t s ps hs (g.N.Net.state P later.net) (g.N.Net.order later.net) ts) (sym c.in_ok-serve.ensures.history)
-    (subst (λ (us : List Place). IsEntry P t s ps hs (g.N.Net.state P later.net) us (g.N.Net.history mid.net)) (sym c.in_ok-serve.ensures.order)
-    (subst (λ (u : State Proc). IsEntry P t s ps hs u (g.N.Net.order mid.net) (g.N.Net.history mid.net)) (sym c.in_ok-serve.ensures.state)
-    (entry_of P c.args.number c.in_ok-steps.steps s (g.N.Net.state P mid.net) ps (g.N.Net.order mid.net) hs (g.N.Net.history mid.net) c.in_ok-steps.ensures.made c.in_ok-steps.ensures.history)))
+    subst (λ (ts : List Turn). IsEntry P t s ps hs (g.N.Net.state c.args.program.now later.net) (g.N.Net.order later.net) ts) (sym c.in_ok-serve.ensures.history)
+    (subst (λ (us : List Place). IsEntry P t s ps hs (g.N.Net.state c.args.program.now later.net) us (g.N.Net.history mid.net)) (sym c.in_ok-serve.ensures.order)
+    (subst (λ (u : State P.Proc). IsEntry P t s ps hs u (g.N.Net.order mid.net) (g.N.Net.history mid.net)) (sym c.in_ok-serve.ensures.state)
+    (entry_of P c.args.number c.in_ok-steps.steps s (g.N.Net.state c.args.program.now mid.net) ps (g.N.Net.order mid.net) hs (g.N.Net.history mid.net) c.in_ok-steps.ensures.made c.in_ok-steps.ensures.history)))
 
 pub returns-clause-able : goal.returns-clause-able
 returns-clause-able g c =
-    let P = c.args.program.now in
+    let P = g.N.Net.play c.args.program.now in
     c.in_ok-serve.ensures.able
-    ∙ ap (λ (ns : List ℕ). ready_after P (g.N.Net.state P c.keep_piece.new.self.net) (g.N.Net.order c.keep_piece.new.self.net) ns c.args.number) c.in_ok-steps.ensures.able
-    ∙ ap₂ (λ (u : State Proc) (us : List Place). ready_after P u us c.args.self.now.able.numbers.items c.args.number) (sym c.in_ok-serve.ensures.state) (sym c.in_ok-serve.ensures.order)
+    ∙ ap (λ (ns : List ℕ). ready_after P (g.N.Net.state c.args.program.now c.keep_piece.new.self.net) (g.N.Net.order c.keep_piece.new.self.net) ns c.args.number) c.in_ok-steps.ensures.able
+    ∙ ap₂ (λ (u : State P.Proc) (us : List Place). ready_after P u us c.args.self.now.able.numbers.items c.args.number) (sym c.in_ok-serve.ensures.state) (sym c.in_ok-serve.ensures.order)
 
 pub returns-in_err-steps-clause-stays : goal.returns-in_err-steps-clause-stays
 returns-in_err-steps-clause-stays g c = on_err c.from_residual.result (entry_may c.args.number (g.N.Net.history c.args.self.now.net) (g.N.Net.history c.keep_piece.new.self.net) c.in_err-steps.ensures.stays)

@@ -1,6 +1,6 @@
 use Rattle.std.proofs.Common.{sym, subst, ap, ◌∙◌}
 use Rattle.std.specs.Prelude.{IfSome}
-use Rattle.fm_run.specs.Runs.{Stand}
+use Rattle.fm_run.specs.Programs.{Stand, play_of}
 use Rattle.fm_run.proofs.Numbers.{among_is}
 use Rattle.fm_run.proofs.Playing.{known}
 use Rattle.fm_table.specs.Inside.{AreShares, shares_of, stand_in, stand_kept}
@@ -13,7 +13,7 @@ is_able-requires c =
     let r = c.requires.kept in
     let live = r.1.live c.if-not-standing.false in
     let a = stand_in r.0 c.args.standing.now.player in
-    (_, live.played.numbered.marked, λ n h. known r.0 a.state a.places n (live.played.able.within n h))
+    (_, live.played.numbered.marked, λ n h. known (play_of r.0) a.state a.places n (live.played.able.within n h))
 
 pub worker_of_process-requires-clause-live : goal.worker_of_process-requires-clause-live
 worker_of_process-requires-clause-live c = let r = c.requires.kept in (r.0, r.1.live c.if-not-standing.false, r.2.nodes_are)

@@ -3,7 +3,7 @@ use Rattle.std.specs.declared.alloc.Global.{Global}
 use Rattle.std.specs.declared.sync.Arc.{Arc}
 use Rattle.fm_base.specs.declared.path.Path.{Path}
 use Rattle.fm_run.specs.Orders.{places_of}
-use Rattle.fm_run.specs.Runs.{Stand}
+use Rattle.fm_run.specs.Programs.{Stand}
 use Rattle.fm_table.specs.Inside.{stand_in}
 use Rattle.std.specs.Prelude.{◌++◌}
 use Rattle.fm_table.proofs.Standings.{first_live, live_standing}

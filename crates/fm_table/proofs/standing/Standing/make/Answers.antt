@@ -1,6 +1,6 @@
 use Rattle.std.proofs.Common.{◌≡◌, [], false, ap, refl, sym, append-nil, ◌∙◌, arith}
 use Rattle.fm_run.specs.Orders.{places_of}
-use Rattle.fm_run.specs.Runs.{Stand}
+use Rattle.fm_run.specs.Programs.{Stand}
 use Rattle.fm_table.specs.Inside.{IsAsItWas, stand_kept}
 use Rattle.fm_table.specs.declared.standing.Standing.{Standing}
 use Rattle.fm_table.proofs.Standings.{front_left, stand_same, standing_same}

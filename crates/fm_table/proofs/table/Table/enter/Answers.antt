@@ -2,8 +2,7 @@ use Rattle.std.proofs.Common.{◌≡◌, ◌≤◌, ◌-◌, ℕ, List, length, 
 use Rattle.std.specs.Prelude.{Ok, false}
 use Rattle.fm_rules.specs.declared.program.Program.{Program}
 use Rattle.fm_run.specs.Entries.{turn_of}
-use Rattle.fm_run.specs.Orders.{can_at}
-use Rattle.fm_run.specs.Runs.{Stand}
+use Rattle.fm_run.specs.Programs.{Stand, can_at}
 use Rattle.fm_table.specs.Inside.{AreBehind, EntersTo, HasEntered, HasShares, IsStanding, IsTable, MakesSo, outs_of, stand_kept, told_in}
 use Rattle.fm_table.specs.Told.{Out, Told, cost_of, stand_of}
 use Rattle.fm_table.proofs.Others.{table_entered}

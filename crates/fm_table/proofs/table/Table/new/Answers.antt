@@ -1,6 +1,6 @@
 use Rattle.std.proofs.Common.{◌≡◌, subst}
 use Rattle.fm_rules.specs.declared.program.Program.{Program}
-use Rattle.fm_run.specs.Runs.{first_stand}
+use Rattle.fm_run.specs.Programs.{first_stand}
 use Rattle.fm_table.specs.Inside.{IsStanding, stand_kept}
 use Rattle.fm_table.proofs.Sharing.{none_known}
 use Rattle.fm_table.proofs.Tables.{first_table, first_is}
