@@ -6,3 +6,4 @@ pub mod OneReplay
 pub mod Answer
 pub mod Calling
 pub mod Reply
+pub mod Compiled

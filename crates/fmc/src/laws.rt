@@ -1,4 +1,4 @@
-//! The answers of `replay` exclude each other.
+//! Laws of what is answered, beside its calls. Each function has an empty body or calls other laws: its contract is the law.
 
 ghost use Rattle.std.specs.Prelude.{◌≡◌, ◌≢◌, ℕ, Bool, true, List};
 ghost use Rattle.fm_base.specs.declared.schedule.Turn.{Turn};
@@ -7,6 +7,7 @@ ghost use Rattle.fm_words.specs.declared.command.Command.TheVariants as command;
 ghost use Rattle.fmc.specs.declared.answer.Exit.{Exit};
 ghost use Rattle.fmc.specs.declared.answer.Exit.TheVariants as exits;
 ghost use Rattle.fmc.specs.Answer.{Says};
+ghost use Rattle.fmc.specs.Compiled.{IsCompiledOf};
 ghost use Rattle.fmc.specs.Exits.{is_decided};
 ghost use Rattle.fmc.specs.OneReplay.{IsOneAnswer};
 
@@ -20,3 +21,9 @@ pub fn replay_has_one_answer()
     fm_front::one_verdict();
     fm_front::one_program();
 }
+
+/// What `compile` writes of a source is the text of the image of the source's program and its code. The image makes sense, and its
+/// code is the program's: what executes the one executes the other.
+pub fn compiled_makes_sense()
+    ensures { (source : List ℕ) (history : List Turn) (places : List Place) (text : List ℕ) → Says command.Compile source exits.Done history places text → IsCompiledOf source text }
+{}

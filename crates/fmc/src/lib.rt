@@ -15,5 +15,5 @@ mod top;
 
 pub use answer::{Exit, Ran};
 pub use call::{exit_of_call, words};
-pub use laws::replay_has_one_answer;
+pub use laws::{compiled_makes_sense, replay_has_one_answer};
 pub use top::{flow_excludes_deadlock, fmc, one_verdict, play_choices, replay_tells_the_run};

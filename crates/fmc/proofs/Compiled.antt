@@ -13,7 +13,7 @@ use Rattle.fm_verify.proofs.Makes.{makes_sense}
 use Rattle.fm_words.specs.declared.command.Command.TheVariants as command
 use Rattle.fmc.specs.declared.answer.Exit.TheVariants.{Done}
 use Rattle.fmc.specs.Answer.{Says}
-use Rattle.fmc_compiled.specs.Compiled.{IsCompiledOf}
+use Rattle.fmc.specs.Compiled.{IsCompiledOf}
 
 pub compiled : (b : List ℕ) (h : List Turn) (ps : List Place) (t : List ℕ) → Says command.Compile b Done h ps t → IsCompiledOf b t
 compiled b h ps t k =
