@@ -455,7 +455,7 @@ C     it.
     },
 ];
 
-/// The programs. A constant is proved anew wherever it is named; the table is named here alone.
+/// The programs.
 pub(crate) fn rows() -> &'static [Row] {
     &ROWS
 }

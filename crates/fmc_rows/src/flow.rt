@@ -516,7 +516,7 @@ const ROWS: [Row; 18] = [
     },
 ];
 
-/// The programs. A constant is proved anew wherever it is named; the table is named here alone.
+/// The programs.
 fn rows() -> &'static [Row] {
     &ROWS
 }

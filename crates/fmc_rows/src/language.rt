@@ -678,7 +678,7 @@ const MERGED: &[u8] = b"      PROGRAM MERGE
    20 END
 ";
 
-/// The programs. A constant is proved anew wherever it is named; the table is named here alone.
+/// The programs.
 pub(crate) fn rows() -> &'static [Row] {
     &ROWS
 }

@@ -534,7 +534,7 @@ const MERGERS: [Row; 7] = [
     },
 ];
 
-/// The programs that are run. A constant is proved anew wherever it is named; the table is named here alone.
+/// The programs that are run.
 pub(crate) fn run_rows() -> &'static [Row] {
     &RUNS
 }
