@@ -1,4 +1,4 @@
-use Rattle.std.proofs.Common.{◌≡◌, [], Some, refl, sym, ap, ◌∙◌, w64}
+use Rattle.std.proofs.Common.{◌≡◌, Some, refl, sym, ap, ◌∙◌, w64}
 use Rattle.std.proofs.lemmas.Int.{to_z-of_z}
 use Rattle.fm_base.specs.Channels.{Pop, channel_of}
 use Rattle.fm_finmap.specs.Changes.{adjust}
@@ -8,7 +8,7 @@ use Rattle.fm_chan.proofs.Returning.{taken_back}
 use Rattle.fm_proc_language.specs.Processes.{limits_of}
 use Rattle.fm_proc_language.specs.Slots.{in_slot}
 use Rattle.fm_proc_events.specs.Phases.{proc_of}
-use Rattle.fm_proc_events.proofs.Messages.{gets_message, meets_end, meets_excess, never_waits}
+use Rattle.fm_proc_events.proofs.Messages.{gets_message, meets_end, meets_excess}
 use Rattle.fm_proc_events.proofs.receiving.receive.Goals as goal
 
 pub returns-in-Exceeds-clause-performs : goal.returns-in-Exceeds-clause-performs
@@ -44,8 +44,8 @@ returns-in-Ok-clause-performs c =
     (record y { body = Some after; slots = slots }) (chans_of c.shed.new.channels) c.in-Message.message (sym c.in-Message.is ∙ c.next_message-got.ensures.got)
     c.as_slice.result.now c.as_slice.ensures after said.body slots said.slots c.in-Ok.field-0.drops.items said.drops refl c.shed.ensures.channels c.in-Ok.field-0.cost said.cost
 
-pub returns-clause-channels : goal.returns-clause-channels
-returns-clause-channels c =
+pub returns-in-Err-clause-channels : goal.returns-in-Err-clause-channels
+returns-in-Err-clause-channels c =
     let y = proc_of c.args.process.now in
     let x = c.in-Some.port.now in
     let limits = limits_of c.args.items.now in
