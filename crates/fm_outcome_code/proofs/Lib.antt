@@ -2,14 +2,8 @@ pub mod Standing
 pub mod Pieces
 pub mod Waiting
 pub mod Histories
-pub mod FirstProcess
 pub mod Sound
 pub mod Awaiting
-mod Needed
-mod Awaited
-mod Listed
-mod Holding
-mod Own
 pub mod Context
 pub mod Owned
 pub mod Elsewhere
@@ -37,3 +31,4 @@ pub mod Same
 pub mod Overlaid
 pub mod Kept
 pub mod Children
+pub mod FirstProcess

@@ -37,6 +37,8 @@ use Rattle.fm_gen.proofs.Beyond.{rests_alike}
 use Rattle.fm_gen.proofs.LineLaws.{tells_lines}
 use Rattle.fm_outcome_code.specs.Corresponds.{PhaseStands, BodyAlike, Corresponds, IsLive, first_variables}
 use Rattle.fm_outcome_code.specs.Here.{Here}
+use Rattle.fm_outcome_procs.specs.Shown as told
+use Rattle.fm_outcome_procs.specs.Shown.{own_frame}
 use Rattle.fm_outcome_code.specs.Shown as shown
 use Rattle.fm_outcome_code.specs.Shown.{outcome_by}
 use Rattle.fm_outcome_code.proofs.Asking.{needs_alike}
@@ -48,10 +50,10 @@ use Rattle.fm_outcome_code.proofs.Owned.{here_running, here_joining, holds_alike
 -- One process.
 
 module _ (p : Program) (y : CodeProc) (x : Proc) (c : Corresponds p y x) where
-  lines_same : (q : Place) → shown.lines_at (q, y) ≡ outcome.lines_at (q, x)
+  lines_same : (q : Place) → told.lines_at (q, y) ≡ outcome.lines_at (q, x)
   lines_same q = ap (map (λ line. record { path = q; bytes = line })) c.lines
 
-  fault_same : (q : Place) (h : mean.Phase) (k : code.Phase) → PhaseStands p (first_variables p x.execution.frames) h k → shown.fault_in q k ≡ outcome.fault_in q h
+  fault_same : (q : Place) (h : mean.Phase) (k : code.Phase) → PhaseStands p (first_variables p x.execution.frames) h k → told.fault_in q k ≡ outcome.fault_in q h
   fault_same q Running code.Running h = refl
   fault_same q Running (code.Joining block kids) h = absurd h
   fault_same q Running code.Ended h = absurd h
@@ -74,7 +76,7 @@ module _ (p : Program) (y : CodeProc) (x : Proc) (c : Corresponds p y x) where
   held_by None none = ap frames_ports (sym none)
   held_by (Some b) stands = holds_alike p y.slots x b stands
 
-  holdings_same : (q : Place) → shown.holdings_at (q, y) ≡ mean_holders.holdings_at (q, x)
+  holdings_same : (q : Place) → told.holdings_at (q, y) ≡ mean_holders.holdings_at (q, x)
   holdings_same q = λ i. flat_map (holding (cond (ended_same p y x c i) (starter q) q)) (held_by y.body c.body i)
 
 -- Variables.
@@ -88,7 +90,7 @@ module _ (p : Program) (slots : Slots) where
       ∙ (λ i. shown_of (variables_in (sym h.there i)) (sym h.stands.values i))
 
   own_same : (at : Statements) (begin : ProgramUnit → ℕ) (f : mean.Frame) (m : Frame) (fs : List mean.Frame) (ms : List Frame) → FrameStands p (port_in slots) begin f m → BelowStand p at (port_in slots) f m fs ms
-      → shown.own_variables p slots m ms ≡ outcome.own_variables p (f ∷ fs)
+      → shown.frame_shown p slots (own_frame m ms) ≡ outcome.own_variables p (f ∷ fs)
   own_same at begin f m [] [] h below = frame_same begin f m h
   own_same at begin f m [] (n ∷ ms) h below = absurd below
   own_same at begin f m (g ∷ fs) [] h below = absurd below
@@ -107,7 +109,7 @@ variables_same p (Some y) (Some x) c = body_same p y.slots x y.body c.body
 
 -- Ends.
 
-end_same : (p : Program) (v : Option CodeProc) (w : Option Proc) → BothOrNeither (Corresponds p) v w → shown.ended_at v ≡ outcome.ended_at w
+end_same : (p : Program) (v : Option CodeProc) (w : Option Proc) → BothOrNeither (Corresponds p) v w → told.ended_at v ≡ outcome.ended_at w
 end_same p None None c = refl
 end_same p None (Some x) c = absurd c
 end_same p (Some y) None c = absurd c
@@ -124,7 +126,7 @@ module _ (p : Program) (s : State Proc) (live : IsLive p s) (q : Place) (x : Pro
         ∙ ap outcome.line_in at
 
   abbrev LineThere : Option Body → code.Phase → Type 0
-  LineThere o k = (n : Need) → need_in (asks_by y k o) ≡ Some n → shown.line_in o ≡ outcome.line_at p x
+  LineThere o k = (n : Need) → need_in (asks_by y k o) ≡ Some n → told.line_in o ≡ outcome.line_at p x
 
   -- one that runs
   running_line : (b : Body) → y.body ≡ Some b → x.phase ≡ Running → (h : Here p live.typed.0 y x b) → (n : Need) → need_in (running_by y b (code_actions.action_of b)) ≡ Some n → line_of b ≡ outcome.line_at p x
@@ -164,7 +166,7 @@ module _ (p : Program) (s : State Proc) (live : IsLive p s) (q : Place) (x : Pro
   line_by (Some b) body (Faulted l f) phase code.Ended stand n needs = absurd stand
   line_by (Some b) body (Faulted l f) phase (code.Faulted line fault) stand n needs = absurd (cc needs)
 
-  line_same : (n : Need) → need_of y ≡ Some n → shown.line_in y.body ≡ outcome.line_at p x
+  line_same : (n : Need) → need_of y ≡ Some n → told.line_in y.body ≡ outcome.line_at p x
   line_same = line_by y.body refl x.phase refl y.phase c.phase
 
 -- States.
@@ -182,11 +184,11 @@ module _ (p : Program) (s : State Proc) (t : State CodeProc) (stands : StandsFor
   related : (q : Place) (y : CodeProc) (x : Proc) → get t.procs q ≡ Some y → get s.procs q ≡ Some x → Corresponds p y x
   related q y x is are = subst (λ v. BothOrNeither (Corresponds p) v (Some x)) is (subst (BothOrNeither (Corresponds p) (get t.procs q)) are (stands.procs q))
 
-  awaited_same : (q : Place) (b i n : ℕ) → shown.awaited t.procs q b i n ≡ outcome.awaited s.procs q b i n
+  awaited_same : (q : Place) (b i n : ℕ) → told.awaited t.procs q b i n ≡ outcome.awaited s.procs q b i n
   awaited_same q b i zero = refl
   awaited_same q b i (suc n) = λ j. cond (end_same p (get t.procs (child q b i)) (get s.procs (child q b i)) (stands.procs (child q b i)) j) (awaited_same q b (suc i) n j) (Some (child q b i))
 
-  waits_same : (q : Place) (o : Option Need) → shown.waits_by t.procs q o ≡ outcome.waits_by s.procs q o
+  waits_same : (q : Place) (o : Option Need) → told.waits_by t.procs q o ≡ outcome.waits_by s.procs q o
   waits_same q None = refl
   waits_same q (Some Nothing) = refl
   waits_same q (Some (Event c a)) = refl
@@ -197,29 +199,29 @@ module _ (p : Program) (s : State Proc) (t : State CodeProc) (stands : StandsFor
   waits_from q l o = map (λ at. record { path = q; line = record { 0 = l }; at = at }) (option_to_list o)
 
   -- where a process waits, its line is that of the other
-  wait_line : (q : Place) (o : Option Need) (l m : ℕ) → ((n : Need) → o ≡ Some n → l ≡ m) → waits_from q l (shown.waits_by t.procs q o) ≡ waits_from q m (shown.waits_by t.procs q o)
+  wait_line : (q : Place) (o : Option Need) (l m : ℕ) → ((n : Need) → o ≡ Some n → l ≡ m) → waits_from q l (told.waits_by t.procs q o) ≡ waits_from q m (told.waits_by t.procs q o)
   wait_line q None l m same = refl
-  wait_line q (Some n) l m same = ap (λ k. waits_from q k (shown.waits_by t.procs q (Some n))) (same n refl)
+  wait_line q (Some n) l m same = ap (λ k. waits_from q k (told.waits_by t.procs q (Some n))) (same n refl)
 
-  wait_same : (q : Place) (y : CodeProc) (x : Proc) → get t.procs q ≡ Some y → get s.procs q ≡ Some x → shown.wait_at t.procs (q, y) ≡ outcome.wait_at p s.procs (q, x)
+  wait_same : (q : Place) (y : CodeProc) (x : Proc) → get t.procs q ≡ Some y → get s.procs q ≡ Some x → told.wait_at t.procs (q, y) ≡ outcome.wait_at p s.procs (q, x)
   wait_same q y x is are =
       let c = related q y x is are in
-      wait_line q (need_of y) (shown.line_in y.body) (outcome.line_at p x) (line_same p s stands.live q x are y c)
-      ∙ ap (waits_from q (outcome.line_at p x)) (ap (shown.waits_by t.procs q) (needs_alike p s stands.live q x y are c) ∙ waits_same q (outcome.need_of p x))
+      wait_line q (need_of y) (told.line_in y.body) (outcome.line_at p x) (line_same p s stands.live q x are y c)
+      ∙ ap (waits_from q (outcome.line_at p x)) (ap (told.waits_by t.procs q) (needs_alike p s stands.live q x y are c) ∙ waits_same q (outcome.need_of p x))
 
-  all_lines : flat_map shown.lines_at (entries t.procs) ≡ flat_map outcome.lines_at (entries s.procs)
-  all_lines = lists_alike path_order t.procs s.procs there shown.lines_at outcome.lines_at (λ q y x is are. lines_same p y x (related q y x is are) q)
+  all_lines : flat_map told.lines_at (entries t.procs) ≡ flat_map outcome.lines_at (entries s.procs)
+  all_lines = lists_alike path_order t.procs s.procs there told.lines_at outcome.lines_at (λ q y x is are. lines_same p y x (related q y x is are) q)
 
-  all_faults : flat_map shown.fault_at (entries t.procs) ≡ flat_map outcome.fault_at (entries s.procs)
+  all_faults : flat_map told.fault_at (entries t.procs) ≡ flat_map outcome.fault_at (entries s.procs)
   all_faults =
-      lists_alike path_order t.procs s.procs there shown.fault_at outcome.fault_at
+      lists_alike path_order t.procs s.procs there told.fault_at outcome.fault_at
       (λ q y x is are. let c = related q y x is are in fault_same p y x c q x.phase y.phase c.phase)
 
-  all_waits : flat_map (shown.wait_at t.procs) (entries t.procs) ≡ flat_map (outcome.wait_at p s.procs) (entries s.procs)
-  all_waits = lists_alike path_order t.procs s.procs there (shown.wait_at t.procs) (outcome.wait_at p s.procs) wait_same
+  all_waits : flat_map (told.wait_at t.procs) (entries t.procs) ≡ flat_map (outcome.wait_at p s.procs) (entries s.procs)
+  all_waits = lists_alike path_order t.procs s.procs there (told.wait_at t.procs) (outcome.wait_at p s.procs) wait_same
 
-  all_holdings : shown.holdings t.procs ≡ mean_holders.holdings s.procs
-  all_holdings = lists_alike path_order t.procs s.procs there shown.holdings_at mean_holders.holdings_at (λ q y x is are. holdings_same p y x (related q y x is are) q)
+  all_holdings : told.holdings t.procs ≡ mean_holders.holdings s.procs
+  all_holdings = lists_alike path_order t.procs s.procs there told.holdings_at mean_holders.holdings_at (λ q y x is are. holdings_same p y x (related q y x is are) q)
 
   pub shows_alike : (used : ℕ) → outcome_by p used t ≡ outcome.outcome_of p used s
   shows_alike used = λ i. record {

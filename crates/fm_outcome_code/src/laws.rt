@@ -1,7 +1,7 @@
 //! Processes of stack code do what those of the meaning do, and show the same: the language of stack code (`fm_proc_language`)
 //! corresponds to that of the program (`fm_mean`), for the code that `fm_gen` generates. `specs/Corresponds` tells when a process
 //! of the one corresponds to one of the other, `specs/SlotWords` how the words of frames, with ports in the slots of their process,
-//! stand for values, and `specs/Shown` what processes of stack code show. The functions here have empty bodies: their contracts
+//! stand for values, and `specs/Shown` what they show. The functions here have empty bodies: their contracts
 //! are laws.
 
 ghost use Rattle.std.specs.Prelude.{◌≡◌, ℕ, Some, is_some};

@@ -13,12 +13,9 @@
 
 mod compiled;
 mod first;
-mod gathering;
-mod holders;
 mod laws;
-mod rows;
+mod showing;
 mod variables;
-mod waits;
 
 pub use compiled::Compiled;
 pub use laws::{machines_are_alike, processes_are_alike};

@@ -1,21 +1,19 @@
 //! What the variables of main hold.
 
-ghost use Rattle.std.specs.Prelude.{◌≡◌, map, option_map, take, drop, IfOk, OnOk};
+ghost use Rattle.std.specs.Prelude.{◌≡◌, option_map, IfOk, OnOk};
 ghost use Rattle.std.specs.Option.{option_copied};
-ghost use Rattle.fm_base.specs.Channels.{channel_of};
 ghost use Rattle.fm_symbols.specs.ByName.{first_of_each, with_new};
-ghost use Rattle.fm_values.specs.Values.{is_truth};
 ghost use Rattle.fm_mean.specs.Outcome.{shown_by, shown_variables};
-ghost use Rattle.fm_gen_relation.specs.Standing.{item_in, port_by, values_in};
-ghost use Rattle.fm_proc_language.specs.Slots.{no_port, port_in};
+ghost use Rattle.fm_gen_relation.specs.Standing.{item_in, values_in};
+ghost use Rattle.fm_proc_language.specs.Slots.{port_in};
 ghost use Rattle.fm_proc_events.specs.Phases.{proc_of};
 ghost use Rattle.fm_outcome_code.specs.Shown.{body_shown, frame_shown, shown_all};
-ghost use Rattle.fm_outcome_code.specs.Variables.{own_frame};
 
-use fm_base::{ChanName, NoMemory, Path, Seq};
+use fm_base::{NoMemory, Seq};
 use fm_code::{Body, Frame};
 use fm_finmap::NameMap;
 use fm_mean::{Shown, ShownVariable};
+use fm_outcome_procs::{channels, own_frame, part, truths};
 use fm_plain_frame::variables_of;
 use fm_proc_events::Process;
 use fm_proc_slots::Slots;
@@ -23,65 +21,7 @@ use fm_rules::Program;
 use fm_run::variables_in_order;
 use fm_symbols::Variable;
 use fm_tree::Kind;
-use fm_values::is_truth;
 use std::alloc::Global;
-
-// So many words from this one on, as far as they go.
-fn part(words: &[i64], first: usize, count: usize) -> &[i64]
-    ensures { result.now ≡ take count (drop first words.now) }
-{
-    let (_, rest) = words.split_at(first.min(words.len()));
-    let (part, _) = rest.split_at(count.min(rest.len()));
-    part
-}
-
-fn truths(alloc: Global, words: &[i64]) -> Result<Seq<bool>, NoMemory>
-    ensures { IfOk result (λ s. s ≡ map is_truth words.now) }
-{
-    let mut all = Seq::new(alloc);
-    'words: for word in words {
-        all.push(is_truth(*word))?;
-    }
-    Ok(all)
-}
-
-// The channel that is shown where no port stands in a slot.
-fn no_channel(alloc: Global) -> ChanName
-    ensures { result ≡ channel_of no_port }
-{
-    ChanName {
-        maker: Path::main(alloc),
-        number: 0,
-    }
-}
-
-fn channel_at(alloc: Global, slots: &Slots, word: i64) -> Result<ChanName, NoMemory>
-    ensures { IfOk result (λ c. c ≡ channel_of (port_in slots.now word)) }
-{
-    match slots.port(word) {
-        Some(port) => port.channel().copy(alloc),
-        None => Ok(no_channel(alloc)),
-    }
-}
-
-fn channel_in(alloc: Global, slots: &Slots, word: i64) -> Result<Option<ChanName>, NoMemory>
-    ensures { IfOk result (λ c. c ≡ option_map channel_of (port_by (port_in slots.now) word)) }
-{
-    if word == 0 {
-        return Ok(None);
-    }
-    Ok(Some(channel_at(alloc, slots, word)?))
-}
-
-fn channels(alloc: Global, slots: &Slots, words: &[i64]) -> Result<Seq<Option<ChanName>>, NoMemory>
-    ensures { IfOk result (λ s. s ≡ map (option_map channel_of) (map (port_by (port_in slots.now)) words.now)) }
-{
-    let mut all = Seq::new(alloc);
-    'words: for word in words {
-        all.push(channel_in(alloc, slots, *word)?)?;
-    }
-    Ok(all)
-}
 
 // What a variable holds, element after element.
 fn shown(
@@ -132,16 +72,6 @@ fn by_name(
         put_shown(alloc, &mut all, slots, variable, memory)?;
     }
     Ok(all)
-}
-
-// The frame of the process itself, below those of calls.
-fn own_frame(body: &Body) -> &Frame
-    ensures { result.now ≡ own_frame body.now.frame body.now.below }
-{
-    match body.below.outermost_first().first() {
-        Some(frame) => frame,
-        None => &body.frame,
-    }
 }
 
 // The variables of a frame.

@@ -8,7 +8,9 @@
 mod first;
 mod laws;
 mod rows;
+mod showing;
 
 pub use first::first_stacks;
 pub use laws::image_shows_program;
 pub use rows::{cells, variables};
+pub use showing::outcome;

@@ -1,2 +1,5 @@
 pub mod Shown
 pub mod First
+pub mod Waits
+pub mod Parts
+pub mod Holding
