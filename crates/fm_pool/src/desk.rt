@@ -1,6 +1,6 @@
 //! What stands under the lock of a pool, and what a worker does to it in one turn of the lock.
 
-ghost use Rattle.std.specs.Prelude.{◌≡◌, ◌-◌, false, IfOk, OnErr};
+ghost use Rattle.std.specs.Prelude.{◌≡◌, ◌-◌, false, IfOk, MatchResult, OnErr};
 ghost use Rattle.fm_workers.specs.Histories.{HasGrown, HasPlayed};
 ghost use Rattle.fm_pool.specs.Desks.{IsCounted, IsPassed};
 
@@ -65,6 +65,23 @@ impl<T: SharedTable> Desk<T> {
                 }
             }
             Err(NoMemory) => Next::Stops,
+        }
+    }
+
+    /// Gives what a piece came to, or leaves the piece where there was no memory to compute it. False where the worker is to
+    /// stop.
+    pub fn bring(&mut self, alloc: Global, done: Result<T::Done, NoMemory>) -> bool
+        ensures played { MatchResult done
+            (λ d. HasPlayed (T.process_of d) (T.history_of self.old.table) (T.history_of self.new.table))
+            (λ _. self.new.table ≡ self.old.table) }
+        ensures counted { self.new.working ≡ self.old.working - 1 }
+    {
+        match done {
+            Ok(done) => self.give(alloc, done),
+            Err(NoMemory) => {
+                self.leave();
+                false
+            }
         }
     }
 

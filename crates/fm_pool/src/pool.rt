@@ -87,12 +87,12 @@ fn work<T: SharedTable, G: Gate<T>, R: Wait>(
     worker: u32,
 ) {
     let light = gate.is_plain();
+    let mut next = room.next(rt, alloc, worker, light);
     'pieces: for _ in rt.forever() {
-        let Some(piece) = room.next(rt, alloc, worker, light) else {
+        let Some(piece) = next else {
             return;
         };
-        if !room.bring(rt, alloc, gate.run(alloc, worker, piece)) {
-            return;
-        }
+        let done = gate.run(alloc, worker, piece);
+        next = room.exchange(rt, alloc, worker, light, done);
     }
 }

@@ -4,16 +4,20 @@ use crate::desk::{Desk, Next};
 use fm_base::NoMemory;
 use fm_workers::SharedTable;
 use std::alloc::Global;
-use std::sync::{Condvar, Mutex, Wait};
+use std::hint::spin_loop;
+use std::sync::atomic::{AtomicU64, Ordering};
+use std::sync::{Condvar, Mutex, MutexGuard, Wait};
 
-// How many pieces a table makes by itself before others get the lock.
-const MOST_AT_ONCE: u32 = 64;
+// How often a worker that lets others in looks whether they are in, before it takes the lock again.
+const MOST_LOOKS: u32 = 100;
 
 /// Where the workers of a pool meet.
 #[derive(Drop)]
 pub struct Room<T> {
     pub desk: Mutex<Desk<T>>,
     pub changed: Condvar,
+    /// How many workers wait for the lock with what their pieces came to.
+    pub bringing: AtomicU64,
 }
 
 impl<T: SharedTable> Room<T> {
@@ -22,6 +26,7 @@ impl<T: SharedTable> Room<T> {
         Room {
             desk: Mutex::new(Desk { table, working: 0 }),
             changed: Condvar::new(),
+            bringing: AtomicU64::new(0),
         }
     }
 
@@ -34,27 +39,54 @@ impl<T: SharedTable> Room<T> {
         worker: u32,
         light: bool,
     ) -> Option<T::Piece> {
+        let desk = self.desk.lock(rt);
+        self.next_at(rt, alloc, worker, light, desk)
+    }
+
+    /// Gives what a piece came to, or leaves the piece where there was no memory to compute it; and the next piece, as
+    /// above, in the same turn of the lock.
+    pub fn exchange<R: Wait>(
+        &self,
+        rt: &R,
+        alloc: Global,
+        worker: u32,
+        light: bool,
+        done: Result<T::Done, NoMemory>,
+    ) -> Option<T::Piece> {
+        self.bringing.fetch_add(1, Ordering::SeqCst);
         let mut desk = self.desk.lock(rt);
-        let mut made = 0u32;
+        self.bringing.fetch_sub(1, Ordering::SeqCst);
+        if desk.bring(alloc, done) {
+            return self.next_at(rt, alloc, worker, light, desk);
+        }
+        drop(desk);
+        self.changed.notify_all();
+        None
+    }
+
+    // The next piece for a worker who has the lock. It keeps the lock while the table makes pieces by itself, which would only
+    // go from one processor to another; but it lets in who brings what a piece came to. Who leaves with a piece wakes one that
+    // waits, who may find another piece and wakes the next one then; who stops wakes all.
+    fn next_at<'b, R: Wait>(
+        &'b self,
+        rt: &R,
+        alloc: Global,
+        worker: u32,
+        light: bool,
+        held: MutexGuard<'b, Desk<T>>,
+    ) -> Option<T::Piece> {
+        let mut desk = held;
         'turns: for _ in rt.forever() {
             match desk.next(alloc, worker, light) {
                 Next::Runs(piece) => {
-                    if made > 0 {
-                        self.changed.notify_all();
-                    }
+                    drop(desk);
+                    self.changed.notify_one();
                     return Some(piece);
                 }
-                Next::Goes => {
-                    made = made.saturating_add(1);
-                    if made >= MOST_AT_ONCE {
-                        made = 0;
-                        drop(desk);
-                        self.changed.notify_all();
-                        desk = self.desk.lock(rt);
-                    }
-                }
+                Next::Goes => desk = self.let_in(rt, desk),
                 Next::Waits => desk = self.changed.wait(rt, desk),
                 Next::Stops => {
+                    drop(desk);
                     self.changed.notify_all();
                     return None;
                 }
@@ -63,17 +95,30 @@ impl<T: SharedTable> Room<T> {
         unreachable!()
     }
 
+    // Leaves the lock for a moment to those that bring what their pieces came to, if there are any.
+    fn let_in<'b, R: Wait>(
+        &'b self,
+        rt: &R,
+        held: MutexGuard<'b, Desk<T>>,
+    ) -> MutexGuard<'b, Desk<T>> {
+        if self.bringing.load(Ordering::SeqCst) == 0 {
+            return held;
+        }
+        drop(held);
+        'looks: for _ in 0..MOST_LOOKS {
+            if self.bringing.load(Ordering::SeqCst) == 0 {
+                break;
+            }
+            spin_loop();
+        }
+        self.desk.lock(rt)
+    }
+
     /// Gives what a piece came to, or leaves the piece where there was no memory to compute it, and wakes the others. False
     /// where the worker is to stop.
     pub fn bring<R: Wait>(&self, rt: &R, alloc: Global, done: Result<T::Done, NoMemory>) -> bool {
         let mut desk = self.desk.lock(rt);
-        let given = match done {
-            Ok(done) => desk.give(alloc, done),
-            Err(NoMemory) => {
-                desk.leave();
-                false
-            }
-        };
+        let given = desk.bring(alloc, done);
         drop(desk);
         self.changed.notify_all();
         given
@@ -81,7 +126,11 @@ impl<T: SharedTable> Room<T> {
 
     /// The table, when all workers have stopped.
     pub fn into_table(self) -> T {
-        let Room { desk, changed: _ } = self;
+        let Room {
+            desk,
+            changed: _,
+            bringing: _,
+        } = self;
         let Desk { table, working: _ } = desk.into_inner();
         table
     }
