@@ -1,8 +1,10 @@
 -- The end of a process, as the machine sees it.
-use Rattle.std.proofs.Common.{◌≡◌, ◌==◌, ◌∷◌, ◌++◌, ℤ, true, Some, List, [], length, refl, sym, ap, ap₂, append-nil, ◌∙◌}
+use Rattle.std.proofs.Common.{◌≡◌, ◌==◌, ◌∷◌, ◌++◌, ℤ, true, Some, List, [], length, refl, sym, ap, ap₂, append-nil, ◌∙◌, arith}
+use Rattle.std.proofs.lemmas.Bool.{eqb-true}
 use Rattle.fm_base.specs.Channels.{Chans, all_shed}
 use Rattle.fm_base.specs.declared.port.PortValue.{PortValue}
 use Rattle.fm_code.specs.declared.ask.Ask.TheVariants as ask
+use Rattle.fm_discards.proofs.Shedding.{all_shed-nil}
 use Rattle.fm_code.specs.declared.body.Body.{Body}
 use Rattle.fm_code.specs.declared.body.Frame.{Frame}
 use Rattle.fm_code.specs.declared.body.Start.{Start}
@@ -26,7 +28,7 @@ kept_whole b fs ss f s keeps none =
 
 pub is_none : (l : List Start) → (length l == 0) ≡ true → l ≡ []
 is_none [] e = refl
-is_none (x ∷ xs) e = absurd (cc e)
+is_none (x ∷ xs) e = absurd (omega (arith, eqb-true (length (x ∷ xs)) 0 e))
 
 -- a process that is in its own frame, which stays as it is
 pub frame_whole : (b : Body) → b.below ≡ [] → ended_frame b b.frame [] ≡ (record b.frame { results = []; starts = [] }, []) → ended_frame b b.frame b.below ≡ (record b.frame { results = []; starts = [] }, [])
@@ -58,4 +60,4 @@ ended_so p y cs after b b' slots ports drops looks runs is e f g h shed = record
 -- the end of a process that stays as it is
 pub ended_whole : (p : Place) (y : CodeProc) (cs : Chans) (b b' : Body) → look_of y ≡ Asks ask.End → is_running y ≡ true → y.body ≡ Some b → b.below ≡ [] → ended_frame b b.frame [] ≡ (record b.frame { results = []; starts = [] }, []) → b' ≡ record b { frame = record b.frame { results = []; starts = [] } } → Performs p y cs (record y { phase = Ended; body = Some b' }) [] cs 1
 ended_whole p y cs b b' looks runs is alone whole e =
-    ended_so p y cs cs b b' y.slots [] [] looks runs is (e ∙ body_whole b alone whole) (sym (ap (λ (x : Frame × List ℤ). x.1) (frame_whole b alone whole))) refl refl refl
+    ended_so p y cs cs b b' y.slots [] [] looks runs is (e ∙ body_whole b alone whole) (sym (ap (λ (x : Frame × List ℤ). x.1) (frame_whole b alone whole))) refl refl (sym (all_shed-nil cs))
