@@ -14,7 +14,6 @@ use Rattle.fm_proc_language.specs.Processes.{CodeProc, code_language}
 use Rattle.fm_procs.specs.Pieces as code
 use Rattle.fm_procs.specs.Readings.{code_step}
 use Rattle.fm_procs.specs.Waiting as code_waiting
-use Rattle.fm_run.specs.Programs as run_orders
 use Rattle.fm_run.specs.Programs as run
 use Rattle.fm_outcome_code.specs.Corresponds.{Corresponds, IsLive}
 use Rattle.fm_outcome_code.proofs.Alike.{correspondence, machines_alike}
@@ -114,9 +113,9 @@ module _ (p : Program) (s : State Proc) (t : State CodeProc) (stands : StandsFor
 
   -- ---- by numbers
 
-  can_in_alike : (o : Option Place) → code_waiting.can_in t o ≡ run_orders.can_in p s o
+  can_in_alike : (o : Option Place) → code_waiting.can_in t o ≡ run.can_in p s o
   can_in_alike None = refl
   can_in_alike (Some q) = steps_alike q
 
-  pub can_alike : (places : List Place) (n : ℕ) → code_waiting.can_at t places n ≡ run_orders.can_at p s places n
+  pub can_alike : (places : List Place) (n : ℕ) → code_waiting.can_at t places n ≡ run.can_at p s places n
   can_alike places n = can_in_alike (slice_get places n)
