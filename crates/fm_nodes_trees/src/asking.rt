@@ -2,25 +2,24 @@
 
 ghost use Rattle.fm_rules.specs.declared.program.Program as declared;
 ghost use Rattle.std.specs.Prelude.{◌≡◌, ◌∷◌, ◌+◌, ◌^◌, ◌<◌, List, Some, IfOk};
-ghost use Rattle.std.specs.Option.{option_copied};
 ghost use Rattle.fm_base.specs.Channels.{Item};
 ghost use Rattle.fm_net.specs.Machine.{New};
 ghost use Rattle.fm_mean.specs.Actions.{action_of, message_words};
 ghost use Rattle.fm_mean.specs.Places.{message_from};
 ghost use Rattle.fm_mean.specs.declared.place.Actual as declared_actual;
-ghost use Rattle.fm_mean.specs.Steps.{ask, limits_of};
+ghost use Rattle.fm_mean.specs.Steps.{ask};
 ghost use Rattle.fm_plain_frame.specs.Frames.{execution_of, phase_of, proc_of};
 ghost use Rattle.fm_plain.specs.Events.{IsEvent, event_by};
-ghost use Rattle.fm_plain.specs.Looking.{StandsOn};
 ghost use Rattle.fm_nodes_procs.specs.Asks.{StartsSo, need_asked, need_told};
 ghost use Rattle.fm_nodes_trees.specs.Told.{given_words, open_starts, starts_with};
 
 use crate::telling::{Ahead, told};
 use fm_base::{NoMemory, Seq};
-use fm_mean::{Actual, Span};
+use fm_mean::Actual;
 use fm_nodes_procs::{Asked, Request};
-use fm_plain::Event;
-use fm_plain_frame::{Frame, PlainProc};
+use fm_plain::{Event, innermost};
+use fm_plain_frame::PlainProc;
+use fm_plain_replies::limits_of;
 use fm_rules::Program;
 use std::alloc::Global;
 
@@ -86,27 +85,6 @@ pub(crate) fn message_cost(items: &[Actual]) -> Result<u64, NoMemory>
         words = words.checked_add(item_words(item)?).ok_or(NoMemory)?;
     }
     one_more(words)
-}
-
-// The most elements that a receive into these places takes for each of them.
-fn limits_of(alloc: Global, places: &[Span]) -> Result<Vec<Option<u32>>, NoMemory>
-    ensures { IfOk result (λ limits. limits.items ≡ limits_of places.now) }
-{
-    let mut limits = Vec::new(alloc);
-    'places: for place in places {
-        limits.push(Some(place.count))?;
-    }
-    Ok(limits)
-}
-
-// The innermost frame.
-fn innermost(process: &PlainProc) -> Option<&Frame>
-    ensures { (p : declared.Program) → StandsOn p (execution_of p process.now).frames (option_copied result) }
-{
-    match &process.top {
-        None => process.below.last(),
-        Some(top) => Some(top),
-    }
 }
 
 /// How many starts the innermost frame has.

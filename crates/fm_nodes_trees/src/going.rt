@@ -6,7 +6,6 @@ ghost use Rattle.fm_base.specs.Channels as channels;
 ghost use Rattle.fm_base.specs.declared.path.ChanName as declared_name;
 ghost use Rattle.fm_net.specs.Machine.{Go, Nothing, Onward, Reply, reply_with};
 ghost use Rattle.fm_net.specs.Lawful.{ports_from};
-ghost use Rattle.fm_net.specs.Owned.{name_of};
 ghost use Rattle.fm_mean.specs.Actions as action;
 ghost use Rattle.fm_mean.specs.Actions.{action_of};
 ghost use Rattle.fm_mean.specs.Process.{Proc};
@@ -28,7 +27,7 @@ use fm_plain::{Acted, Event, act};
 use fm_plain_frame::PlainProc;
 use fm_plain_passing::{Item, message_words};
 use fm_plain_replies::{
-    begin, end, fail, meet_end, put_ports, put_probe, store_message, take_message,
+    begin, end, fail, meet_end, next_name, put_ports, put_probe, store_message, take_message,
 };
 use fm_rules::Program;
 use std::alloc::Global;
@@ -83,16 +82,6 @@ fn values(alloc: Global, name: ChanName, writers: u32) -> Result<Vec<PortValue>,
         }
         _ => Err(NoMemory),
     }
-}
-
-// The name of the channel that a process makes next.
-fn next_name(alloc: Global, path: &Path, process: &PlainProc) -> Result<ChanName, NoMemory>
-    ensures { IfOk result (λ c. (p : declared.Program) → c ≡ name_of path.now (proc_of p process.now).next_channel) }
-{
-    Ok(ChanName {
-        maker: path.copy(alloc)?,
-        number: process.next_channel,
-    })
 }
 
 // The ports of the new channel are put into their places.

@@ -17,9 +17,9 @@ use crate::drops::Drops;
 use fm_base::NoMemory;
 use fm_nodes_procs::Gone;
 use fm_plain::{Event, Next, next_of};
-use fm_plain_frame::{Kid, LetGo, Phase, PlainProc};
+use fm_plain_frame::{Kid, LetGo, PlainProc};
 use fm_plain_passing::back_words;
-use fm_plain_replies::{Ended, join};
+use fm_plain_replies::{Ended, join, kids_in};
 use fm_rules::Program;
 use std::alloc::Global;
 
@@ -62,18 +62,6 @@ fn words_back(kids: &[Kid]) -> Result<u64, NoMemory>
         words = words.checked_add(more).ok_or(NoMemory)?;
     }
     Ok(words)
-}
-
-// The children that a process waits for.
-fn kids_in(phase: &Phase) -> &[Kid]
-    ensures { map kid_of result.now ≡ kids_in (phase_of phase.now) }
-{
-    match phase {
-        Phase::Joining(_, kids) => kids.as_slice(),
-        Phase::Running => &[],
-        Phase::Ended => &[],
-        Phase::Faulted(_, _) => &[],
-    }
 }
 
 // The cost of the join of a process is so much at most that sums of costs have it.

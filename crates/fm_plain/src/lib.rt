@@ -26,4 +26,4 @@ pub use advancing::{Advanced, Stop, advance};
 pub use event::Event;
 pub use joining::after_at;
 pub use local::{Acted, act};
-pub use looking::{Next, next_of};
+pub use looking::{Next, innermost, next_of};

@@ -271,8 +271,8 @@ fn standing(
     }
 }
 
-// The innermost frame, which may be the last of the others.
-fn innermost(process: &PlainProc) -> Option<&Frame>
+/// The innermost frame, which may be the last of the others.
+pub fn innermost(process: &PlainProc) -> Option<&Frame>
     ensures { (p : declared.Program) → StandsOn p (execution_of p process.now).frames (option_copied result) }
 {
     match &process.top {

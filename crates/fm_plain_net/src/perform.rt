@@ -10,12 +10,11 @@ ghost use Rattle.fm_chan.specs.Events.{after_op};
 ghost use Rattle.fm_chan.specs.Received.{got_at, waits_at};
 ghost use Rattle.fm_chan.specs.Woken.{Wakes, WakesAll};
 ghost use Rattle.fm_net.specs.Lawful.{ports_from};
-ghost use Rattle.fm_net.specs.Owned.{name_of};
 ghost use Rattle.fm_rules.specs.declared.program.Program as declared;
 ghost use Rattle.fm_mean.specs.Actions as action;
 ghost use Rattle.fm_mean.specs.Actions.{action_of, message_words as words_of};
 ghost use Rattle.fm_mean.specs.Process.{Proc};
-ghost use Rattle.fm_mean.specs.Steps.{ended, limits_of};
+ghost use Rattle.fm_mean.specs.Steps.{ended};
 ghost use Rattle.fm_plain_frame.specs.Frames.{proc_of};
 ghost use Rattle.fm_plain_frame.specs.LetGo.{let_go_ports};
 ghost use Rattle.fm_plain_replies.specs.Goes.{after_begin, after_message};
@@ -35,7 +34,8 @@ use fm_plain::Event;
 use fm_plain_frame::{Leaving, LetGo, PlainProc};
 use fm_plain_passing::{Item, message_words};
 use fm_plain_replies::{
-    Ended, begin, end, fail, join, meet_end, put_ports, put_probe, store_message, take_message,
+    Ended, begin, end, fail, join, limits_of, meet_end, next_name, put_ports, put_probe,
+    store_message, take_message,
 };
 use fm_rules::Program;
 use std::alloc::Global;
@@ -182,16 +182,6 @@ fn values(alloc: Global, name: &ChanName, writers: u32) -> Result<Vec<PortValue>
     Ok(all)
 }
 
-// The name of the channel that a process makes next.
-fn next_name(alloc: Global, path: &Path, process: &PlainProc) -> Result<ChanName, NoMemory>
-    ensures { IfOk result (λ c. (p : declared.Program) → c ≡ name_of path.now (proc_of p process.now).next_channel) }
-{
-    Ok(ChanName {
-        maker: path.copy(alloc)?,
-        number: process.next_channel,
-    })
-}
-
 // The ports of a new channel are put into their places. What stands there is discarded.
 fn make(
     alloc: Global,
@@ -247,17 +237,6 @@ fn send(
     let message = message_from(alloc, ports, items)?;
     channels.send_or_lose(&channel, message)?;
     Ok(alone(alloc, cost))
-}
-
-// The most elements that a receive into these places takes for each of them.
-fn limits_of(alloc: Global, places: &[Span]) -> Result<Vec<Option<u32>>, NoMemory>
-    ensures { IfOk result (λ limits. limits.items ≡ limits_of places.now) }
-{
-    let mut limits = Vec::new(alloc);
-    'places: for place in places {
-        limits.push(Some(place.count))?;
-    }
-    Ok(limits)
 }
 
 // What a receive with these limits gets of a channel.

@@ -3,9 +3,10 @@
 ghost use Rattle.std.specs.Prelude.{◌≡◌, ℕ, IfOk, OnErr};
 ghost use Rattle.fm_base.specs.declared.path.ChanName.{ChanName};
 ghost use Rattle.fm_net.specs.Lawful.{ports_from};
+ghost use Rattle.fm_net.specs.Owned.{name_of};
 ghost use Rattle.fm_rules.specs.declared.program.Program.{Program};
 ghost use Rattle.fm_mean.specs.Layout.{AreLaidOut};
-ghost use Rattle.fm_mean.specs.Steps.{faulted, with_status};
+ghost use Rattle.fm_mean.specs.Steps.{faulted, limits_of, with_status};
 ghost use Rattle.fm_plain_frame.specs.Frames.{proc_of};
 ghost use Rattle.fm_plain_frame.specs.LetGo.{let_go_ports};
 ghost use Rattle.fm_plain_frame.specs.Memory.{values_of};
@@ -13,7 +14,7 @@ ghost use Rattle.fm_plain_passing.specs.Items.{message_of};
 ghost use Rattle.fm_plain_replies.specs.Goes.{after_end_of_channel, after_make, after_message, after_probe, after_send, message_sent};
 
 use crate::frames::{go_to, raise};
-use fm_base::{Fault, Line, NoMemory, PortValue, Seq};
+use fm_base::{ChanName, Fault, Line, NoMemory, Path, PortValue, Seq};
 use fm_mean::{Actual, Span};
 use fm_plain_frame::memory::put_number;
 use fm_plain_frame::{LetGo, Phase, PlainProc, Word, variables_of};
@@ -22,6 +23,27 @@ use fm_rules::Program;
 use fm_symbols::Variable;
 use fm_values::truth_word;
 use std::alloc::Global;
+
+/// The name of the channel that a process makes next.
+pub fn next_name(alloc: Global, path: &Path, process: &PlainProc) -> Result<ChanName, NoMemory>
+    ensures { IfOk result (λ c. (p : Program) → c ≡ name_of path.now (proc_of p process.now).next_channel) }
+{
+    Ok(ChanName {
+        maker: path.copy(alloc)?,
+        number: process.next_channel,
+    })
+}
+
+/// The most elements that a receive into these places takes for each of them.
+pub fn limits_of(alloc: Global, places: &[Span]) -> Result<Vec<Option<u32>>, NoMemory>
+    ensures { IfOk result (λ limits. limits.items ≡ limits_of places.now) }
+{
+    let mut limits = Vec::new(alloc);
+    'places: for place in places {
+        limits.push(Some(place.count))?;
+    }
+    Ok(limits)
+}
 
 /// It faults at a line.
 pub fn fail(process: &mut PlainProc, line: Line, fault: Fault)

@@ -44,7 +44,7 @@ pub fn leave(process: &mut PlainProc, alloc: Global) -> Ended
 }
 
 /// The children that a process waits for.
-fn kids_in(phase: &Phase) -> &[Kid]
+pub fn kids_in(phase: &Phase) -> &[Kid]
     ensures { map kid_of result.now ≡ kids_in (phase_of phase.now) }
 {
     match phase {

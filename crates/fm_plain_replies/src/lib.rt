@@ -18,6 +18,8 @@ mod frames;
 mod joining;
 
 pub use beginning::begin;
-pub use channels::{fail, meet_end, put_ports, put_probe, store_message, take_message};
+pub use channels::{
+    fail, limits_of, meet_end, next_name, put_ports, put_probe, store_message, take_message,
+};
 pub use ending::end;
-pub use joining::{Ended, join, leave};
+pub use joining::{Ended, join, kids_in, leave};
