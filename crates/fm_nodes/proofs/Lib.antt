@@ -1,0 +1,5 @@
+mod NodeLaws
+mod Moving
+mod FirstLaws
+mod Listed
+mod Waits
