@@ -1,0 +1,4 @@
+pub mod Coded
+pub mod Given
+pub mod Played
+pub mod Sound
