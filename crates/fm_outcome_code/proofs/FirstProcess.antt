@@ -1,12 +1,11 @@
 -- The process with which a run begins.
-use Rattle.std.proofs.Common.{◌≡◌, ℕ, Option, Some, unwrap_or, List, sym, ap, ◌∙◌}
+use Rattle.std.proofs.Common.{◌≡◌, ℕ, Some, unwrap_or, sym, ap, ◌∙◌}
 use Rattle.std.specs.Prelude.{slice_get}
 use Rattle.fm_rules.specs.declared.program.Program.{Program}
 use Rattle.fm_rules.specs.Main.{main_of}
 use Rattle.fm_mean.specs.Names.{ProgramUnit, main_number, unit_at}
 use Rattle.fm_mean.proofs.Main.{main_is}
 use Rattle.fm_mean.proofs.MainUnit.{main_there}
-use Rattle.fm_code.specs.declared.body.Body.{Body}
 use Rattle.fm_code.specs.declared.code.Code.{Code}
 use Rattle.fm_gen.specs.Programs.{code_of}
 use Rattle.fm_gen.specs.Units.{unit_of_code}
