@@ -6,4 +6,4 @@ use Rattle.fm_outcome_code.proofs.first.first_stacks.Goals as goal
 
 pub returns-clause-state : goal.returns-clause-state
 returns-clause-state c =
-    IfOk-weaker c.stacks_of.result _ _ (λ s is. is ∙ ap main_alone (process_made c.args.program.now c.main.result c.main.ensures c.in_ok-code.code c.in_ok-code.ensures.code c.in_ok-code.ensures.units)) c.stacks_of.ensures.state
+    IfOk-weaker c.first_stacks.result _ _ (λ s is. is ∙ ap main_alone (process_made c.args.program.now c.main.result c.main.ensures c.in_ok-code.code c.in_ok-code.ensures.code c.in_ok-code.ensures.units)) c.first_stacks.ensures.state
