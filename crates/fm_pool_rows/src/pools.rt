@@ -2,7 +2,7 @@
 
 ghost use Rattle.std.specs.Thread.{IsSync};
 
-use crate::table::{Done, Piece, Table};
+use crate::table::{Done, Light, Piece, Table};
 use fm_base::{NoMemory, Turn};
 use fm_hub_pool::HubPool;
 use fm_pool::Pool;
@@ -223,23 +223,32 @@ fn make_row(runs: u32, workers: u32, processes: u32, pieces: u32) -> Row {
 // A few runs of a long table by few and many workers, and many of a short one.
 fn rows(many: u32) -> [Row; 7] {
     [
-        make_row(2, 1, 50, 20),
-        make_row(2, 2, 50, 20),
-        make_row(2, 8, 50, 20),
-        make_row(2, 64, 50, 20),
+        make_row(3, 1, 50, 20),
+        make_row(3, 2, 50, 20),
+        make_row(3, 8, 50, 20),
+        make_row(3, 64, 50, 20),
         make_row(many, 2, 5, 4),
         make_row(many, 8, 3, 2),
         make_row(many / 30, 64, 3, 2),
     ]
 }
 
-// Whether each run of a row has an entry for each piece. In every other run no piece is worth giving out.
+// Which processes aren't worth giving out in the run with this number.
+fn light_in(number: u32) -> Light {
+    match number % 3 {
+        0 => Light::None,
+        1 => Light::All,
+        _ => Light::Half,
+    }
+}
+
+// Whether each run of a row has an entry for each piece. The runs take turns at which pieces are worth giving out.
 fn is_whole<W: Workers<Table>>(alloc: Global, workers: &W, row: &Row) -> Result<bool, NoMemory>
     requires { W.crosses }
 {
     let entries = row.processes.saturating_mul(row.pieces) as usize;
     'runs: for number in 0..row.runs {
-        let table = Table::of(alloc, row.processes, row.pieces, number % 2 == 1)?;
+        let table = Table::of(alloc, row.processes, row.pieces, light_in(number))?;
         match workers.drive(table, row.workers) {
             Some(table) => {
                 if table.entries() != entries {
@@ -306,11 +315,7 @@ fn runs_with_seats(rt: HostRuntime) -> Result<(), Fail> {
 
 // A table of three processes, two of which aren't worth giving out.
 fn mixed(alloc: Global) -> Result<Table, NoMemory> {
-    let mut table = Table::of(alloc, 3, 100, true)?;
-    if let Some(entry) = table.entries.get_mut(1) {
-        entry.light = false;
-    }
-    Ok(table)
+    Table::of(alloc, 3, 100, Light::Half)
 }
 
 // The number of the first entry that two histories differ in, if there is one.

@@ -31,6 +31,27 @@ pub struct Entry {
     pub light: bool,
 }
 
+/// Which processes aren't worth giving out.
+#[derive(Clone, Copy)]
+pub enum Light {
+    /// None.
+    None,
+    /// All.
+    All,
+    /// Every other one, from the first on.
+    Half,
+}
+
+impl Light {
+    fn has(self, number: u32) -> bool {
+        match self {
+            Light::None => false,
+            Light::All => true,
+            Light::Half => number % 2 == 0,
+        }
+    }
+}
+
 /// The table.
 #[derive(Drop)]
 pub struct Table {
@@ -45,19 +66,6 @@ fn first_ready(entries: &[Entry]) -> Option<usize>
 {
     'entries: for number in 0..entries.len() {
         if entries[number].left > 0 && !entries[number].out {
-            return Some(number);
-        }
-    }
-    None
-}
-
-// The first process that isn't out, has a piece left and isn't worth giving out.
-fn first_light(entries: &[Entry]) -> Option<usize>
-    ensures { IfSome result (λ n. n < length entries.now) }
-{
-    'entries: for number in 0..entries.len() {
-        let entry = entries[number];
-        if entry.light && entry.left > 0 && !entry.out {
             return Some(number);
         }
     }
@@ -82,17 +90,19 @@ fn are_all_done(entries: &[Entry]) -> bool {
 impl Table {
     /// So many processes, each with so many pieces, which are worth giving out.
     pub fn new(alloc: Global, processes: u32, pieces: u32) -> Result<Table, NoMemory> {
-        Table::of(alloc, processes, pieces, false)
+        Table::of(alloc, processes, pieces, Light::None)
     }
 
     /// So many processes, each with so many pieces.
-    pub fn of(alloc: Global, processes: u32, pieces: u32, light: bool) -> Result<Table, NoMemory> {
-        let entry = Entry {
-            left: pieces,
-            out: false,
-            light,
-        };
-        let entries = Vec::from_elem(alloc, entry, processes as usize)?;
+    pub fn of(alloc: Global, processes: u32, pieces: u32, light: Light) -> Result<Table, NoMemory> {
+        let mut entries = Vec::with_capacity(alloc, processes as usize)?;
+        'entries: for number in 0..processes {
+            entries.push(Entry {
+                left: pieces,
+                out: false,
+                light: light.has(number),
+            })?;
+        }
         Ok(Table {
             turns: Vec::new(alloc),
             entries,
@@ -173,13 +183,14 @@ impl SharedTable for Table {
     }
 
     fn turn_light(&mut self, _alloc: Global, _worker: u32) -> Result<bool, NoMemory> {
-        let Some(number) = first_light(self.entries.as_slice()) else {
+        let Some(number) = first_ready(self.entries.as_slice()) else {
             return Ok(false);
         };
         let Ok(process) = u32::try_from(number) else {
             return Ok(false);
         };
-        if self.turns.len() >= MOST {
+        let entry = self.entries[number];
+        if !entry.light || self.turns.len() >= MOST {
             return Ok(false);
         }
         let turn = Turn {
@@ -187,7 +198,6 @@ impl SharedTable for Table {
             steps: 1,
         };
         self.turns.push(turn)?;
-        let entry = self.entries[number];
         self.entries[number] = Entry {
             left: entry.left.saturating_sub(1),
             out: entry.out,
