@@ -1,8 +1,9 @@
-use Rattle.std.proofs.Common.{◌≡◌, ◌⊎◌, inl, inr, ◌==◌, ◌||◌, ℕ, Bool, true, false, List, Some, slice_get, ap, refl, sym, subst, ◌∙◌, arith, eqb-true}
+use Rattle.std.proofs.Common.{◌≡◌, ◌⊎◌, inl, inr, ◌==◌, ◌||◌, ◌<◌, ℕ, Bool, true, false, List, Option, Some, slice_get, ap, refl, sym, subst, ◌∙◌, arith, eqb-true}
 use Rattle.fm_rules.specs.declared.program.Program.{Program}
 use Rattle.fm_run.specs.Orders.{chosen}
 use Rattle.fm_table.specs.Giving.{taken_for}
-use Rattle.fm_table.specs.Inside.{IsStanding, outs_of, told_in}
+use Rattle.fm_table.specs.Inside.{IsStanding, outs_of, stand_kept, told_in}
+use Rattle.fm_table.specs.Planned.{first_of, mapped}
 use Rattle.fm_table.specs.Told.{ready_in, ready_of}
 use Rattle.fm_table.specs.declared.outside.Taken.{Taken}
 use Rattle.fm_table.proofs.Runs.{first_chosen}
@@ -67,3 +68,20 @@ invariant_of-self-2 c =
     let standing = subst (λ (p : Program). IsStanding p new) c.deref.ensures c.in_ok-revive.ensures.standing in
     let live = standing.live c.in_ok-revive.ensures.live in
     table_same P t.setup t.standing new (outs_of t.out.items) t.shares c.make.new.self same standing (shares_moved P t.setup t.standing new same live t.shares c.make.new.self (c.in_ok-make.ensures.kept P live) c.self.invariant.shared) c.self.invariant
+
+-- the first one that the plan maps to this worker, and without one the first one
+pub returns-clause-chosen : goal.returns-clause-chosen
+returns-clause-chosen c =
+    let t = c.self.inside in
+    let P = t.program.value in
+    let new = c.revive.new.self in
+    let same = c.in_ok-revive.ensures.same in
+    let standing = subst (λ (p : Program). IsStanding p new) c.deref.ensures c.in_ok-revive.ensures.standing in
+    let live = standing.live c.in_ok-revive.ensures.live in
+    let shared = shares_moved P t.setup t.standing new same live t.shares c.make.new.self (c.in_ok-make.ensures.kept P live) c.self.invariant.shared in
+    let low : c.args.worker < t.setup.workers = omega (arith, c.if-self-worker.false) in
+    let by : List ℕ → Option ℕ = λ ns. first_of (mapped P t.setup (stand_kept P t.standing) c.args.worker ns) ns in
+    c.choose.ensures P t.setup (stand_kept P t.standing) shared same.queue low
+    ∙ ap (λ (ts : List Taken). by (ready_in (outs_of ts) new.player.able.numbers.items)) c.as_slice-2.ensures.value
+    ∙ ap (λ (ns : List ℕ). by (ready_in (outs_of t.out.items) ns)) same.queue
+    ∙ ap (taken_for c.args.worker) c.self.view_is
