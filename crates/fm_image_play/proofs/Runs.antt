@@ -24,7 +24,7 @@ module _ (p q : Play) (Relates : q.Proc → p.Proc → Type 0) (IsLive : State p
       go (Some b) e = let can = alike.step.back s t c stands (b, e) in absurd (cc (sym none ∙ can.1))
 
   -- the same cost, whatever is chosen
-  same_cost : (cs : List Place) (s : State p.Proc) (t : State q.Proc) → Stands t s → used (step q) t cs ≡ used (step p) s cs
+  pub same_cost : (cs : List Place) (s : State p.Proc) (t : State q.Proc) → Stands t s → used (step q) t cs ≡ used (step p) s cs
   same_cost [] s t stands = refl
   same_cost (c ∷ cs) s t stands = go (same_cost cs) (step p s c) refl
     where
