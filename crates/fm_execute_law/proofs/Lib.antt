@@ -1,0 +1,4 @@
+mod Back
+mod Firsts
+mod Shown
+pub mod Programs

@@ -1,0 +1,41 @@
+-- A run of the image of a program is a run of the program.
+use Rattle.std.proofs.Common.{◌≡◌, ℕ, sym, subst, ◌∙◌}
+use Rattle.fm_net.specs.Correspondence.{StandsFor}
+use Rattle.fm_net.specs.Machine.{State}
+use Rattle.fm_net.specs.Owned.{main_alone}
+use Rattle.fm_rules.specs.declared.program.Program.{Program}
+use Rattle.fm_mean.specs.Process.{Proc}
+use Rattle.fm_mean.specs.Steps.{first_proc}
+use Rattle.fm_image.specs.ImageOf.{image_of}
+use Rattle.fm_gen.specs.Programs.{code_of}
+use Rattle.fm_proc_language.specs.Processes.{CodeProc}
+use Rattle.fm_outcome_code.specs.Corresponds.{Corresponds, IsLive}
+use Rattle.fm_outcome_code.specs.Shown.{first_process}
+use Rattle.fm_outcome_code.proofs.Alike.{machines_alike}
+use Rattle.fm_outcome_code.proofs.FirstAlike.{first_alike}
+use Rattle.fm_outcome_code.proofs.Shows.{shows_alike}
+use Rattle.fm_outcome_code.proofs.Sound.{first_live}
+use Rattle.fm_run.specs.declared.run.Run.{Run}
+use Rattle.fm_run.specs.Plays.{Play, first}
+use Rattle.fm_run.specs.Programs as programs
+use Rattle.fm_run.specs.Programs.{play_of}
+use Rattle.fm_run.specs.Runs.{IsRun}
+use Rattle.fm_image_play.specs.Play.{image_play}
+use Rattle.fm_execute_law.proofs.Back.{run_back}
+use Rattle.fm_execute_law.proofs.Firsts.{first_same}
+use Rattle.fm_execute_law.proofs.Shown.{outcome_same}
+
+module _ (p : Program) where
+  abbrev plays : Play
+  plays = image_play (image_of p (code_of p))
+
+  begins : StandsFor (Corresponds p) (IsLive p) (first plays) (first (play_of p))
+  begins =
+      subst (λ (y : CodeProc). StandsFor (Corresponds p) (IsLive p) (main_alone y) (first (play_of p))) (sym (first_same p))
+      ((machines_alike p).begin (first_proc p) (first_process p) (first_alike p) (first_live p))
+
+  shows : (used : ℕ) (s : State Proc) (t : State CodeProc) → StandsFor (Corresponds p) (IsLive p) t s → (play_of p).shows used s ≡ plays.shows used t
+  shows used s t stands = sym (outcome_same p used t ∙ shows_alike p s t stands used)
+
+  pub run_of_program : (turns : ℕ) (run : Run) → IsRun plays turns run → programs.IsRun p turns run
+  run_of_program turns run h = run_back (play_of p) plays (Corresponds p) (IsLive p) (machines_alike p) begins shows turns run h
