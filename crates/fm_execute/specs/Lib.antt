@@ -1,1 +1,4 @@
+pub mod Outcome
+pub mod Play
 pub mod Coded
+pub mod Executed

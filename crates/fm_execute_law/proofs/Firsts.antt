@@ -31,7 +31,7 @@ use Rattle.fm_verify_law.specs.Typed.{nodes}
 use Rattle.fm_image_law.specs.Image as law
 use Rattle.fm_image_law.specs.Image.{main_from}
 use Rattle.fm_outcome_code.specs.Shown as own
-use Rattle.fm_outcome_procs.specs.First.{process_of}
+use Rattle.fm_outcome_code.specs.First.{process_of}
 
 same_nodes : (es : List ℕ) → nodes es ≡ nodes_of es
 same_nodes [] = refl

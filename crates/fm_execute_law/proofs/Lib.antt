@@ -1,4 +1,5 @@
 mod Back
+mod Variables
 mod Firsts
 mod Shown
 pub mod Programs

@@ -9,10 +9,10 @@ use Rattle.fm_image.specs.ImageOf.{image_of}
 use Rattle.fm_gen.specs.Programs.{code_of}
 use Rattle.fm_proc_language.specs.Slots.{Slots}
 use Rattle.fm_proc_language.specs.Processes.{CodeProc}
-use Rattle.fm_outcome_procs.specs.Shown.{outcome_with, own_frame}
+use Rattle.fm_outcome_code.specs.Outcome.{outcome_with, own_frame}
 use Rattle.fm_outcome_code.specs.Shown as own
-use Rattle.fm_outcome_image.specs.Outcome as image
-use Rattle.fm_outcome_image.proofs.Programs.{shows_program}
+use Rattle.fm_execute.specs.Outcome as image
+use Rattle.fm_execute_law.proofs.Variables.{shows_program}
 
 module _ (p : Program) where
   body_same : (s : Slots) (o : Option Body) → image.body_shown (image_of p (code_of p)) s o ≡ own.body_shown p s o

@@ -1,9 +1,6 @@
 //! The code of units and of the whole.
 
 ghost use Rattle.std.specs.Prelude.{◌≡◌, IfOk, map};
-ghost use Rattle.fm_rules.specs.declared.program.Program.{Program};
-ghost use Rattle.fm_gen.specs.Programs as generated;
-ghost use Rattle.fm_image.specs.ImageOf.{image_of};
 ghost use Rattle.fm_verify_law.specs.Codes.{code_of, unit_of};
 ghost use Rattle.fm_verify_law.specs.Shapes.{loops_of};
 
@@ -54,13 +51,12 @@ fn units_of(alloc: Global, units: &[UnitImage]) -> Result<Seq<Unit>, NoMemory>
     Ok(made)
 }
 
-/// The code of an image. Of the image of a program it is the code of that program. Linear in the image.
+/// The code of an image. Linear in the image.
 ///
 /// # Errors
 /// `NoMemory` is want of memory, also where the words or the loops of a frame have no number of 32 bits.
 pub fn code(alloc: Global, image: &Image) -> Result<Code, NoMemory>
-    ensures code { IfOk result (λ made. made ≡ code_of image.now) }
-    ensures program { (p : Program) → image.now ≡ image_of p (generated.code_of p) → IfOk result (λ made. made ≡ generated.code_of p) }
+    ensures { IfOk result (λ made. made ≡ code_of image.now) }
 {
     let units = units_of(alloc, image.units.as_slice())?;
     Ok(Code { units })

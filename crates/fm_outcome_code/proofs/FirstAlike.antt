@@ -19,7 +19,7 @@ use Rattle.fm_proc_language.specs.Processes.{body_words}
 use Rattle.fm_outcome_code.specs.SlotWords.{IsHeld}
 use Rattle.fm_gen.proofs.StandLaws.{none_begun, begun}
 use Rattle.fm_outcome_code.specs.Corresponds.{BodyStands, Corresponds}
-use Rattle.fm_outcome_procs.specs.First.{process_of}
+use Rattle.fm_outcome_code.specs.First.{process_of}
 use Rattle.fm_outcome_code.specs.Shown.{first_body, body_in, body_by, first_process}
 
 -- No words.

@@ -12,7 +12,7 @@ use Rattle.fm_code.specs.declared.code.Code.{Code}
 use Rattle.fm_proc_language.specs.Processes.{CodeProc}
 use Rattle.fm_gen.specs.Programs.{code_of}
 use Rattle.fm_gen.specs.Units.{unit_of_code}
-use Rattle.fm_outcome_procs.specs.First.{begun, begun_in, first_process_of, process_of}
+use Rattle.fm_outcome_code.specs.First.{begun, begun_in, first_process_of, process_of}
 use Rattle.fm_outcome_code.specs.Shown.{body_by, body_in, first_process}
 
 module _ (p : Program) where

@@ -1,3 +1,8 @@
+mod Outermost
+mod Awaited
+mod Listed
+mod Holding
+mod Needed
 pub mod Standing
 pub mod Pieces
 pub mod Waiting

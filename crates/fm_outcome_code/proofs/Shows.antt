@@ -37,8 +37,8 @@ use Rattle.fm_gen.proofs.Beyond.{rests_alike}
 use Rattle.fm_gen.proofs.LineLaws.{tells_lines}
 use Rattle.fm_outcome_code.specs.Corresponds.{PhaseStands, BodyAlike, Corresponds, IsLive, first_variables}
 use Rattle.fm_outcome_code.specs.Here.{Here}
-use Rattle.fm_outcome_procs.specs.Shown as told
-use Rattle.fm_outcome_procs.specs.Shown.{own_frame}
+use Rattle.fm_outcome_code.specs.Outcome as told
+use Rattle.fm_outcome_code.specs.Outcome.{own_frame}
 use Rattle.fm_outcome_code.specs.Shown as shown
 use Rattle.fm_outcome_code.specs.Shown.{outcome_by}
 use Rattle.fm_outcome_code.proofs.Asking.{needs_alike}

@@ -1,3 +1,8 @@
+pub mod Outcome
+pub mod First
+pub mod Waits
+pub mod Parts
+pub mod Holding
 pub mod Played
 pub mod Sound
 pub mod Given

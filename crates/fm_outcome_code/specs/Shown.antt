@@ -19,8 +19,8 @@ use Rattle.fm_proc_language.specs.Slots.{Slots, port_in}
 use Rattle.fm_proc_language.specs.Processes.{CodeProc}
 use Rattle.fm_gen.specs.Units.{unit_of_code}
 use Rattle.fm_gen.specs.Programs.{code_of}
-use Rattle.fm_outcome_procs.specs.First.{process_of}
-use Rattle.fm_outcome_procs.specs.Shown.{outcome_with, own_frame}
+use Rattle.fm_outcome_code.specs.First.{process_of}
+use Rattle.fm_outcome_code.specs.Outcome.{outcome_with, own_frame}
 
 -- Variables.
 

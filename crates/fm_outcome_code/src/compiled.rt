@@ -13,12 +13,12 @@ ghost use Rattle.fm_outcome_code.specs.Played.{played};
 ghost use Rattle.fm_outcome_code.specs.Sound.{IsSound};
 
 use crate::first::first_stacks;
+use crate::gathering::process_of;
 use crate::showing::outcome;
 use fm_base::{NoMemory, Path};
 use fm_code::Body;
 use fm_machine::Done;
 use fm_mean::Outcome;
-use fm_outcome_procs::process_of;
 use fm_procs::{CodeProcs, can_step, give_piece, make_piece, note};
 use fm_rules::Program;
 use fm_run::{Awaited, History, Kind, Net, OutsideNet, Piece, put_piece};

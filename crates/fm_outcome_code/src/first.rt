@@ -6,9 +6,9 @@ ghost use Rattle.fm_procs.specs.Kept.{AreKept};
 ghost use Rattle.fm_procs.specs.Readings.{order_of, state_of};
 ghost use Rattle.fm_outcome_code.specs.Shown.{first_process};
 
+use crate::begun::first_stacks as stacks_of;
 use fm_base::NoMemory;
 use fm_gen::generate;
-use fm_outcome_procs::first_stacks as stacks_of;
 use fm_procs::CodeProcs;
 use fm_rules::Program;
 use std::alloc::Global;

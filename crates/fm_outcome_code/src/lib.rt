@@ -5,17 +5,28 @@
 //! the same (`machines_are_alike`, `processes_are_alike`), so a piece of stack code is a piece of the meaning, and who can step
 //! there can step here.
 //!
-//! What a run of stack code shows.
-//!
-//! `outcome` tells it from the processes and channels alone, with the names of the program: it is the outcome (`outcome_by`) of the
-//! state that they stand for.
+//! What a run begins with and shows stands here whatever code its processes run: it begins with a unit of the code as the one process
+//! (`first_stacks`), and in the end a state shows what `outcome_with` gathers: lines, faults, waits and holders of its processes, and for
+//! the variables of main what is given, since only who knows their names can tell them. Of a program, that is the outcome (`outcome_by`) of
+//! the state for which its processes stand.
 #![tactic(auto)]
 
+mod begun;
 mod compiled;
 mod first;
+mod gathering;
+mod holders;
 mod laws;
+mod own;
+mod rows;
 mod showing;
 mod variables;
+mod waits;
+mod words;
 
+pub use begun::first_stacks;
 pub use compiled::Compiled;
+pub use gathering::{outcome_with, process_of};
 pub use laws::{machines_are_alike, processes_are_alike};
+pub use own::own_frame;
+pub use words::{channels, part, truths};

@@ -6,10 +6,10 @@ ghost use Rattle.fm_procs.specs.Kept.{AreKept};
 ghost use Rattle.fm_procs.specs.Readings.{state_of};
 ghost use Rattle.fm_outcome_code.specs.Shown.{outcome_by};
 
+use crate::gathering::{outcome_with, process_of};
 use crate::variables::shown_all;
 use fm_base::NoMemory;
 use fm_mean::Outcome;
-use fm_outcome_procs::{outcome_with, process_of};
 use fm_procs::CodeProcs;
 use fm_rules::Program;
 use std::alloc::Global;

@@ -9,11 +9,12 @@ ghost use Rattle.fm_proc_language.specs.Slots.{port_in};
 ghost use Rattle.fm_proc_events.specs.Phases.{proc_of};
 ghost use Rattle.fm_outcome_code.specs.Shown.{body_shown, frame_shown, shown_all};
 
+use crate::own::own_frame;
+use crate::words::{channels, part, truths};
 use fm_base::{NoMemory, Seq};
 use fm_code::{Body, Frame};
 use fm_finmap::NameMap;
 use fm_mean::{Shown, ShownVariable};
-use fm_outcome_procs::{channels, own_frame, part, truths};
 use fm_plain_frame::variables_of;
 use fm_proc_events::Process;
 use fm_proc_slots::Slots;

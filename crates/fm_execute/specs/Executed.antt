@@ -1,0 +1,46 @@
+-- What comes of bytes that are executed.
+-- Source: this profile.
+use Rattle.std.specs.Prelude.{◌≡◌, ℕ, List, [], Result, Ok, Err}
+use Rattle.fm_object.specs.declared.image.Image.{Image}
+use Rattle.fm_object.specs.Texts.{IsFirstMalformed, IsObjectText}
+use Rattle.fm_verify_law.specs.Typed.{IsBad, Typed}
+use Rattle.fm_run.specs.declared.run.Run.{Run}
+use Rattle.fm_run.specs.Runs.{Follows, IsRun}
+use Rattle.fm_execute.specs.Play.{image_play}
+use Rattle.fm_execute.specs.declared.fail.ExecuteFail.{ExecuteFail}
+use Rattle.fm_execute.specs.declared.fail.ExecuteFail.TheVariants as fails
+
+-- the run is one of the image's own machine under these turns, in which those that can step are served in turn
+pub record IsRunOf (i : Image) (turns : ℕ) (run : Run) : Type 0 where
+  pub runs : IsRun (image_play i) turns run
+  pub in_turn : Follows (image_play i) 1000 [] run.history.items
+
+-- the bytes are the text of an image that makes sense, and the run is one of it
+pub record IsExecuted (bytes : List ℕ) (turns : ℕ) (run : Run) : Type 0 where
+  pub image : Image
+  pub object : IsObjectText bytes image
+  pub typed : Typed image
+  pub of_image : IsRunOf image turns run
+
+-- the bytes are the text of an image in which this unit makes no sense
+pub record IsUnverified (bytes : List ℕ) (unit : ℕ) : Type 0 where
+  pub image : Image
+  pub object : IsObjectText bytes image
+  pub bad : IsBad image unit
+
+-- why they were not executed
+abbrev pub IsCause : List ℕ → ExecuteFail → Type 0
+IsCause bytes (fails.Malformed line) = IsFirstMalformed bytes line.0
+IsCause bytes (fails.Unverified unit) = IsUnverified bytes unit
+IsCause bytes fails.NoMemory = Unit {0}
+
+-- why an image was refused
+abbrev pub IsRefused : Image → ExecuteFail → Type 0
+IsRefused i (fails.Malformed line) = ⊥
+IsRefused i (fails.Unverified unit) = IsBad i unit
+IsRefused i fails.NoMemory = Unit {0}
+
+-- this image was executed, unless memory ran out
+abbrev pub RunsIt : Image → (turns : ℕ) → Result Run ExecuteFail → Type 0
+RunsIt i turns (Ok run) = IsRunOf i turns run
+RunsIt i turns (Err e) = e ≡ fails.NoMemory

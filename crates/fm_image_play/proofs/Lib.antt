@@ -1,3 +1,0 @@
-pub mod Runs
-pub mod Following
-pub mod Played

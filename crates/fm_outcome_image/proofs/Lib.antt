@@ -1,3 +1,0 @@
-mod Begun
-mod PortWords
-pub mod Programs

@@ -1,5 +1,0 @@
-mod Outermost
-mod Awaited
-mod Listed
-mod Holding
-mod Needed

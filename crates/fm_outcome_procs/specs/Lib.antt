@@ -1,5 +1,0 @@
-pub mod Shown
-pub mod First
-pub mod Waits
-pub mod Parts
-pub mod Holding
