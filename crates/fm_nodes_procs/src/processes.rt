@@ -105,23 +105,15 @@ impl<X> Processes<X> {
         self.paths.as_slice()
     }
 
-    // The processes with their paths, in the order of the numbers.
-    fn rows(&self, alloc: Global) -> Result<Vec<(&Path, &X)>, NoMemory>
-        ensures { IfOk result (λ v. map deref_pair v.items ≡ rows_in self.now.paths.items self.now.values.items) }
+    /// The processes with their paths, in path order.
+    pub fn in_path_order(&self, alloc: Global) -> Result<Vec<(&Path, &X)>, NoMemory>
+        ensures { IfOk result (λ v. map deref_pair v.items ≡ entries (by_path self.now)) }
     {
         let mut rows = Vec::new(alloc);
         'rows: for number in 0..self.paths.len() {
             let path: &Path = &self.paths[number];
             rows.push((path, &self.values[number]))?;
         }
-        Ok(rows)
-    }
-
-    /// The processes with their paths, in path order.
-    pub fn in_path_order(&self, alloc: Global) -> Result<Vec<(&Path, &X)>, NoMemory>
-        ensures { IfOk result (λ v. map deref_pair v.items ≡ entries (by_path self.now)) }
-    {
-        let mut rows = self.rows(alloc)?;
         rows.sort_by_key(|row| row.0)?;
         Ok(rows)
     }
