@@ -1,6 +1,1 @@
-pub mod Begun
-pub mod PortWords
-pub mod Played
-pub mod Following
-pub mod Runs
 pub mod Refusals

@@ -6,7 +6,7 @@ use Rattle.fm_object.specs.Texts.{IsFirstMalformed, IsObjectText}
 use Rattle.fm_verify_law.specs.Typed.{IsBad, Typed}
 use Rattle.fm_run.specs.declared.run.Run.{Run}
 use Rattle.fm_run.specs.Runs.{Follows, IsRun}
-use Rattle.fm_execute.specs.Play.{image_play}
+use Rattle.fm_image_play.specs.Play.{image_play}
 use Rattle.fm_execute.specs.declared.fail.ExecuteFail.{ExecuteFail}
 use Rattle.fm_execute.specs.declared.fail.ExecuteFail.TheVariants as fails
 

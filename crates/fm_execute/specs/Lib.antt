@@ -1,4 +1,2 @@
-pub mod Outcome
-pub mod Play
 pub mod Coded
 pub mod Executed

@@ -8,7 +8,7 @@ ghost use Rattle.fm_code.specs.declared.body.Body as declared_body;
 ghost use Rattle.fm_net.specs.Machine.{Place};
 ghost use Rattle.fm_proc_language.specs.Processes.{CodeProc};
 ghost use Rattle.fm_image_law.specs.Image.{GoesOn, first, step};
-ghost use Rattle.fm_execute.specs.Play.{image_play};
+ghost use Rattle.fm_image_play.specs.Play.{image_play};
 ghost use Rattle.fm_run.specs.Runs.{Follows, IsRun};
 
 use crate::images::Images;

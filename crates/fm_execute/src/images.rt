@@ -1,11 +1,10 @@
 //! Images that make sense, as a kind of source of what runs as stack code.
 
-ghost use Rattle.fm_execute.specs.Play.{IsBare, IsLive, good_play};
+ghost use Rattle.fm_image_play.specs.Play.{IsBare, IsLive, good_play};
 ghost use Rattle.fm_execute.specs.Coded.{image_coded};
 
-use crate::first::first_stacks;
-use crate::showing::outcome;
 use fm_base::NoMemory;
+use fm_image_play::{first_stacks, outcome};
 use fm_mean::Outcome;
 use fm_procs::CodeProcs;
 use fm_run_code::Coded;

@@ -20,7 +20,7 @@ use Rattle.fm_run.specs.Plays.{Play, first}
 use Rattle.fm_run.specs.Programs as programs
 use Rattle.fm_run.specs.Programs.{play_of}
 use Rattle.fm_run.specs.Runs.{IsRun}
-use Rattle.fm_execute.specs.Play.{image_play}
+use Rattle.fm_image_play.specs.Play.{image_play}
 use Rattle.fm_execute_law.proofs.Back.{run_back}
 use Rattle.fm_execute_law.proofs.Firsts.{first_same}
 use Rattle.fm_execute_law.proofs.Shown.{outcome_same}

@@ -22,7 +22,7 @@ use Rattle.fm_gen_relation.specs.Standing.{item_by, values_in}
 use Rattle.fm_gen.specs.Programs.{code_of}
 use Rattle.fm_verify.proofs.Images.{all_coded, as_many}
 use Rattle.fm_proc_language.specs.Slots.{Slots, port_in}
-use Rattle.fm_execute.specs.Outcome.{cell_shown, cells_in, cells_shown, frame_shown, words_shown}
+use Rattle.fm_image_play.specs.Outcome.{cell_shown, cells_in, cells_shown, frame_shown, words_shown}
 
 abbrev entry : List ℕ → Shown → List ℕ × Shown
 entry name x = (name, x)

@@ -1,6 +1,6 @@
 //! What is executed of a program's image is a run of the program.
 //!
-//! An image is run by what it says (`fm_execute`), and a program by its meaning. Where the image is that of a program and its code the
+//! An image is run by what it says (`fm_image_play`), and a program by its meaning. Where the image is that of a program and its code the
 //! two do and show the same. Each function here has an empty body: its contract is a law.
 #![tactic(auto)]
 
@@ -14,8 +14,8 @@ ghost use Rattle.fm_image.specs.ImageOf.{image_of};
 ghost use Rattle.fm_gen_relation.specs.Standing.{values_in};
 ghost use Rattle.fm_gen.specs.Programs.{code_of};
 ghost use Rattle.fm_proc_language.specs.Slots.{Slots, port_in};
-ghost use Rattle.fm_execute.specs.Outcome.{frame_shown};
-ghost use Rattle.fm_execute.specs.Play.{image_play};
+ghost use Rattle.fm_image_play.specs.Outcome.{frame_shown};
+ghost use Rattle.fm_image_play.specs.Play.{image_play};
 ghost use Rattle.fm_run.specs.declared.run.Run as declared_run;
 ghost use Rattle.fm_run.specs.Programs as programs;
 ghost use Rattle.fm_run.specs.Runs.{IsRun};

@@ -1,7 +1,7 @@
 use Rattle.std.proofs.Common.{[]}
 use Rattle.std.proofs.lemmas.Result.{IfOk-weaker}
 use Rattle.fm_image_law.proofs.Reached.{reached_moves}
-use Rattle.fm_execute.proofs.Played.{follows_of_image, run_of_image}
+use Rattle.fm_image_play.proofs.Played.{follows_of_image, run_of_image}
 use Rattle.fm_execute.proofs.executing.execute.Goals as goal
 
 pub returns-clause-run : goal.returns-clause-run

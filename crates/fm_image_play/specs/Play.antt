@@ -18,7 +18,7 @@ use Rattle.fm_verify_law.specs.Typed.{Typed}
 use Rattle.fm_image_law.specs.Image.{first_process}
 use Rattle.fm_image_law.proofs.First.{first_good}
 use Rattle.fm_run.specs.Plays.{Play}
-use Rattle.fm_execute.specs.Outcome.{outcome_of}
+use Rattle.fm_image_play.specs.Outcome.{outcome_of}
 
 module _ (i : Image) where
   -- the PROGRAM alone, as a process of the image's code, and what stack code does then

@@ -11,7 +11,7 @@ use Rattle.fm_run.specs.Orders.{can_at, can_in, chosen, in_turn, ready_after}
 use Rattle.fm_run.specs.Pieces.{IsFull, after_steps, is_local_at, is_local_in}
 use Rattle.fm_run.specs.Plays.{Play, first, language, step}
 use Rattle.fm_run.specs.Runs.{Follows, FollowsFrom, Stand, after_entry, first_stand, place_of, steps_of}
-use Rattle.fm_execute.proofs.Runs.{waits}
+use Rattle.fm_image_play.proofs.Runs.{waits}
 
 -- fewer steps of one actor are legal where more are
 legal_part : {S A : Type 0} (step : Step S A) (s : S) (c : A) (n k : ℕ) → k ≤ n → IsLegal step s (replicate n c) → IsLegal step s (replicate k c)

@@ -1,6 +1,6 @@
 use Rattle.std.proofs.Common.{◌≡◌, drop}
 use Rattle.fm_image_law.specs.Image.{main_from}
-use Rattle.fm_execute.proofs.first.main_place.Given as goal
+use Rattle.fm_image_play.proofs.first.main_place.Given as goal
 
 -- it is among the rest
 abbrev pub invariant-units : goal.invariant-units

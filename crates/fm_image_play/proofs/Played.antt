@@ -26,9 +26,9 @@ use Rattle.fm_image_law.proofs.First.{first_holds}
 use Rattle.fm_run.specs.declared.run.Run.{Run}
 use Rattle.fm_run.specs.Plays.{IsLawfulPlay, first, need_of}
 use Rattle.fm_run.specs.Runs.{Follows, IsRun}
-use Rattle.fm_execute.specs.Play.{GoodProc, IsBare, IsLive, account, bare, bare_state, good_main, good_play, good_speaks, image_play}
-use Rattle.fm_execute.proofs.Following.{follows_alike}
-use Rattle.fm_execute.proofs.Runs.{run_alike}
+use Rattle.fm_image_play.specs.Play.{GoodProc, IsBare, IsLive, account, bare, bare_state, good_main, good_play, good_speaks, image_play}
+use Rattle.fm_image_play.proofs.Following.{follows_alike}
+use Rattle.fm_image_play.proofs.Runs.{run_alike}
 
 module _ (i : Image) where
   abbrev Anyway : State (GoodProc i) → Type 0

@@ -1,7 +1,7 @@
 use Rattle.std.proofs.Common.{◌≡◌, drop, map}
 use Rattle.fm_symbols.specs.ByName.{first_of_each, with_all}
-use Rattle.fm_execute.specs.Outcome.{cell_shown}
-use Rattle.fm_execute.proofs.rows.by_name.Given as goal
+use Rattle.fm_image_play.specs.Outcome.{cell_shown}
+use Rattle.fm_image_play.proofs.rows.by_name.Given as goal
 
 -- with the rest of the variables it is all
 abbrev pub invariant-cells : goal.invariant-cells

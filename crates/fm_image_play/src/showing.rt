@@ -4,7 +4,7 @@ ghost use Rattle.std.specs.Prelude.{◌≡◌, Some, [], IfOk};
 ghost use Rattle.fm_finmap.specs.Rows.{place_at};
 ghost use Rattle.fm_procs.specs.Kept.{AreKept};
 ghost use Rattle.fm_procs.specs.Readings.{state_of};
-ghost use Rattle.fm_execute.specs.Outcome.{outcome_of};
+ghost use Rattle.fm_image_play.specs.Outcome.{outcome_of};
 
 use crate::rows::variables;
 use fm_base::NoMemory;

@@ -1,8 +1,4 @@
-//! An image as what is run.
-//!
-//! `specs/Play` has the image's own machine as what is run (`image_play`), and the same over processes that are good where the image makes
-//! sense (`good_play`). That is lawful there, as the runner asks of what it plays; in any case the two do and show the same, so that a run
-//! of the one is a run of the other. Each function here has an empty body: its contract is a law.
+//! That an image as what is run is lawful where it makes sense. Each function here has an empty body: its contract is a law.
 
 ghost use Rattle.std.specs.Prelude.{ℕ, List};
 ghost use Rattle.fm_base.specs.declared.schedule.Turn as declared_turn;
@@ -14,7 +10,7 @@ ghost use Rattle.fm_run.specs.declared.run.Run as declared_run;
 ghost use Rattle.fm_run.specs.Plays.{IsLawfulPlay, language};
 ghost use Rattle.fm_run.specs.Runs.{Follows, IsRun};
 ghost use Rattle.fm_verify_law.specs.Typed.{Typed};
-ghost use Rattle.fm_execute.specs.Play.{GoodProc, IsBare, IsLive, good_play, image_play};
+ghost use Rattle.fm_image_play.specs.Play.{GoodProc, IsBare, IsLive, good_play, image_play};
 
 /// Of an image that makes sense processes account for their ports, and main holds none.
 pub fn good_play_is_lawful()

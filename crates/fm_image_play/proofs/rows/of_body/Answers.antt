@@ -1,8 +1,8 @@
 use Rattle.std.proofs.Common.{ap, sym, ◌∙◌}
 use Rattle.std.proofs.lemmas.Result.{IfOk-weaker}
 use Rattle.fm_code.specs.declared.body.Frame.{Frame}
-use Rattle.fm_execute.specs.Outcome.{body_shown, frame_shown}
-use Rattle.fm_execute.proofs.rows.of_body.Goals as goal
+use Rattle.fm_image_play.specs.Outcome.{body_shown, frame_shown}
+use Rattle.fm_image_play.proofs.rows.of_body.Goals as goal
 
 pub returns-in-Some : goal.returns-in-Some
 returns-in-Some c =

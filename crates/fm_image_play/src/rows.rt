@@ -4,7 +4,7 @@ ghost use Rattle.std.specs.Prelude.{◌≡◌, map, option_map, slice_get, take,
 ghost use Rattle.std.specs.Option.{option_copied};
 ghost use Rattle.fm_symbols.specs.ByName.{first_of_each, with_new};
 ghost use Rattle.fm_proc_events.specs.Phases.{proc_of};
-ghost use Rattle.fm_execute.specs.Outcome.{body_shown, cell_shown, cells_in, cells_shown, frame_shown, shown_all, words_shown};
+ghost use Rattle.fm_image_play.specs.Outcome.{body_shown, cell_shown, cells_in, cells_shown, frame_shown, shown_all, words_shown};
 
 use fm_base::{NoMemory, Seq};
 use fm_code::{Body, Frame};

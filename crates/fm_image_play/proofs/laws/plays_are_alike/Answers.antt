@@ -1,5 +1,5 @@
-use Rattle.fm_execute.proofs.Played.{follows_of_image, live_alike, plays_alike, run_of_image}
-use Rattle.fm_execute.proofs.plays.plays_are_alike.Goals as goal
+use Rattle.fm_image_play.proofs.Played.{follows_of_image, live_alike, plays_alike, run_of_image}
+use Rattle.fm_image_play.proofs.laws.plays_are_alike.Goals as goal
 
 pub returns-clause-alike : goal.returns-clause-alike
 returns-clause-alike c = plays_alike
