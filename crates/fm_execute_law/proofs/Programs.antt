@@ -1,11 +1,14 @@
 -- A run of the image of a program is a run of the program.
-use Rattle.std.proofs.Common.{◌≡◌, ℕ, sym, subst, ◌∙◌}
+use Rattle.std.proofs.Common.{◌≡◌, ℕ, List, sym, subst, ◌∙◌}
 use Rattle.fm_net.specs.Correspondence.{StandsFor}
 use Rattle.fm_net.specs.Machine.{State}
 use Rattle.fm_net.specs.Owned.{main_alone}
 use Rattle.fm_rules.specs.declared.program.Program.{Program}
 use Rattle.fm_mean.specs.Process.{Proc}
 use Rattle.fm_mean.specs.Steps.{first_proc}
+use Rattle.fm_object.specs.declared.image.Image.{Image}
+use Rattle.fm_object.specs.Texts.{IsObjectText}
+use Rattle.fm_object.proofs.MalformedLaws.{one_object_text}
 use Rattle.fm_image.specs.ImageOf.{image_of}
 use Rattle.fm_gen.specs.Programs.{code_of}
 use Rattle.fm_proc_language.specs.Processes.{CodeProc}
@@ -21,6 +24,7 @@ use Rattle.fm_run.specs.Programs as programs
 use Rattle.fm_run.specs.Programs.{play_of}
 use Rattle.fm_run.specs.Runs.{IsRun}
 use Rattle.fm_image_play.specs.Play.{image_play}
+use Rattle.fm_execute.specs.Executed.{IsExecuted}
 use Rattle.fm_execute_law.proofs.Back.{run_back}
 use Rattle.fm_execute_law.proofs.Firsts.{first_same}
 use Rattle.fm_execute_law.proofs.Shown.{outcome_same}
@@ -39,3 +43,7 @@ module _ (p : Program) where
 
   pub run_of_program : (turns : ℕ) (run : Run) → IsRun plays turns run → programs.IsRun p turns run
   run_of_program turns run h = run_back (play_of p) plays (Corresponds p) (IsLive p) (machines_alike p) begins shows turns run h
+
+  pub run_of_text : (bytes : List ℕ) → IsObjectText bytes (image_of p (code_of p)) → (turns : ℕ) (run : Run) → IsExecuted bytes turns run → programs.IsRun p turns run
+  run_of_text bytes object turns run h =
+      run_of_program turns run (subst (λ (i : Image). IsRun (image_play i) turns run) (one_object_text bytes h.image (image_of p (code_of p)) h.object object) h.of_image.runs)
