@@ -1,6 +1,6 @@
 -- The values of accepted words are those of their command.
 use Rattle.std.proofs.Common.{◌≡◌, ℕ, Bool, true, false, List, [], ◌∷◌, refl, ap, sym, subst, ◌∙◌, codes}
-use Rattle.std.specs.Prelude.{Option, Some, None, is_some, option_and_then}
+use Rattle.std.specs.Prelude.{Option, Some, None, is_none, is_some, option_and_then, option_map}
 use Rattle.std.proofs.lemmas.Option.{none-some}
 use Rattle.clap.specs.Walk.{Row, Text, rows_of}
 use Rattle.clap.specs.Matches.{first_value, one_text}
@@ -10,10 +10,10 @@ use Rattle.clap.proofs.WalkLemmas.{first_value-rows, one_text-rows}
 use Rattle.fm_words.specs.declared.command.Command.{Command}
 use Rattle.fm_words.specs.declared.command.Command.TheVariants as command
 use Rattle.fm_words.specs.declared.settings.Settings.{Settings}
-use Rattle.fm_words.specs.Words.{number_of, plan_of, options_of, demo_with, make_of, demo_of}
-use Rattle.fm_words.specs.Values.{run_app, make_app, demo_app, run_found, make_found, demo_found}
+use Rattle.fm_words.specs.Words.{number_of, plan_of, options_of, make_of, numbered_of}
+use Rattle.fm_words.specs.Values.{run_app, make_app, numbered_app, run_found, make_found, numbered_found}
 use Rattle.fm_words.proofs.Spelling.{plain_number}
-use Rattle.fm_words.proofs.Rows.{Shows, ShowsNumber, bool_word, true_false, run_rows, make_rows, demo_rows}
+use Rattle.fm_words.proofs.Rows.{Shows, ShowsNumber, bool_word, true_false, run_rows, make_rows, numbered_rows}
 
 pub run_found_is : (ws : List Text) → matches_of run_app ws ≡ run_found ws
 unfolding run_found
@@ -23,9 +23,9 @@ pub make_found_is : (ws : List Text) → matches_of make_app ws ≡ make_found w
 unfolding make_found
 make_found_is ws = refl
 
-pub demo_found_is : (ws : List Text) → matches_of demo_app ws ≡ demo_found ws
-unfolding demo_found
-demo_found_is ws = refl
+pub numbered_found_is : (ws : List Text) → matches_of numbered_app ws ≡ numbered_found ws
+unfolding numbered_found
+numbered_found_is ws = refl
 
 -- ---- settings
 
@@ -95,31 +95,46 @@ make_parsed f [] r i rows t = absurd (true_false (sym i))
 make_parsed f (w ∷ []) r i rows t = make_taken f w r (number_of w) refl (some_of (λ n. command.Make n) (number_of w) i) rows t
 make_parsed f (w ∷ v ∷ ws) r i rows t = absurd (none_of (number_of w) i)
 
-pub record IsDemo (f : Found) (ws : List Text) (r : Option ℕ) : Type 0 where
+pub record IsNumbered (f : Found) (ws : List Text) (r : Option ℕ) : Type 0 where
   pub number : ℕ
   pub read : r ≡ Some number
   pub settings : Settings
   pub shown : Shows (rows_of f) settings
-  pub are : demo_of ws ≡ demo_with number settings
+  pub are : numbered_of ws ≡ Some (number, settings)
 
-demo_taken : (f : Found) (w : Text) (ws : List Text) (r : Option ℕ) (o : Option ℕ) (p : Option Settings) → number_of w ≡ o → options_of ws ≡ p → is_some (option_and_then (λ n. option_and_then (demo_with n) p) o) ≡ true
-    → rows_of f ≡ demo_found (w ∷ ws) → r ≡ option_and_then number_of (first_value f (codes "number")) → IsDemo f (w ∷ ws) r
-demo_taken f w ws r (Some n) (Some s) e q i rows t =
-    let are = demo_found_is (w ∷ ws) ∙ sym rows in
-    let both = demo_rows w ws s (plain_number w n e) q in
+-- a number and what its options ask for
+abbrev behind : Option Settings → Option ℕ → Option (ℕ × Settings)
+behind p o = option_and_then (λ n. option_map (λ s. (n, s)) p) o
+
+abbrev pub both_of : ℕ → Settings → Option (ℕ × Settings)
+both_of n s = Some (n, s)
+
+numbered_is : (w : Text) (ws : List Text) (n : ℕ) (s : Settings) → number_of w ≡ Some n → options_of ws ≡ Some s → numbered_of (w ∷ ws) ≡ Some (n, s)
+numbered_is w ws n s e q = ap (λ (o : Option ℕ). behind (options_of ws) o) e ∙ ap (λ (p : Option Settings). behind p (Some n)) q
+
+numbered_taken : (f : Found) (w : Text) (ws : List Text) (r : Option ℕ) (o : Option ℕ) (p : Option Settings) → number_of w ≡ o → options_of ws ≡ p → is_some (behind p o) ≡ true
+    → rows_of f ≡ numbered_found (w ∷ ws) → r ≡ option_and_then number_of (first_value f (codes "number")) → IsNumbered f (w ∷ ws) r
+numbered_taken f w ws r (Some n) (Some s) e q i rows t =
+    let are = numbered_found_is (w ∷ ws) ∙ sym rows in
+    let both = numbered_rows w ws s (plain_number w n e) q in
     record {
       number = n;
       read = number_shown f w n r e (subst (λ (x : List Row). ShowsNumber x w) are both.1) t;
       settings = s;
       shown = subst (λ (x : List Row). Shows x s) are both.0;
-      are = ap (option_and_then (λ n. option_and_then (demo_with n) (options_of ws))) e ∙ ap (option_and_then (demo_with n)) q;
+      are = numbered_is w ws n s e q;
     }
-demo_taken f w ws r (Some n) None e q i rows t = absurd (true_false (sym i))
-demo_taken f w ws r None p e q i rows t = absurd (true_false (sym i))
+numbered_taken f w ws r (Some n) None e q i rows t = absurd (true_false (sym i))
+numbered_taken f w ws r None p e q i rows t = absurd (true_false (sym i))
 
-pub demo_parsed : (f : Found) (ws : List Text) (r : Option ℕ) → is_some (demo_of ws) ≡ true → rows_of f ≡ demo_found ws → r ≡ option_and_then number_of (first_value f (codes "number")) → IsDemo f ws r
-demo_parsed f [] r i rows t = absurd (true_false (sym i))
-demo_parsed f (w ∷ ws) r i rows t = demo_taken f w ws r (number_of w) (options_of ws) refl refl i rows t
+pub numbered_parsed : (f : Found) (ws : List Text) (r : Option ℕ) → is_some (numbered_of ws) ≡ true → rows_of f ≡ numbered_found ws → r ≡ option_and_then number_of (first_value f (codes "number")) → IsNumbered f ws r
+numbered_parsed f [] r i rows t = absurd (true_false (sym i))
+numbered_parsed f (w ∷ ws) r i rows t = numbered_taken f w ws r (number_of w) (options_of ws) refl refl i rows t
+
+-- options that are a command with a number have a number and options
+pub has_numbered : {X : Type 0} (f : ℕ → Settings → Option X) (o : Option (ℕ × Settings)) → is_none (option_and_then (λ p. f p.0 p.1) o) ≡ false → is_some o ≡ true
+has_numbered f (Some p) e = refl
+has_numbered f None e = absurd (true_false e)
 
 pub not_none : (r : Option ℕ) (n : ℕ) → r ≡ None → r ≡ Some n → ⊥
 not_none r n e f = none-some n (sym e ∙ f)

@@ -14,7 +14,7 @@ use Rattle.fm_words.specs.declared.option.OptionName.TheVariants as name
 use Rattle.fm_words.specs.declared.option.Setting.{Setting}
 use Rattle.fm_words.specs.declared.settings.Settings.{Settings}
 use Rattle.fm_words.specs.Words.{number_of, plan_of, settings_of, turns_in, workers_in, slice_in, plan_in, is_vars, given, is_single, are_single, asked, options_of}
-use Rattle.fm_words.specs.Values.{run_app, make_app, demo_app}
+use Rattle.fm_words.specs.Values.{run_app, make_app, numbered_app}
 use Rattle.fm_words.proofs.Numerals.{both_true}
 use Rattle.fm_words.proofs.Walks.{valued, flag, number, help, rules_of, id_of, IsPlain, number_held, numbered}
 use Rattle.fm_words.proofs.Spelling.{Spelled, pair, lone, turns, workers, slice, plan, vars, ReadAll, none, more, used_by, words_used, some_same}
@@ -162,7 +162,7 @@ once {us = us} {ss = ss} r e u =
       | lone ↦ single g.vars _ (count_vars r) a.1
     ]
 
--- the rows in front: that of the number of `demo`
+-- the rows in front: that of the number of `demo` or `nodes`
 abbrev front : Bool → Text → List Row
 front false v = []
 front true v = set_row (codes "number") (reading_by number) (v ∷ []) ∷ []
@@ -360,8 +360,8 @@ run_rows ws s e =
 pub record ShowsNumber (rows : List Row) (v : Text) : Type 0 where
   pub number_is : first_of (codes "number") rows ≡ Some v
 
-pub demo_rows : (v : Text) (ws : List Text) (s : Settings) → IsPlain v → options_of ws ≡ Some s → Shows (matches_of demo_app (v ∷ ws)) s × ShowsNumber (matches_of demo_app (v ∷ ws)) v
-demo_rows v ws s p e =
+pub numbered_rows : (v : Text) (ws : List Text) (s : Settings) → IsPlain v → options_of ws ≡ Some s → Shows (matches_of numbered_app (v ∷ ws)) s × ShowsNumber (matches_of numbered_app (v ∷ ws)) v
+numbered_rows v ws s p e =
     let a = asked_by ws s e in
     let u = words_used true 2 ws a.settings a.words (number_held v) in
     let first = ap (λ w. finished (rules_of true) (fold (walked (rules_of true) []) w ws).held) (numbered (rules_of false) v p) in
@@ -369,7 +369,7 @@ demo_rows v ws s p e =
     let used = ap (λ (r : List Row). fold with_default r (rules_of true)) u.rows_are in
     let all = all_rows true v u.spelled a.settings u.reads a.singles in
     let rows = front true v ++ map row_of u.spelled ++ tail (has_row (codes "vars") (map row_of u.spelled)) in
-    let are : matches_of demo_app (v ∷ ws) ≡ rows = first ∙ walk ∙ used ∙ all in (
+    let are : matches_of numbered_app (v ∷ ws) ≡ rows = first ∙ walk ∙ used ∙ all in (
       subst (λ (r : List Row). Shows r s) (sym are) (subst (Shows rows) a.are (shows true v u.spelled a.settings u.reads (has_row (codes "vars") (map row_of u.spelled)) refl)),
       record { number_is = ap (first_of (codes "number")) are },
     )

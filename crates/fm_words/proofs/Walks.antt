@@ -9,7 +9,7 @@ use Rattle.clap.specs.declared.builder.action.ArgAction.TheVariants.{Set, SetTru
 use Rattle.clap.specs.declared.builder.value_parser.ValueParser.TheVariants as vp
 use Rattle.fm_words.specs.declared.option.OptionName.{OptionName}
 use Rattle.fm_words.specs.declared.option.OptionName.TheVariants as name
-use Rattle.fm_words.specs.Values.{run_app, make_app, demo_app}
+use Rattle.fm_words.specs.Values.{run_app, make_app, numbered_app}
 
 -- ---- the rules of the commands as built
 
@@ -28,7 +28,7 @@ help = filled help_rule
 abbrev pub options : List Rule
 options = valued (codes "turns") ∷ valued (codes "workers") ∷ valued (codes "slice") ∷ valued (codes "plan") ∷ flag ∷ help ∷ []
 
--- the rules of `run`, and of `demo`, which has a number
+-- the rules of `run`, and of `demo` and `nodes`, which have a number
 abbrev pub rules_of : Bool → List Rule
 rules_of false = options
 rules_of true = number ∷ options
@@ -36,8 +36,8 @@ rules_of true = number ∷ options
 run_is : (built run_app).top.rules ≡ rules_of false
 run_is = refl
 
-demo_is : (built demo_app).top.rules ≡ rules_of true
-demo_is = refl
+numbered_is : (built numbered_app).top.rules ≡ rules_of true
+numbered_is = refl
 
 make_is : (built make_app).top.rules ≡ number ∷ help ∷ []
 make_is = refl
@@ -48,8 +48,8 @@ run_simple = refl
 pub make_simple : is_simple make_app ≡ true
 make_simple = refl
 
-pub demo_simple : is_simple demo_app ≡ true
-demo_simple = refl
+pub numbered_simple : is_simple numbered_app ≡ true
+numbered_simple = refl
 
 -- ---- texts
 
@@ -157,7 +157,7 @@ behind_name b p h n v e =
     ap (λ (m : Held × Step). after_step (rules_of b) v (awaits b p n h) m.0 m.1) (met_plain (rules_of b) (option (id_of n)) p v (awaits b p n h).held e)
     ∙ after_value b p h n v
 
--- the number behind `make` or `demo`
+-- the number behind `make`, `demo` or `nodes`
 abbrev pub number_held : Text → Held
 number_held v = record { rows = []; pending = Some (codes "number", v ∷ []); skip = 0 }
 

@@ -30,8 +30,9 @@ run_app = with_options (bare (codes "run"))
 abbrev pub make_app : App
 make_app = with_number (bare (codes "make"))
 
-abbrev pub demo_app : App
-demo_app = with_options (with_number (bare (codes "demo")))
+-- of `demo` and `nodes`
+abbrev pub numbered_app : App
+numbered_app = with_options (with_number (bare (codes "demo")))
 
 -- what the parse of accepted words finds, for each command
 unfoldable pub run_found : List Text → List Row
@@ -40,5 +41,5 @@ run_found = matches_of run_app
 unfoldable pub make_found : List Text → List Row
 make_found = matches_of make_app
 
-unfoldable pub demo_found : List Text → List Row
-demo_found = matches_of demo_app
+unfoldable pub numbered_found : List Text → List Row
+numbered_found = matches_of numbered_app

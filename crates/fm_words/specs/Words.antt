@@ -203,6 +203,13 @@ replay_with s = cond (has_vars_only s) (Some (command.Replay s.vars)) None
 abbrev pub demo_with : ℕ → Settings → Option Command
 demo_with n s = cond s.vars None (option_map (command.Demo n) (setup_of s))
 
+-- `nodes` has one thread and takes its steps one by one
+abbrev pub has_no_threads : Settings → Bool
+has_no_threads s = is_none s.workers && is_none s.slice
+
+abbrev pub nodes_with : ℕ → Settings → Option Command
+nodes_with n s = cond (has_no_threads s) (option_map (λ u. command.Nodes n u s.vars) (setup_of s)) None
+
 -- a command that takes no more words
 abbrev pub alone : Command → List (List ℕ) → Option Command
 alone c [] = Some c
@@ -225,10 +232,18 @@ abbrev pub make_of : List (List ℕ) → Option Command
 make_of [] = None
 make_of (w ∷ ws) = option_and_then (λ n. alone (command.Make n) ws) (number_of w)
 
+-- a number and options behind it
+abbrev pub numbered_of : List (List ℕ) → Option (ℕ × Settings)
+numbered_of [] = None
+numbered_of (w ∷ ws) = option_and_then (λ n. option_map (λ s. (n, s)) (options_of ws)) (number_of w)
+
 -- `demo`, its number and its options
 abbrev pub demo_of : List (List ℕ) → Option Command
-demo_of [] = None
-demo_of (w ∷ ws) = option_and_then (λ n. option_and_then (demo_with n) (options_of ws)) (number_of w)
+demo_of ws = option_and_then (λ p. demo_with p.0 p.1) (numbered_of ws)
+
+-- `nodes`, its number and its options
+abbrev pub nodes_of : List (List ℕ) → Option Command
+nodes_of ws = option_and_then (λ p. nodes_with p.0 p.1) (numbered_of ws)
 
 -- the command that the words are, where they are in the command set
 abbrev pub command_of : List (List ℕ) → Option Command
@@ -242,4 +257,5 @@ command_of (w ∷ ws) =
     (cond (bytes_eq w (codes "make")) (make_of ws)
     (cond (bytes_eq w (codes "demo")) (demo_of ws)
     (cond (bytes_eq w (codes "flow")) (alone command.Flow ws)
-    (cond (bytes_eq w (codes "compile")) (alone command.Compile ws) None))))))))
+    (cond (bytes_eq w (codes "compile")) (alone command.Compile ws)
+    (cond (bytes_eq w (codes "nodes")) (nodes_of ws) None)))))))))

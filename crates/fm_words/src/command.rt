@@ -1,13 +1,13 @@
 //! The command that words are.
 
 ghost use Rattle.std.specs.Prelude.{◌≡◌, Some, map, is_none, MatchResult};
-ghost use Rattle.fm_words.specs.Words.{run_with, trace_with, replay_with, has_vars_only, demo_with, alone, run_of, trace_of, replay_of, make_of, demo_of, command_of};
+ghost use Rattle.fm_words.specs.Words.{run_with, trace_with, replay_with, has_vars_only, has_no_threads, demo_with, nodes_with, alone, run_of, trace_of, replay_of, make_of, numbered_of, demo_of, nodes_of, command_of};
 ghost use Rattle.fm_words.specs.Fails.{is_usage, IsCause};
 
 use crate::option::number;
 use crate::settings::{Settings, options_of};
 use crate::setup::setup_of;
-use crate::values::{demo_values, make_values, run_values};
+use crate::values::{make_values, numbered_values, run_values};
 use fm_base::Setup;
 use std::alloc::{AllocError, Global};
 use thiserror::Error;
@@ -51,6 +51,15 @@ pub enum Command {
         number: u64,
         /// How the run is set up.
         setup: Setup,
+    },
+    /// Checks a program, runs it on hosts whose channels go over links, and writes its report.
+    Nodes {
+        /// The seed of the network, below 10 to the 18.
+        number: u64,
+        /// How the run is set up.
+        setup: Setup,
+        /// Whether the report has the variables of main, and the cost.
+        vars: bool,
     },
 }
 
@@ -140,6 +149,27 @@ fn demo_with(number: u64, settings: Settings) -> Option<Command>
     })
 }
 
+// Whether no threads and no pieces are asked for: `nodes` has one thread and takes its steps one by one.
+fn has_no_threads(settings: Settings) -> bool
+    ensures { result ≡ has_no_threads settings }
+{
+    settings.workers.is_none() && settings.slice.is_none()
+}
+
+fn nodes_with(number: u64, settings: Settings) -> Option<Command>
+    ensures { result ≡ nodes_with number settings }
+{
+    if has_no_threads(settings) {
+        Some(Command::Nodes {
+            number,
+            setup: setup_of(settings)?,
+            vars: settings.vars,
+        })
+    } else {
+        None
+    }
+}
+
 fn alone(command: Command, words: &[&str]) -> Result<Command, WordsFail>
     ensures { MatchResult result (λ c. alone command (map (λ w. w.now) words.now) ≡ Some c) (λ e. is_usage e ≡ is_none (alone command (map (λ w. w.now) words.now))) }
 {
@@ -163,12 +193,27 @@ fn make_of(words: &[&str]) -> Option<Command>
     }
 }
 
-fn demo_of(words: &[&str]) -> Option<Command>
-    ensures { result ≡ demo_of (map (λ w. w.now) words.now) }
+// A number and options behind it.
+fn numbered_of(words: &[&str]) -> Option<(u64, Settings)>
+    ensures { result ≡ numbered_of (map (λ w. w.now) words.now) }
 {
     let (word, behind) = words.split_first()?;
     let number = number(word)?;
-    demo_with(number, options_of(behind)?)
+    Some((number, options_of(behind)?))
+}
+
+fn demo_of(words: &[&str]) -> Option<Command>
+    ensures { result ≡ demo_of (map (λ w. w.now) words.now) }
+{
+    let (number, settings) = numbered_of(words)?;
+    demo_with(number, settings)
+}
+
+fn nodes_of(words: &[&str]) -> Option<Command>
+    ensures { result ≡ nodes_of (map (λ w. w.now) words.now) }
+{
+    let (number, settings) = numbered_of(words)?;
+    nodes_with(number, settings)
 }
 
 fn run_of(words: &[&str]) -> Option<Command>
@@ -241,8 +286,21 @@ fn demo(alloc: Global, words: &[&str]) -> Result<Command, WordsFail>
     if demo_of(words).is_none() {
         return Err(WordsFail::Usage);
     }
-    let (number, settings) = demo_values(alloc, words)?;
+    let (number, settings) = numbered_values(alloc, words)?;
     match demo_with(number, settings) {
+        Some(command) => Ok(command),
+        None => unreachable!(),
+    }
+}
+
+fn nodes(alloc: Global, words: &[&str]) -> Result<Command, WordsFail>
+    ensures { MatchResult result (λ c. nodes_of (map (λ w. w.now) words.now) ≡ Some c) (λ e. is_usage e ≡ is_none (nodes_of (map (λ w. w.now) words.now))) }
+{
+    if nodes_of(words).is_none() {
+        return Err(WordsFail::Usage);
+    }
+    let (number, settings) = numbered_values(alloc, words)?;
+    match nodes_with(number, settings) {
         Some(command) => Ok(command),
         None => unreachable!(),
     }
@@ -275,6 +333,8 @@ pub fn words(alloc: Global, words: &[&str]) -> Result<Command, WordsFail>
         alone(Command::Flow, behind)
     } else if *first == "compile" {
         alone(Command::Compile, behind)
+    } else if *first == "nodes" {
+        nodes(alloc, behind)
     } else {
         Err(WordsFail::Usage)
     }

@@ -2,8 +2,8 @@
 
 ghost use Rattle.std.specs.Prelude.{◌≡◌, true, false, Some, map, codes, option_and_then, is_some, IfOk, IfErr};
 ghost use Rattle.clap.specs.Words.{app_of, first_value, found_of, one_text, rows_of, with_rule};
-ghost use Rattle.fm_words.specs.Words.{number_of, plan_of, options_of, demo_with, make_of, demo_of};
-ghost use Rattle.fm_words.specs.Values.{bare, valued_rule, vars_rule, with_number, with_options, run_found, make_found, demo_found};
+ghost use Rattle.fm_words.specs.Words.{number_of, plan_of, options_of, make_of, numbered_of};
+ghost use Rattle.fm_words.specs.Values.{bare, valued_rule, vars_rule, with_number, with_options, run_found, make_found, numbered_found};
 ghost use Rattle.fm_words.specs.declared.command.Command.TheVariants as command;
 
 use crate::command::WordsFail;
@@ -77,8 +77,8 @@ fn make_matches<'a>(alloc: Global, words: &'a [&'a str]) -> Result<ArgMatches<'a
     Ok(command.try_get_matches_from(words)?)
 }
 
-fn demo_matches<'a>(alloc: Global, words: &'a [&'a str]) -> Result<ArgMatches<'a>, WordsFail>
-    ensures rows { IfOk result (λ m. rows_of (found_of m) ≡ demo_found (map (λ w. w.now) words.entry.now)) }
+fn numbered_matches<'a>(alloc: Global, words: &'a [&'a str]) -> Result<ArgMatches<'a>, WordsFail>
+    ensures rows { IfOk result (λ m. rows_of (found_of m) ≡ numbered_found (map (λ w. w.now) words.entry.now)) }
     ensures memory { IfErr result (λ e. e ≡ WordsFail.NoMemory) }
 {
     let numbered = with_number(alloc, bare(alloc, "demo"))?;
@@ -138,13 +138,14 @@ pub fn make_values(alloc: Global, words: &[&str]) -> Result<u64, WordsFail>
     }
 }
 
-/// The number of an accepted `demo`, and what its options ask for.
-pub fn demo_values(alloc: Global, words: &[&str]) -> Result<(u64, Settings), WordsFail>
-    requires { is_some (demo_of (map (λ w. w.now) words.now)) ≡ true }
-    ensures values { IfOk result (λ r. demo_of (map (λ w. w.now) words.now) ≡ demo_with r.0 r.1) }
+/// The number of an accepted `demo` or `nodes`, and what its options ask for. Each takes fewer than the parser that they
+/// share.
+pub fn numbered_values(alloc: Global, words: &[&str]) -> Result<(u64, Settings), WordsFail>
+    requires { is_some (numbered_of (map (λ w. w.now) words.now)) ≡ true }
+    ensures values { IfOk result (λ r. numbered_of (map (λ w. w.now) words.now) ≡ Some r) }
     ensures memory { IfErr result (λ e. e ≡ WordsFail.NoMemory) }
 {
-    let matches = demo_matches(alloc, words)?;
+    let matches = numbered_matches(alloc, words)?;
     match number_in(&matches, "number") {
         Some(number) => Ok((number, settings_in(&matches))),
         None => unreachable!(),

@@ -39,6 +39,8 @@ use Rattle.fm_image.specs.ImageOf.{image_of}
 use Rattle.fm_object.specs.Texts.{object_text}
 use Rattle.fm_verdict.specs.Program.{IsCheckedOf}
 use Rattle.fm_verdict.specs.Verdict.{IsBroken, IsBrokenForm, AreStatementsOf}
+use Rattle.fm_nodes_plain.specs.Lines.{IsFirstUnplain, IsPlainVerdict}
+use Rattle.fm_nodes_plain.proofs.Declared.{told_program}
 use Rattle.fm_run.specs.Orders.{places_of}
 use Rattle.fm_run.specs.Programs.{EndsSo, Follows, IsRun}
 use Rattle.fm_run.specs.declared.run.Ending.{Ending}
@@ -54,13 +56,14 @@ use Rattle.fm_words.specs.Words.{command_of}
 use Rattle.fm_words.specs.declared.command.Command.{Command}
 use Rattle.fm_words.specs.declared.command.Command.TheVariants as command
 use Rattle.fmc.specs.declared.answer.Exit.{Exit}
-use Rattle.fmc.specs.declared.answer.Exit.TheVariants.{Done, Faulted, Deadlocked, Refused, Spent, Usage, ReadFault, WriteFault, NoMemory, TooLong, Malformed, Illegal, Unfinished}
+use Rattle.fmc.specs.declared.answer.Exit.TheVariants.{Done, Faulted, Deadlocked, Refused, Spent, Usage, ReadFault, WriteFault, NoMemory, TooLong, Malformed, Illegal, Unfinished, NotPlain}
 use Rattle.fmc.specs.declared.answer.Reply.{Reply}
 use Rattle.fmc.specs.Exits.{is_end, is_decided, is_of_reading}
 use Rattle.fmc.specs.Listing.{listed_text}
 use Rattle.fmc.specs.Outcomes.{IsAccepted, IsRefusedFor, IsUnplayed, cost_of, exit_by, exit_of, source_limit, state_after, usage_text}
+use Rattle.fmc.specs.Plain.{HasPlainVerdict, IsNotPlain, IsPlainSource, PlainOrNot, unplain_text}
 use Rattle.fmc.specs.Replay.{IsTooLongTrace, IsTraceOf, SaysReplay, trace_limit}
-use Rattle.fmc.specs.Answer.{Answers, Asked, HasGround, Says, SaysRun, SaysMade, SaysTrace, IsListOf, SaysTold, TellsList, TellsDeterminism, IsFirstRaceOf, determinism_text, flow_text, TellsFlow, TellsObject, SaysOf, IsHistoryIn, IsHistoryOf, IsEnded, IsNoHistory, HasHistory, IsReady, IsRefusedBy, IsCompleted, IsMalformedBy, IsMalformedExit, IsRefusedExit, IsTooLongBy, IsTooLongExit, IsPlayedExit, are_reading, is_reading, limit_of, report_asked, summary_asked, trace_asked}
+use Rattle.fmc.specs.Answer.{Answers, Asked, HasGround, Says, SaysRun, SaysMade, SaysNodes, SaysTrace, IsListOf, SaysTold, TellsList, TellsDeterminism, IsFirstRaceOf, determinism_text, flow_text, TellsFlow, TellsObject, SaysOf, IsHistoryIn, IsHistoryOf, IsEnded, IsNoHistory, HasHistory, IsReady, IsRefusedBy, IsCompleted, IsMalformedBy, IsMalformedExit, IsRefusedExit, IsTooLongBy, IsTooLongExit, IsUnplainBy, IsUnplainExit, IsPlayedExit, are_reading, is_reading, limit_of, report_asked, summary_asked, trace_asked}
 use Rattle.fmc.specs.Reply.{bytes_of, places_in, IsFlowReply, IsObjectReply, IsReply, IsReplyFor, IsReplyOf, IsFairlySpent, IsRunBy, IsRunOf, IsTableOf, exit_in, is_spent_by, text_in}
 
 -- Replies from what the parts give.
@@ -123,6 +126,7 @@ ended_says b asked TooLong h ps t e k = absurd (false≢true e)
 ended_says b asked Malformed h ps t e k = absurd (false≢true e)
 ended_says b asked Illegal h ps t e k = absurd (false≢true e)
 ended_says b asked Unfinished h ps t e k = absurd (false≢true e)
+ended_says b asked NotPlain h ps t e k = absurd (false≢true e)
 
 -- a schedule that costs more than the turns: each one that ends costs as much or more
 spent_too : (program : Program) (turns : ℕ) (cs others : List Place) → IsLegal (step program) (first program) cs → turns < cost_of program cs → Settles (step program) (first program) others → turns < cost_of program others
@@ -209,6 +213,15 @@ told_of_choices b turns vars chosen r le k =
     same_report turns vars chosen h ps (ending.Ended o) = refl
     same_report turns vars chosen h ps ending.Spent = refl
 
+-- a run of a plain program is fair, since no schedule tells
+pub hosts_run : (b : List ℕ) (turns : ℕ) (program : Program) (r : run.Run) → IsCheckedOf b program → IsRun program turns r → ∥ IsPlainVerdict program None ∥₁ → IsRunOf b turns [] r
+hosts_run b turns program r lawful runs plain = record {
+  program = program;
+  lawful = lawful;
+  runs = runs;
+  fair = λ none. free_fair program r (told_program program plain).deterministic;
+}
+
 -- what `trace` says: its text is the same however the run ended
 pub told_by_trace : (b : List ℕ) (turns : ℕ) (r : run.Run) (text : List ℕ) → length b ≤ source_limit → IsRunOf b turns [] r → text ≡ trace_text (trace_of_history turns r.history.items b)
     → IsTraceText text (trace_of_history turns r.history.items b) → SaysTrace turns b (exit_in r.ending) r.history.items (places_of r.paths.items) text
@@ -292,6 +305,45 @@ run_history asked b TooLong h ps t k = inl (no_history h ps t _ k.1)
 run_history asked b Malformed h ps t k = absurd k
 run_history asked b Illegal h ps t k = absurd k
 run_history asked b Unfinished h ps t k = absurd k
+run_history asked b NotPlain h ps t k = absurd k
+
+-- hosts say what a run says, or that the program isn't plain
+nodes_say : (asked : Asked) (b : List ℕ) (exit : Exit) (h : List Turn) (ps : List Place) (t : List ℕ) → SaysNodes asked b exit h ps t → SaysRun asked b exit h ps t ⊎ IsNotPlain b h ps t
+nodes_say asked b Done h ps t k = inl k.1
+nodes_say asked b Faulted h ps t k = inl k.1
+nodes_say asked b Deadlocked h ps t k = inl k.1
+nodes_say asked b Refused h ps t k = inl k
+nodes_say asked b Spent h ps t k = inl k.1
+nodes_say asked b Usage h ps t k = absurd k
+nodes_say asked b ReadFault h ps t k = inl k
+nodes_say asked b WriteFault h ps t k = absurd k
+nodes_say asked b NoMemory h ps t k = inl k
+nodes_say asked b TooLong h ps t k = inl k
+nodes_say asked b Malformed h ps t k = absurd k
+nodes_say asked b Illegal h ps t k = absurd k
+nodes_say asked b Unfinished h ps t k = absurd k
+nodes_say asked b NotPlain h ps t k = inr k
+
+-- of a plain program they say what a run says
+pub said_by_hosts : (asked : Asked) (b : List ℕ) (exit : Exit) (h : List Turn) (ps : List Place) (t : List ℕ) → IsPlainSource b → SaysRun asked b exit h ps t → SaysNodes asked b exit h ps t
+said_by_hosts asked b Done h ps t plain k = (plain, k)
+said_by_hosts asked b Faulted h ps t plain k = (plain, k)
+said_by_hosts asked b Deadlocked h ps t plain k = (plain, k)
+said_by_hosts asked b Refused h ps t plain k = k
+said_by_hosts asked b Spent h ps t plain k = (plain, k)
+said_by_hosts asked b Usage h ps t plain k = k
+said_by_hosts asked b ReadFault h ps t plain k = k
+said_by_hosts asked b WriteFault h ps t plain k = k
+said_by_hosts asked b NoMemory h ps t plain k = k
+said_by_hosts asked b TooLong h ps t plain k = k
+said_by_hosts asked b Malformed h ps t plain k = k
+said_by_hosts asked b Illegal h ps t plain k = k
+said_by_hosts asked b Unfinished h ps t plain k = k
+said_by_hosts asked b NotPlain h ps t plain k = absurd k
+
+nodes_history : (asked : Asked) (b : List ℕ) (exit : Exit) (h : List Turn) (ps : List Place) (t : List ℕ) → SaysRun asked b exit h ps t ⊎ IsNotPlain b h ps t → IsHistoryIn asked.turns b h ps
+nodes_history asked b exit h ps t (inl k) = run_history asked b exit h ps t k
+nodes_history asked b exit h ps t (inr k) = inl (no_history h ps t _ k.unplayed)
 
 -- of a command that runs nothing
 module _ (TellsOf : List Placed → List ℕ → Type 0) (b : List ℕ) where
@@ -309,6 +361,7 @@ module _ (TellsOf : List Placed → List ℕ → Type 0) (b : List ℕ) where
   told_history Malformed h ps t k = absurd k
   told_history Illegal h ps t k = absurd k
   told_history Unfinished h ps t k = absurd k
+  told_history NotPlain h ps t k = absurd k
 
   told_completed : (exit : Exit) (h : List Turn) (ps : List Place) (t : List ℕ) → SaysTold TellsOf b exit h ps t → (exit ≡ ReadFault → ⊥) → length b ≤ source_limit → IsClean (IsBroken b) → (exit ≡ Done) ⊎ (exit ≡ NoMemory)
   told_completed Done h ps t k r le v = inl refl
@@ -324,6 +377,7 @@ module _ (TellsOf : List Placed → List ℕ → Type 0) (b : List ℕ) where
   told_completed Malformed h ps t k r le v = absurd k
   told_completed Illegal h ps t k r le v = absurd k
   told_completed Unfinished h ps t k r le v = absurd k
+  told_completed NotPlain h ps t k r le v = absurd k
 
   told_refused : (exit : Exit) (h : List Turn) (ps : List Place) (t : List ℕ) → SaysTold TellsOf b exit h ps t → (exit ≡ ReadFault → ⊥) → length b ≤ source_limit → (v : Refusal) → IsRefusedFor b v → IsRefusedExit exit
   told_refused Done h ps t k r le v w = absurd (k.clean v w.broken)
@@ -339,6 +393,7 @@ module _ (TellsOf : List Placed → List ℕ → Type 0) (b : List ℕ) where
   told_refused Malformed h ps t k r le v w = absurd k
   told_refused Illegal h ps t k r le v w = absurd k
   told_refused Unfinished h ps t k r le v w = absurd k
+  told_refused NotPlain h ps t k r le v w = absurd k
 
   told_long : (exit : Exit) (h : List Turn) (ps : List Place) (t : List ℕ) → SaysTold TellsOf b exit h ps t → (exit ≡ ReadFault → ⊥) → source_limit < length b → IsTooLongExit exit
   told_long Done h ps t k r l = absurd (omega (arith, k.within))
@@ -354,6 +409,7 @@ module _ (TellsOf : List Placed → List ℕ → Type 0) (b : List ℕ) where
   told_long Malformed h ps t k r l = absurd k
   told_long Illegal h ps t k r l = absurd k
   told_long Unfinished h ps t k r l = absurd k
+  told_long NotPlain h ps t k r l = absurd k
 
 -- of a replay: bytes are the text of one trace, or malformed
 same_trace : (Holds : List ℕ → Type 0) (b : List ℕ) → (k : IsTraceOf Holds b) → (t : Trace) → IsTraceText b t → Holds t.source
@@ -383,6 +439,7 @@ replay_history vars b TooLong h ps t k = no_history h ps t _ k.1
 replay_history vars b Malformed h ps t k = no_history h ps t _ k.unplayed
 replay_history vars b Illegal h ps t k = no_history h ps t _ k.unplayed
 replay_history vars b Unfinished h ps t k = no_history h ps t _ k.unplayed
+replay_history vars b NotPlain h ps t k = absurd k
 
 replay_completed : (vars : Bool) (b : List ℕ) (exit : Exit) (h : List Turn) (ps : List Place) (t : List ℕ) → SaysReplay vars b exit h ps t → (exit ≡ ReadFault → ⊥) → IsTraceOf IsAccepted b → IsPlayedExit exit ⊎ ((exit ≡ Illegal) ⊎ ((exit ≡ Unfinished) ⊎ (exit ≡ NoMemory)))
 replay_completed vars b Done h ps t k r v = inl (inl (inl refl))
@@ -398,6 +455,7 @@ replay_completed vars b TooLong h ps t k r v = absurd (not_long b v.within v.tra
 replay_completed vars b Malformed h ps t k r v = absurd (no_line_of_a_trace b v.trace v.read k.line k.malformed)
 replay_completed vars b Illegal h ps t k r v = inr (inl refl)
 replay_completed vars b Unfinished h ps t k r v = inr (inr (inl refl))
+replay_completed vars b NotPlain h ps t k r v = absurd k
 
 replay_refused : (vars : Bool) (b : List ℕ) (exit : Exit) (h : List Turn) (ps : List Place) (t : List ℕ) → SaysReplay vars b exit h ps t → (exit ≡ ReadFault → ⊥) → (v : Refusal) → IsTraceOf (λ source. IsRefusedFor source v) b → IsRefusedExit exit
 replay_refused vars b Done h ps t k r v w = absurd (k.lawful.clean v (same_trace (λ source. IsRefusedFor source v) b w k.trace k.read).broken)
@@ -413,6 +471,7 @@ replay_refused vars b TooLong h ps t k r v w = absurd (not_long b w.within w.tra
 replay_refused vars b Malformed h ps t k r v w = absurd (no_line_of_a_trace b w.trace w.read k.line k.malformed)
 replay_refused vars b Illegal h ps t k r v w = absurd (k.lawful.clean v (same_trace (λ source. IsRefusedFor source v) b w k.trace k.read).broken)
 replay_refused vars b Unfinished h ps t k r v w = absurd (k.lawful.clean v (same_trace (λ source. IsRefusedFor source v) b w k.trace k.read).broken)
+replay_refused vars b NotPlain h ps t k r v w = absurd k
 
 replay_long : (vars : Bool) (b : List ℕ) (exit : Exit) (h : List Turn) (ps : List Place) (t : List ℕ) → SaysReplay vars b exit h ps t → (exit ≡ ReadFault → ⊥) → IsTooLongTrace b → IsTooLongExit exit
 replay_long vars b Done h ps t k r l = absurd (not_long b k.within k.trace k.read k.short l)
@@ -428,6 +487,7 @@ replay_long vars b TooLong h ps t k r l = inl refl
 replay_long vars b Malformed h ps t k r l = absurd (malformed_not_long b k.within k.line k.malformed l)
 replay_long vars b Illegal h ps t k r l = absurd (not_long b k.within k.trace k.read k.short l)
 replay_long vars b Unfinished h ps t k r l = absurd (not_long b k.within k.trace k.read k.short l)
+replay_long vars b NotPlain h ps t k r l = absurd k
 
 replay_malformed : (vars : Bool) (b : List ℕ) (exit : Exit) (h : List Turn) (ps : List Place) (t : List ℕ) → SaysReplay vars b exit h ps t → (exit ≡ ReadFault → ⊥) → (length b ≤ trace_limit) × (line : ℕ) × IsFirstMalformed b line → IsMalformedExit exit
 replay_malformed vars b Done h ps t k r l = absurd (no_line_of_a_trace b k.trace k.read l.1 l.2)
@@ -443,6 +503,7 @@ replay_malformed vars b TooLong h ps t k r l = absurd (malformed_not_long b l.0 
 replay_malformed vars b Malformed h ps t k r l = inl refl
 replay_malformed vars b Illegal h ps t k r l = absurd (no_line_of_a_trace b k.trace k.read l.1 l.2)
 replay_malformed vars b Unfinished h ps t k r l = absurd (no_line_of_a_trace b k.trace k.read l.1 l.2)
+replay_malformed vars b NotPlain h ps t k r l = absurd k
 
 made_history : (number : ℕ) (exit : Exit) (h : List Turn) (ps : List Place) (t : List ℕ) → SaysMade number exit h ps t → IsNoHistory h ps
 made_history number exit h ps t (inl k) = no_history h ps t _ k.1
@@ -459,6 +520,7 @@ says_history (Some command.Flow) b exit h ps t k = told_history TellsFlow b exit
 says_history (Some command.Compile) b exit h ps t k = told_history TellsObject b exit h ps t k
 says_history (Some (command.Make number)) b exit h ps t k = made_history number exit h ps t k
 says_history (Some (command.Demo number setup)) b exit h ps t k = run_history (summary_asked setup.turns) (made_text number) exit h ps t k.1
+says_history (Some (command.Nodes number setup vars)) b exit h ps t k = nodes_history (report_asked setup.turns vars []) b exit h ps t (nodes_say (report_asked setup.turns vars []) b exit h ps t k)
 
 run_completed : (asked : Asked) (b : List ℕ) (exit : Exit) (h : List Turn) (ps : List Place) (t : List ℕ) → SaysRun asked b exit h ps t → (exit ≡ ReadFault → ⊥) → length b ≤ source_limit → IsAccepted b → ((exit ≡ Done) ⊎ ((exit ≡ Faulted) ⊎ (exit ≡ Deadlocked))) ⊎ ((exit ≡ Spent) ⊎ (exit ≡ NoMemory))
 run_completed asked b Done h ps t k r le v = inl (inl refl)
@@ -474,6 +536,14 @@ run_completed asked b TooLong h ps t k r le v = absurd (omega (arith, k.0))
 run_completed asked b Malformed h ps t k r le v = absurd k
 run_completed asked b Illegal h ps t k r le v = absurd k
 run_completed asked b Unfinished h ps t k r le v = absurd k
+run_completed asked b NotPlain h ps t k r le v = absurd k
+
+-- the program of a plain source isn't found not to be plain
+nodes_completed : (asked : Asked) (b : List ℕ) (exit : Exit) (h : List Turn) (ps : List Place) (t : List ℕ) → SaysRun asked b exit h ps t ⊎ IsNotPlain b h ps t → (exit ≡ ReadFault → ⊥) → PlainOrNot → length b ≤ source_limit → IsPlainSource b
+    → ((exit ≡ Done) ⊎ ((exit ≡ Faulted) ⊎ (exit ≡ Deadlocked))) ⊎ ((exit ≡ Spent) ⊎ (exit ≡ NoMemory))
+unfolding PlainOrNot
+nodes_completed asked b exit h ps t (inl k) r apart le v = run_completed asked b exit h ps t k r le v.lawful.clean
+nodes_completed asked b exit h ps t (inr k) r apart le v = absurd (apart b k.line v k.unplain)
 
 made_completed : (number : ℕ) (exit : Exit) (h : List Turn) (ps : List Place) (t : List ℕ) → SaysMade number exit h ps t → (exit ≡ Done) ⊎ (exit ≡ NoMemory)
 made_completed number exit h ps t (inl k) = inl k.0
@@ -483,16 +553,17 @@ made_completed number exit h ps t (inr k) = inr k.0
 demo_reads : (exit : Exit) → is_of_reading exit ≡ false → exit ≡ ReadFault → ⊥
 demo_reads exit e f = false≢true (sym e ∙ ap is_of_reading f)
 
-pub completed : (c : Command) (b : List ℕ) (exit : Exit) (h : List Turn) (ps : List Place) (t : List ℕ) → Says c b exit h ps t → (exit ≡ ReadFault → ⊥) → ((n : ℕ) → length (made_text n) ≤ source_limit) → IsReady c b → IsCompleted c exit
-completed (command.Run setup vars) b exit h ps t k r short v = run_completed (report_asked setup.turns vars []) b exit h ps t k r v.0 v.1
-completed (command.Trace setup) b exit h ps t k r short v = run_completed (trace_asked setup.turns b) b exit h ps t k.0 r v.0 v.1
-completed (command.Replay vars) b exit h ps t k r short v = replay_completed vars b exit h ps t k r v
-completed command.Check b exit h ps t k r short v = told_completed TellsDeterminism b exit h ps t k r v.0 v.1
-completed command.List b exit h ps t k r short v = told_completed TellsList b exit h ps t k r v.0 v.1
-completed command.Flow b exit h ps t k r short v = told_completed TellsFlow b exit h ps t k r v.0 v.1
-completed command.Compile b exit h ps t k r short v = told_completed TellsObject b exit h ps t k r v.0 v.1
-completed (command.Make number) b exit h ps t k r short v = made_completed number exit h ps t k
-completed (command.Demo number setup) b exit h ps t k r short v = run_completed (summary_asked setup.turns) (made_text number) exit h ps t k.1 (demo_reads exit k.0) (short number) v
+pub completed : (c : Command) (b : List ℕ) (exit : Exit) (h : List Turn) (ps : List Place) (t : List ℕ) → Says c b exit h ps t → (exit ≡ ReadFault → ⊥) → ((n : ℕ) → length (made_text n) ≤ source_limit) → PlainOrNot → IsReady c b → IsCompleted c exit
+completed (command.Run setup vars) b exit h ps t k r short apart v = run_completed (report_asked setup.turns vars []) b exit h ps t k r v.0 v.1
+completed (command.Trace setup) b exit h ps t k r short apart v = run_completed (trace_asked setup.turns b) b exit h ps t k.0 r v.0 v.1
+completed (command.Replay vars) b exit h ps t k r short apart v = replay_completed vars b exit h ps t k r v
+completed command.Check b exit h ps t k r short apart v = told_completed TellsDeterminism b exit h ps t k r v.0 v.1
+completed command.List b exit h ps t k r short apart v = told_completed TellsList b exit h ps t k r v.0 v.1
+completed command.Flow b exit h ps t k r short apart v = told_completed TellsFlow b exit h ps t k r v.0 v.1
+completed command.Compile b exit h ps t k r short apart v = told_completed TellsObject b exit h ps t k r v.0 v.1
+completed (command.Make number) b exit h ps t k r short apart v = made_completed number exit h ps t k
+completed (command.Demo number setup) b exit h ps t k r short apart v = run_completed (summary_asked setup.turns) (made_text number) exit h ps t k.1 (demo_reads exit k.0) (short number) v
+completed (command.Nodes number setup vars) b exit h ps t k r short apart v = nodes_completed (report_asked setup.turns vars []) b exit h ps t (nodes_say (report_asked setup.turns vars []) b exit h ps t k) r apart v.0 v.1
 
 run_refused : (asked : Asked) (b : List ℕ) (exit : Exit) (h : List Turn) (ps : List Place) (t : List ℕ) → SaysRun asked b exit h ps t → (exit ≡ ReadFault → ⊥) → length b ≤ source_limit → (v : Refusal) → IsRefusedFor b v → IsRefusedExit exit
 run_refused asked b Done h ps t k r le v w = absurd (k.kept.lawful.clean v w.broken)
@@ -508,6 +579,11 @@ run_refused asked b TooLong h ps t k r le v w = absurd (omega (arith, k.0))
 run_refused asked b Malformed h ps t k r le v w = absurd k
 run_refused asked b Illegal h ps t k r le v w = absurd k
 run_refused asked b Unfinished h ps t k r le v w = absurd k
+run_refused asked b NotPlain h ps t k r le v w = absurd k
+
+nodes_refused : (asked : Asked) (b : List ℕ) (exit : Exit) (h : List Turn) (ps : List Place) (t : List ℕ) → SaysRun asked b exit h ps t ⊎ IsNotPlain b h ps t → (exit ≡ ReadFault → ⊥) → length b ≤ source_limit → (v : Refusal) → IsRefusedFor b v → IsRefusedExit exit
+nodes_refused asked b exit h ps t (inl k) r le v w = run_refused asked b exit h ps t k r le v w
+nodes_refused asked b exit h ps t (inr k) r le v w = absurd (k.unplain.lawful.clean v w.broken)
 
 pub refused_of : (c : Command) (b : List ℕ) (exit : Exit) (h : List Turn) (ps : List Place) (t : List ℕ) → Says c b exit h ps t → (exit ≡ ReadFault → ⊥) → ((n : ℕ) → length (made_text n) ≤ source_limit) → (v : Refusal) → IsRefusedBy c b v → IsRefusedExit exit
 refused_of (command.Run setup vars) b exit h ps t k r short v w = run_refused (report_asked setup.turns vars []) b exit h ps t k r w.0 v w.1
@@ -519,6 +595,7 @@ refused_of command.Flow b exit h ps t k r short v w = told_refused TellsFlow b e
 refused_of command.Compile b exit h ps t k r short v w = told_refused TellsObject b exit h ps t k r w.0 v w.1
 refused_of (command.Make number) b exit h ps t k r short v w = absurd w
 refused_of (command.Demo number setup) b exit h ps t k r short v w = run_refused (summary_asked setup.turns) (made_text number) exit h ps t k.1 (demo_reads exit k.0) (short number) v w
+refused_of (command.Nodes number setup vars) b exit h ps t k r short v w = nodes_refused (report_asked setup.turns vars []) b exit h ps t (nodes_say (report_asked setup.turns vars []) b exit h ps t k) r w.0 v w.1
 
 run_long : (asked : Asked) (b : List ℕ) (exit : Exit) (h : List Turn) (ps : List Place) (t : List ℕ) → SaysRun asked b exit h ps t → (exit ≡ ReadFault → ⊥) → source_limit < length b → IsTooLongExit exit
 run_long asked b Done h ps t k r l = absurd (omega (arith, k.within))
@@ -534,6 +611,41 @@ run_long asked b TooLong h ps t k r l = inl refl
 run_long asked b Malformed h ps t k r l = absurd k
 run_long asked b Illegal h ps t k r l = absurd k
 run_long asked b Unfinished h ps t k r l = absurd k
+run_long asked b NotPlain h ps t k r l = absurd k
+
+nodes_long : (asked : Asked) (b : List ℕ) (exit : Exit) (h : List Turn) (ps : List Place) (t : List ℕ) → SaysRun asked b exit h ps t ⊎ IsNotPlain b h ps t → (exit ≡ ReadFault → ⊥) → source_limit < length b → IsTooLongExit exit
+nodes_long asked b exit h ps t (inl k) r l = run_long asked b exit h ps t k r l
+nodes_long asked b exit h ps t (inr k) r l = absurd (omega (arith, k.within))
+
+-- a program that isn't plain is found to be so
+nodes_unplain : (asked : Asked) (b : List ℕ) (exit : Exit) (h : List Turn) (ps : List Place) (t : List ℕ) → SaysNodes asked b exit h ps t → (exit ≡ ReadFault → ⊥) → length b ≤ source_limit → (line : Line) → HasPlainVerdict b (Some line) → (IsPlainSource b → ⊥) → IsUnplainExit exit
+nodes_unplain asked b Done h ps t k r le line v not_plain = absurd (not_plain k.0)
+nodes_unplain asked b Faulted h ps t k r le line v not_plain = absurd (not_plain k.0)
+nodes_unplain asked b Deadlocked h ps t k r le line v not_plain = absurd (not_plain k.0)
+nodes_unplain asked b Refused h ps t k r le line v not_plain = absurd (v.lawful.clean k.refusal k.refused.broken)
+nodes_unplain asked b Spent h ps t k r le line v not_plain = absurd (not_plain k.0)
+nodes_unplain asked b Usage h ps t k r le line v not_plain = absurd k
+nodes_unplain asked b ReadFault h ps t k r le line v not_plain = absurd (r refl)
+nodes_unplain asked b WriteFault h ps t k r le line v not_plain = absurd k
+nodes_unplain asked b NoMemory h ps t k r le line v not_plain = inr refl
+nodes_unplain asked b TooLong h ps t k r le line v not_plain = absurd (omega (arith, k.0))
+nodes_unplain asked b Malformed h ps t k r le line v not_plain = absurd k
+nodes_unplain asked b Illegal h ps t k r le line v not_plain = absurd k
+nodes_unplain asked b Unfinished h ps t k r le line v not_plain = absurd k
+nodes_unplain asked b NotPlain h ps t k r le line v not_plain = inl refl
+
+pub unplain_by : (c : Command) (b : List ℕ) (exit : Exit) (h : List Turn) (ps : List Place) (t : List ℕ) → Says c b exit h ps t → (exit ≡ ReadFault → ⊥) → PlainOrNot → IsUnplainBy c b → IsUnplainExit exit
+unfolding PlainOrNot
+unplain_by (command.Run setup vars) b exit h ps t k r apart v = absurd v
+unplain_by (command.Trace setup) b exit h ps t k r apart v = absurd v
+unplain_by (command.Replay vars) b exit h ps t k r apart v = absurd v
+unplain_by command.Check b exit h ps t k r apart v = absurd v
+unplain_by command.List b exit h ps t k r apart v = absurd v
+unplain_by command.Flow b exit h ps t k r apart v = absurd v
+unplain_by command.Compile b exit h ps t k r apart v = absurd v
+unplain_by (command.Make number) b exit h ps t k r apart v = absurd v
+unplain_by (command.Demo number setup) b exit h ps t k r apart v = absurd v
+unplain_by (command.Nodes number setup vars) b exit h ps t k r apart v = nodes_unplain (report_asked setup.turns vars []) b exit h ps t k r v.0 v.1 v.2 (λ plain. apart b v.1 plain v.2)
 
 pub too_long_by : (c : Command) (b : List ℕ) (exit : Exit) (h : List Turn) (ps : List Place) (t : List ℕ) → Says c b exit h ps t → (exit ≡ ReadFault → ⊥) → IsTooLongBy c b → IsTooLongExit exit
 too_long_by (command.Run setup vars) b exit h ps t k r l = run_long (report_asked setup.turns vars []) b exit h ps t k r l
@@ -545,6 +657,7 @@ too_long_by command.Flow b exit h ps t k r l = told_long TellsFlow b exit h ps t
 too_long_by command.Compile b exit h ps t k r l = told_long TellsObject b exit h ps t k r l
 too_long_by (command.Make number) b exit h ps t k r l = absurd l
 too_long_by (command.Demo number setup) b exit h ps t k r l = absurd l
+too_long_by (command.Nodes number setup vars) b exit h ps t k r l = nodes_long (report_asked setup.turns vars []) b exit h ps t (nodes_say (report_asked setup.turns vars []) b exit h ps t k) r l
 
 pub malformed_by : (c : Command) (b : List ℕ) (exit : Exit) (h : List Turn) (ps : List Place) (t : List ℕ) → Says c b exit h ps t → (exit ≡ ReadFault → ⊥) → IsMalformedBy c b → IsMalformedExit exit
 malformed_by (command.Run setup vars) b exit h ps t k r l = absurd l
@@ -556,6 +669,7 @@ malformed_by command.Flow b exit h ps t k r l = absurd l
 malformed_by command.Compile b exit h ps t k r l = absurd l
 malformed_by (command.Make number) b exit h ps t k r l = absurd l
 malformed_by (command.Demo number setup) b exit h ps t k r l = absurd l
+malformed_by (command.Nodes number setup vars) b exit h ps t k r l = absurd l
 
 -- what is said of a command that doesn't read is said whatever the source has
 pub says_unread : (c : Command) (b other : List ℕ) (exit : Exit) (h : List Turn) (ps : List Place) (t : List ℕ) → is_reading c ≡ false → Says c b exit h ps t → Says c other exit h ps t
@@ -568,6 +682,7 @@ says_unread command.Flow b other exit h ps t e k = absurd (false≢true (sym e))
 says_unread command.Compile b other exit h ps t e k = absurd (false≢true (sym e))
 says_unread (command.Make number) b other exit h ps t e k = k
 says_unread (command.Demo number setup) b other exit h ps t e k = k
+says_unread (command.Nodes number setup vars) b other exit h ps t e k = absurd (false≢true (sym e))
 
 -- want of memory says nothing of the bytes
 pub no_memory_says : (o : Option Command) (b : List ℕ) (exit : Exit) (h : List Turn) (ps : List Place) (t : List ℕ) → is_none o ≡ false → exit ≡ NoMemory → IsUnplayed h ps t (codes "no memory\n") → SaysOf o b exit h ps t
@@ -581,6 +696,7 @@ no_memory_says (Some command.Flow) b exit h ps t c e u = subst (λ (x : Exit). S
 no_memory_says (Some command.Compile) b exit h ps t c e u = subst (λ (x : Exit). SaysTold TellsObject b x h ps t) (sym e) u
 no_memory_says (Some (command.Make number)) b exit h ps t c e u = inr (e, u)
 no_memory_says (Some (command.Demo number setup)) b exit h ps t c e u = (ap is_of_reading e, subst (λ (x : Exit). SaysRun (summary_asked setup.turns) (made_text number) x h ps t) (sym e) u)
+no_memory_says (Some (command.Nodes number setup vars)) b exit h ps t c e u = subst (λ (x : Exit). SaysNodes (report_asked setup.turns vars []) b x h ps t) (sym e) u
 
 -- nor does usage
 pub usage_says : (o : Option Command) (b : List ℕ) (exit : Exit) (h : List Turn) (ps : List Place) (t : List ℕ) → is_none o ≡ true → exit ≡ Usage → IsUnplayed h ps t usage_text → SaysOf o b exit h ps t
@@ -622,6 +738,7 @@ no_read_fault command.Compile b exit h ps t e k f = false≢true (sym e)
 no_read_fault (command.Make number) b exit h ps t e (inl k) f = cc (sym k.0 ∙ f)
 no_read_fault (command.Make number) b exit h ps t e (inr k) f = cc (sym k.0 ∙ f)
 no_read_fault (command.Demo number setup) b exit h ps t e k f = demo_reads exit k.0 f
+no_read_fault (command.Nodes number setup vars) b exit h ps t e k f = false≢true (sym e)
 
 -- a read fault says nothing of the bytes, and a source that is too long nothing but that
 read_fault_says : (c : Command) (b : List ℕ) (exit : Exit) (h : List Turn) (ps : List Place) (t : List ℕ) → is_reading c ≡ true → exit ≡ ReadFault → IsUnplayed h ps t (codes "read fault\n") → Says c b exit h ps t
@@ -634,6 +751,7 @@ read_fault_says command.Flow b exit h ps t c e u = subst (λ (x : Exit). SaysTol
 read_fault_says command.Compile b exit h ps t c e u = subst (λ (x : Exit). SaysTold TellsObject b x h ps t) (sym e) u
 read_fault_says (command.Make number) b exit h ps t c e u = absurd (false≢true c)
 read_fault_says (command.Demo number setup) b exit h ps t c e u = absurd (false≢true c)
+read_fault_says (command.Nodes number setup vars) b exit h ps t c e u = subst (λ (x : Exit). SaysNodes (report_asked setup.turns vars []) b x h ps t) (sym e) u
 
 too_long_says : (c : Command) (b : List ℕ) (exit : Exit) (h : List Turn) (ps : List Place) (t : List ℕ) → is_reading c ≡ true → exit ≡ TooLong → limit_of c < length b → IsUnplayed h ps t (codes "source too long\n") → Says c b exit h ps t
 too_long_says (command.Run setup vars) b exit h ps t c e l u = subst (λ (x : Exit). SaysRun (report_asked setup.turns vars []) b x h ps t) (sym e) (l, u)
@@ -645,6 +763,7 @@ too_long_says command.Flow b exit h ps t c e l u = subst (λ (x : Exit). SaysTol
 too_long_says command.Compile b exit h ps t c e l u = subst (λ (x : Exit). SaysTold TellsObject b x h ps t) (sym e) (l, u)
 too_long_says (command.Make number) b exit h ps t c e l u = absurd (false≢true c)
 too_long_says (command.Demo number setup) b exit h ps t c e l u = absurd (false≢true c)
+too_long_says (command.Nodes number setup vars) b exit h ps t c e l u = subst (λ (x : Exit). SaysNodes (report_asked setup.turns vars []) b x h ps t) (sym e) (l, u)
 
 -- The bytes of a source that may not tell them.
 

@@ -38,7 +38,7 @@ use Rattle.fm_base.specs.Rules.{refusal_text}
 use Rattle.fm_trace.proofs.HistoryLaws.{history_again}
 use Rattle.fm_words.specs.declared.command.Command.TheVariants as command
 use Rattle.fmc.specs.declared.answer.Exit.{Exit}
-use Rattle.fmc.specs.declared.answer.Exit.TheVariants.{Done, Faulted, Deadlocked, Refused, Spent, Usage, ReadFault, WriteFault, NoMemory, TooLong, Malformed, Illegal, Unfinished}
+use Rattle.fmc.specs.declared.answer.Exit.TheVariants.{Done, Faulted, Deadlocked, Refused, Spent, Usage, ReadFault, WriteFault, NoMemory, TooLong, Malformed, Illegal, Unfinished, NotPlain}
 use Rattle.fmc.specs.declared.answer.Reply.{Reply}
 use Rattle.fmc.specs.Reply.{IsReply, IsRunOf, bytes_of, exit_in, places_in}
 use Rattle.fmc.specs.Outcomes.{IsRefusedFor, IsUnplayed, source_limit, cost_of, exit_of, state_after}
@@ -108,6 +108,7 @@ comes_ended vars TooLong program turns ts t e k = absurd (false≢true e)
 comes_ended vars Malformed program turns ts t e k = absurd (false≢true e)
 comes_ended vars Illegal program turns ts t e k = absurd (false≢true e)
 comes_ended vars Unfinished program turns ts t e k = absurd (false≢true e)
+comes_ended vars NotPlain program turns ts t e k = absurd (false≢true e)
 
 -- all entries were played, where what was played doesn't cost more than the turns
 whole : (ts : List Turn) (count paid turns : ℕ) → paid ≤ turns → (count ≡ length ts) ⊎ (turns < paid) → take count ts ≡ ts
@@ -358,6 +359,7 @@ comes_decided vars TooLong program turns ts t k = absurd k
 comes_decided vars Malformed program turns ts t k = absurd k
 comes_decided vars Illegal program turns ts t k = refl
 comes_decided vars Unfinished program turns ts t k = refl
+comes_decided vars NotPlain program turns ts t k = absurd k
 
 -- what comes of entries is what is said
 says_replayed : (vars : Bool) (b : List ℕ) (exit : Exit) (h : List Turn) (ps : List Place) (t : List ℕ) (program : Program) (trace : Trace) (told : List ℕ) → ComesTo vars exit program trace.turns (history_of trace) told → IsReplayed vars exit b h ps t → SaysReplay vars b exit h ps t
@@ -374,6 +376,7 @@ says_replayed vars b TooLong h ps t program trace told k r = absurd k
 says_replayed vars b Malformed h ps t program trace told k r = absurd k
 says_replayed vars b Illegal h ps t program trace told k r = r
 says_replayed vars b Unfinished h ps t program trace told k r = r
+says_replayed vars b NotPlain h ps t program trace told k r = absurd k
 
 pub replied : (vars : Bool) (b : List ℕ) (trace : Trace) (program : Program) (r : Reply) → length b ≤ trace_limit → IsTraceText b trace → length trace.source ≤ source_limit → IsCheckedOf trace.source program
     → (told : List ℕ) × ComesTo vars r.ran.exit program trace.turns (history_of trace) told × IsUnplayed r.ran.history.items (places_in r.ran) (bytes_of r.text) told → IsReply (command.Replay vars) b r

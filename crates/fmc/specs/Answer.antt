@@ -42,10 +42,11 @@ use Rattle.fm_words.specs.Words.{command_of}
 use Rattle.fm_words.specs.declared.command.Command.{Command}
 use Rattle.fm_words.specs.declared.command.Command.TheVariants as command
 use Rattle.fmc.specs.declared.answer.Exit.{Exit}
-use Rattle.fmc.specs.declared.answer.Exit.TheVariants.{Done, Faulted, Deadlocked, Refused, Spent, Usage, ReadFault, WriteFault, NoMemory, TooLong, Malformed, Illegal, Unfinished}
+use Rattle.fmc.specs.declared.answer.Exit.TheVariants.{Done, Faulted, Deadlocked, Refused, Spent, Usage, ReadFault, WriteFault, NoMemory, TooLong, Malformed, Illegal, Unfinished, NotPlain}
 use Rattle.fmc.specs.Exits.{is_read, is_of_reading}
 use Rattle.fmc.specs.Listing.{listed_text}
 use Rattle.fmc.specs.Outcomes.{IsAccepted, IsRefused, IsRefusedFor, IsUnplayed, cost_of, exit_of, source_limit, state_after, usage_text}
+use Rattle.fmc.specs.Plain.{HasPlainVerdict, IsNotPlain, IsPlainSource}
 use Rattle.fmc.specs.Replay.{IsTooLongTrace, IsTraceOf, SaysReplay, trace_limit}
 
 -- the kept schedule is one of the checked program of the source under these turns, with its processes in the order of starting
@@ -199,6 +200,7 @@ HasHistory (Some command.Flow) source history places = IsNoHistory history place
 HasHistory (Some command.Compile) source history places = IsNoHistory history places
 HasHistory (Some (command.Make number)) source history places = IsNoHistory history places
 HasHistory (Some (command.Demo number setup)) source history places = IsHistoryIn setup.turns (made_text number) history places
+HasHistory (Some (command.Nodes number setup vars)) source history places = IsHistoryIn setup.turns source history places
 
 -- what a run says by its exit
 abbrev pub SaysRun : Asked → List ℕ → Exit → List Turn → List Place → List ℕ → Type 0
@@ -215,10 +217,28 @@ SaysRun asked b TooLong h ps t = (source_limit < length b) × IsUnplayed h ps t 
 SaysRun asked b Malformed h ps t = ⊥
 SaysRun asked b Illegal h ps t = ⊥
 SaysRun asked b Unfinished h ps t = ⊥
+SaysRun asked b NotPlain h ps t = ⊥
 
 -- a run that was played to its end, or as far as its turns
 abbrev pub IsPlayedExit : Exit → Type 0
 IsPlayedExit exit = ((exit ≡ Done) ⊎ ((exit ≡ Faulted) ⊎ (exit ≡ Deadlocked))) ⊎ (exit ≡ Spent)
+
+-- what `nodes` says by its exit: of a plain program what a run says, and of any other one at which line it isn't plain
+abbrev pub SaysNodes : Asked → List ℕ → Exit → List Turn → List Place → List ℕ → Type 0
+SaysNodes asked b Done h ps t = IsPlainSource b × SaysRun asked b Done h ps t
+SaysNodes asked b Faulted h ps t = IsPlainSource b × SaysRun asked b Faulted h ps t
+SaysNodes asked b Deadlocked h ps t = IsPlainSource b × SaysRun asked b Deadlocked h ps t
+SaysNodes asked b Refused h ps t = SaysRun asked b Refused h ps t
+SaysNodes asked b Spent h ps t = IsPlainSource b × SaysRun asked b Spent h ps t
+SaysNodes asked b Usage h ps t = ⊥
+SaysNodes asked b ReadFault h ps t = SaysRun asked b ReadFault h ps t
+SaysNodes asked b WriteFault h ps t = ⊥
+SaysNodes asked b NoMemory h ps t = SaysRun asked b NoMemory h ps t
+SaysNodes asked b TooLong h ps t = SaysRun asked b TooLong h ps t
+SaysNodes asked b Malformed h ps t = ⊥
+SaysNodes asked b Illegal h ps t = ⊥
+SaysNodes asked b Unfinished h ps t = ⊥
+SaysNodes asked b NotPlain h ps t = IsNotPlain b h ps t
 
 -- what `trace` says by its exit: what a run says, whose text is that of its trace, which `replay` reads
 abbrev pub SaysTrace : (turns : ℕ) → List ℕ → Exit → List Turn → List Place → List ℕ → Type 0
@@ -239,6 +259,7 @@ SaysTold TellsOf b TooLong h ps t = (source_limit < length b) × IsUnplayed h ps
 SaysTold TellsOf b Malformed h ps t = ⊥
 SaysTold TellsOf b Illegal h ps t = ⊥
 SaysTold TellsOf b Unfinished h ps t = ⊥
+SaysTold TellsOf b NotPlain h ps t = ⊥
 
 -- `make` writes the program of its number
 abbrev pub SaysMade : (number : ℕ) → Exit → List Turn → List Place → List ℕ → Type 0
@@ -259,6 +280,7 @@ Says command.Flow b exit h ps t = SaysTold TellsFlow b exit h ps t
 Says command.Compile b exit h ps t = SaysTold TellsObject b exit h ps t
 Says (command.Make number) b exit h ps t = SaysMade number exit h ps t
 Says (command.Demo number setup) b exit h ps t = SaysDemo number setup.turns exit h ps t
+Says (command.Nodes number setup vars) b exit h ps t = SaysNodes (report_asked setup.turns vars []) b exit h ps t
 
 -- and of words that are no command
 abbrev pub SaysOf : Option Command → List ℕ → Exit → List Turn → List Place → List ℕ → Type 0
@@ -276,6 +298,7 @@ is_reading command.Flow = true
 is_reading command.Compile = true
 is_reading (command.Make number) = false
 is_reading (command.Demo number setup) = false
+is_reading (command.Nodes number setup vars) = true
 
 abbrev pub are_reading : Option Command → Bool
 are_reading None = false
@@ -292,6 +315,7 @@ limit_of command.Flow = source_limit
 limit_of command.Compile = source_limit
 limit_of (command.Make number) = source_limit
 limit_of (command.Demo number setup) = source_limit
+limit_of (command.Nodes number setup vars) = source_limit
 
 -- what an exit says of the source is so: that it failed, by its counts of faults before and after, or, where it is read at
 -- all, that it was read to its end
@@ -323,6 +347,8 @@ IsReady command.Flow b = IsLawful b
 IsReady command.Compile b = IsLawful b
 IsReady (command.Make number) b = Unit {0}
 IsReady (command.Demo number setup) b = IsAccepted (made_text number)
+-- that of another program is the matter of IsUnplainBy
+IsReady (command.Nodes number setup vars) b = (length b ≤ source_limit) × IsPlainSource b
 
 -- the command did its work to the end, or as far as its turns, or found no memory
 abbrev pub IsCompleted : Command → Exit → Type 0
@@ -335,6 +361,7 @@ IsCompleted command.Flow exit = (exit ≡ Done) ⊎ (exit ≡ NoMemory)
 IsCompleted command.Compile exit = (exit ≡ Done) ⊎ (exit ≡ NoMemory)
 IsCompleted (command.Make number) exit = (exit ≡ Done) ⊎ (exit ≡ NoMemory)
 IsCompleted (command.Demo number setup) exit = ((exit ≡ Done) ⊎ ((exit ≡ Faulted) ⊎ (exit ≡ Deadlocked))) ⊎ ((exit ≡ Spent) ⊎ (exit ≡ NoMemory))
+IsCompleted (command.Nodes number setup vars) exit = ((exit ≡ Done) ⊎ ((exit ≡ Faulted) ⊎ (exit ≡ Deadlocked))) ⊎ ((exit ≡ Spent) ⊎ (exit ≡ NoMemory))
 
 -- a source within the limit that is refused for this
 abbrev pub IsUnlawful : List ℕ → Refusal → Type 0
@@ -351,6 +378,7 @@ IsRefusedBy command.Flow b v = IsUnlawful b v
 IsRefusedBy command.Compile b v = IsUnlawful b v
 IsRefusedBy (command.Make number) b v = ⊥
 IsRefusedBy (command.Demo number setup) b v = IsRefusedFor (made_text number) v
+IsRefusedBy (command.Nodes number setup vars) b v = IsUnlawful b v
 
 abbrev pub IsRefusedExit : Exit → Type 0
 IsRefusedExit exit = (exit ≡ Refused) ⊎ (exit ≡ NoMemory)
@@ -369,6 +397,7 @@ IsTooLongBy command.Flow b = source_limit < length b
 IsTooLongBy command.Compile b = source_limit < length b
 IsTooLongBy (command.Make number) b = ⊥
 IsTooLongBy (command.Demo number setup) b = ⊥
+IsTooLongBy (command.Nodes number setup vars) b = source_limit < length b
 
 abbrev pub IsMalformedExit : Exit → Type 0
 IsMalformedExit exit = (exit ≡ Malformed) ⊎ (exit ≡ NoMemory)
@@ -384,6 +413,23 @@ IsMalformedBy command.Flow b = ⊥
 IsMalformedBy command.Compile b = ⊥
 IsMalformedBy (command.Make number) b = ⊥
 IsMalformedBy (command.Demo number setup) b = ⊥
+IsMalformedBy (command.Nodes number setup vars) b = ⊥
+
+abbrev pub IsUnplainExit : Exit → Type 0
+IsUnplainExit exit = (exit ≡ NotPlain) ⊎ (exit ≡ NoMemory)
+
+-- the source is within the limit and breaks no rule, and its program isn't one that hosts can play, which the command asks for
+abbrev pub IsUnplainBy : Command → List ℕ → Type 0
+IsUnplainBy (command.Run setup vars) b = ⊥
+IsUnplainBy (command.Trace setup) b = ⊥
+IsUnplainBy (command.Replay vars) b = ⊥
+IsUnplainBy command.Check b = ⊥
+IsUnplainBy command.List b = ⊥
+IsUnplainBy command.Flow b = ⊥
+IsUnplainBy command.Compile b = ⊥
+IsUnplainBy (command.Make number) b = ⊥
+IsUnplainBy (command.Demo number setup) b = ⊥
+IsUnplainBy (command.Nodes number setup vars) b = (length b ≤ source_limit) × (line : Line) × HasPlainVerdict b (Some line)
 
 -- the kept schedule of the source's program follows the choices, in pieces of at most a slice
 abbrev pub FollowsIn : List ℕ → (slice : ℕ) → (choices : List ℕ) → List Turn → Type 0

@@ -17,7 +17,7 @@ use Rattle.fmc.specs.declared.answer.Exit.{Exit}
 use Rattle.fmc.specs.declared.answer.Exit.TheVariants.{Done, Faulted, Deadlocked}
 
 abbrev pub usage_text : List ℕ
-usage_text = codes "usage: fmc run or trace or replay or check or list or make N or demo N or flow or compile\n"
+usage_text = codes "usage: fmc run or trace or replay or check or list or make N or demo N or flow or compile or nodes N\n"
 
 -- the most bytes of a source
 abbrev pub source_limit : ℕ

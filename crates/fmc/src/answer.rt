@@ -6,7 +6,7 @@ ghost use Rattle.fmc.specs.Exits.{status_of};
 use fm_base::{Path, Turn};
 use std::sync::Arc;
 
-/// How a call ended. The numbers are the exit statuses, 0 to 12.
+/// How a call ended. The numbers are the exit statuses, 0 to 12 and 15.
 #[derive(Clone, Copy, Debug, PartialEq, Eq)]
 pub enum Exit {
     /// The run ended, nobody faulted, and main ended.
@@ -35,10 +35,12 @@ pub enum Exit {
     Illegal,
     /// A trace ends before the run does.
     Unfinished,
+    /// The program isn't one that hosts can play.
+    NotPlain = 15,
 }
 
 impl Exit {
-    /// The exit status, 0 to 12.
+    /// The exit status, 0 to 12 or 15.
     pub fn status(self) -> u8
         ensures { result ≡ status_of self }
     {

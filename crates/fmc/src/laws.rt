@@ -10,6 +10,7 @@ ghost use Rattle.fmc.specs.Answer.{Says};
 ghost use Rattle.fmc.specs.Compiled.{IsCompiledOf};
 ghost use Rattle.fmc.specs.Exits.{is_decided};
 ghost use Rattle.fmc.specs.OneReplay.{IsOneAnswer};
+ghost use Rattle.fmc.specs.Plain.{PlainOrNot};
 
 /// Two answers of `replay` to the same bytes are one, where the bytes decide each, and memory was found: a report, a run that is
 /// spent, entry k that is illegal, an end that isn't reached, line k that is malformed, a refusal, or too long a text, and none beside.
@@ -27,3 +28,11 @@ pub fn replay_has_one_answer()
 pub fn compiled_makes_sense()
     ensures { (source : List ℕ) (history : List Turn) (places : List Place) (text : List ℕ) → Says command.Compile source exits.Done history places text → IsCompiledOf source text }
 {}
+
+/// The program of a source is plain or not, and not both.
+pub(crate) fn plain_or_not()
+    ensures { PlainOrNot }
+{
+    fm_front::one_program();
+    fm_nodes_plain::one_line();
+}

@@ -5,6 +5,7 @@
 
 mod answer;
 mod call;
+mod hosting;
 mod laws;
 mod listing;
 mod playing;

@@ -17,6 +17,7 @@ ghost use Rattle.fmc.specs.Answer.{FollowsIn, IsListOf, determinism_text, flow_t
 ghost use Rattle.fmc.specs.Reply.{bytes_of, places_in, IsFlowReply, IsObjectReply, IsReply, IsSummary, exit_in, text_in};
 
 use crate::answer::{Exit, Ran, Reply, Text};
+use crate::hosting::try_nodes;
 use crate::listing::list_text;
 use crate::playing::{run_chosen, run_source};
 use crate::replaying::try_replay;
@@ -49,7 +50,7 @@ fn exit_in(ending: &Ending) -> Exit
 }
 
 // The text of a run: its report, or that it was spent.
-fn report_in(alloc: Global, run: &Run, turns: u64, vars: bool) -> Result<Vec<u8>, NoMemory>
+pub(crate) fn report_in(alloc: Global, run: &Run, turns: u64, vars: bool) -> Result<Vec<u8>, NoMemory>
     ensures { IfOk result (λ v. v.items ≡ text_in (report_asked turns vars []) run.now.history.items (places_of run.now.paths.items) run.now.ending) }
 {
     match &run.ending {
@@ -59,7 +60,7 @@ fn report_in(alloc: Global, run: &Run, turns: u64, vars: bool) -> Result<Vec<u8>
 }
 
 // The answer of a run.
-fn answer_of(run: Run) -> Ran
+pub(crate) fn answer_of(run: Run) -> Ran
     ensures exit { result.exit ≡ exit_in run.ending }
     ensures history { result.history ≡ run.history }
     ensures paths { result.paths ≡ run.paths }
@@ -431,6 +432,11 @@ pub fn reply<W: Workers<Table>>(alloc: Global, command: Command, bytes: &[u8], w
         Command::Compile => try_compile(alloc, bytes),
         Command::Make { number } => try_make(alloc, number),
         Command::Demo { number, setup } => try_demo(alloc, number, setup, workers),
+        Command::Nodes {
+            number,
+            setup,
+            vars,
+        } => try_nodes(alloc, bytes, number, setup, vars),
     };
     match tried {
         Ok(reply) => reply,

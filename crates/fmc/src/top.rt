@@ -18,10 +18,11 @@ ghost use Rattle.fmc.specs.declared.answer.Exit as declared_exit;
 ghost use Rattle.fmc.specs.Exits.{is_usage, is_read};
 ghost use Rattle.fmc.specs.Outcomes.{source_limit};
 ghost use Rattle.fmc.specs.Replay.{trace_limit};
-ghost use Rattle.fmc.specs.Answer.{Answers, Asked, FollowsIn, Says, SaysRun, HasHistory, IsReady, IsRefusedBy, IsCompleted, IsMalformedBy, IsMalformedExit, IsRefusedExit, IsTooLongBy, IsTooLongExit, IsPlayedExit, are_reading, is_reading, limit_of, report_asked};
+ghost use Rattle.fmc.specs.Answer.{Answers, Asked, FollowsIn, Says, SaysRun, HasHistory, IsReady, IsRefusedBy, IsCompleted, IsMalformedBy, IsMalformedExit, IsRefusedExit, IsTooLongBy, IsTooLongExit, IsUnplainBy, IsUnplainExit, IsPlayedExit, are_reading, is_reading, limit_of, report_asked};
 ghost use Rattle.fmc.specs.Reply.{IsReplyFor, IsReplyOf, bytes_of, places_in};
 
 use crate::answer::{Exit, Ran, Reply, Text};
+use crate::laws::plain_or_not;
 use crate::replies::{no_memory, unplayed_reply};
 use crate::response::{play_source, reply};
 use fm_base::{CheckFail, Plan, Setup};
@@ -41,7 +42,7 @@ const TRACE_LIMIT: usize = 100_000_000;
 const SLICE: u32 = 1_000;
 
 const USAGE: &[u8] =
-    b"usage: fmc run or trace or replay or check or list or make N or demo N or flow or compile\n";
+    b"usage: fmc run or trace or replay or check or list or make N or demo N or flow or compile or nodes N\n";
 
 fn limit_of(command: &Command) -> usize
     ensures { result ≡ limit_of command.now }
@@ -56,6 +57,7 @@ fn limit_of(command: &Command) -> usize
         Command::Compile => LIMIT,
         Command::Make { .. } => LIMIT,
         Command::Demo { .. } => LIMIT,
+        Command::Nodes { .. } => LIMIT,
     }
 }
 
@@ -100,6 +102,7 @@ fn is_reading(command: &Command) -> bool
         Command::Compile => true,
         Command::Make { .. } => false,
         Command::Demo { .. } => false,
+        Command::Nodes { .. } => true,
     }
 }
 
@@ -221,7 +224,10 @@ pub fn fmc<S: Source, K: Sink, W: Workers<Table>>(
         → IfSome (S.left source.old) (λ b. IsTooLongBy command b → IsTooLongExit result.exit) }
     ensures malformed { (command : Command) → command_of (map (λ w. w.now) words.now) ≡ Some command → ¬ Rose (S.faults source.old) (S.faults source.new) → ¬ Rose (K.faults sink.old) (K.faults sink.new)
         → IfSome (S.left source.old) (λ b. IsMalformedBy command b → IsMalformedExit result.exit) }
+    ensures unplain { (command : Command) → command_of (map (λ w. w.now) words.now) ≡ Some command → ¬ Rose (S.faults source.old) (S.faults source.new) → ¬ Rose (K.faults sink.old) (K.faults sink.new)
+        → IfSome (S.left source.old) (λ b. IsUnplainBy command b → IsUnplainExit result.exit) }
 {
+    plain_or_not();
     let reply = respond(alloc, words, source, workers);
     finish(sink, reply)
 }

@@ -25,7 +25,8 @@ fn is_end(exit: Exit) -> bool {
         | Exit::TooLong
         | Exit::Malformed
         | Exit::Illegal
-        | Exit::Unfinished => false,
+        | Exit::Unfinished
+        | Exit::NotPlain => false,
     }
 }
 

@@ -88,7 +88,7 @@ const RUNS: [(&[&str], Setup, bool); 8] = [
 ];
 
 /// Words that are no command.
-const NOTHING: [&[&str]; 44] = [
+const NOTHING: [&[&str]; 49] = [
     &[],
     &[""],
     &["RUN"],
@@ -133,6 +133,11 @@ const NOTHING: [&[&str]; 44] = [
     &["make", "7", "8"],
     &["demo", "--turns=5", "7"],
     &["demo", "7", "--vars"],
+    &["nodes"],
+    &["nodes", "x"],
+    &["nodes", "7", "8"],
+    &["nodes", "0", "--slice", "5"],
+    &["nodes", "0", "--workers=2"],
 ];
 
 #[test]
@@ -163,6 +168,20 @@ fn words_are_their_commands(rt: HostRuntime) -> Result<(), Fail> {
     assert_eq!(rt;
         words(alloc, &["demo", "7", "--slice=10"]),
         Ok(Command::Demo { number: 7, setup })
+    );
+    let setup = Setup {
+        turns: 5,
+        slice: 1_000,
+        workers: 4,
+        plan: Plan::Block,
+    };
+    assert_eq!(rt;
+        words(alloc, &["nodes", "999999999999999999", "--vars", "--turns=5", "--plan=block"]),
+        Ok(Command::Nodes {
+            number: 999_999_999_999_999_999,
+            setup,
+            vars: true
+        })
     );
     for (i, (row, setup, vars)) in RUNS.iter().enumerate() {
         let command = Command::Run {

@@ -1,9 +1,9 @@
 use Rattle.std.proofs.Common.{sym, ap, subst, map, ◌∙◌}
 use Rattle.fm_make.proofs.Short.{made_text_short}
 use Rattle.fm_words.specs.Words.{command_of}
-use Rattle.fmc.specs.Answer.{IsCompleted, IsRefusedExit, IsMalformedExit, IsTooLongExit, are_reading}
+use Rattle.fmc.specs.Answer.{IsCompleted, IsRefusedExit, IsMalformedExit, IsTooLongExit, IsUnplainExit, are_reading}
 use Rattle.fmc.specs.Reply.{bytes_of, places_in}
-use Rattle.fmc.proofs.AnswerLaws.{when_told, said_of, says_history, answered, completed, refused_of, too_long_by, malformed_by, no_read_fault}
+use Rattle.fmc.proofs.AnswerLaws.{when_told, said_of, says_history, answered, completed, refused_of, too_long_by, malformed_by, no_read_fault, unplain_by}
 use Rattle.fmc.proofs.top.fmc.Goals as goal
 
 pub returns-clause-answers : goal.returns-clause-answers
@@ -57,7 +57,7 @@ returns-clause-complete g c = λ command is no_read no_write.
     (λ b says v. subst (IsCompleted command) (sym same)
     (completed command b r.ran.exit r.ran.history.items (places_in r.ran) (bytes_of r.text)
     (said_of o command b r.ran.exit r.ran.history.items (places_in r.ran) (bytes_of r.text) is says)
-    (λ e. no_read (c.respond-reply.ensures.read_fault e)) made_text_short v))
+    (λ e. no_read (c.respond-reply.ensures.read_fault e)) made_text_short c.plain_or_not.ensures v))
 
 pub returns-clause-refused : goal.returns-clause-refused
 returns-clause-refused g c = λ command is no_read no_write.
@@ -78,7 +78,7 @@ returns-clause-unread_complete g c = λ command is unread no_write b v.
     let says = said_of o command b r.ran.exit r.ran.history.items (places_in r.ran) (bytes_of r.text) is (c.respond-reply.ensures.unread_reply (ap are_reading is ∙ unread) b) in
     subst (IsCompleted command) (sym same)
     (completed command b r.ran.exit r.ran.history.items (places_in r.ran) (bytes_of r.text) says
-    (no_read_fault command b r.ran.exit r.ran.history.items (places_in r.ran) (bytes_of r.text) unread says) made_text_short v)
+    (no_read_fault command b r.ran.exit r.ran.history.items (places_in r.ran) (bytes_of r.text) unread says) made_text_short c.plain_or_not.ensures v)
 
 pub returns-clause-unread_refused : goal.returns-clause-unread_refused
 returns-clause-unread_refused g c = λ command is unread no_write b v w.
@@ -111,3 +111,14 @@ returns-clause-malformed g c = λ command is no_read no_write.
     (malformed_by command b r.ran.exit r.ran.history.items (places_in r.ran) (bytes_of r.text)
     (said_of o command b r.ran.exit r.ran.history.items (places_in r.ran) (bytes_of r.text) is says)
     (λ e. no_read (c.respond-reply.ensures.read_fault e)) l))
+
+pub returns-clause-unplain : goal.returns-clause-unplain
+returns-clause-unplain g c = λ command is no_read no_write.
+    let o = command_of (map (λ w. w.now) c.args.words.now) in
+    let r = c.respond-reply.result in
+    let same = (c.finish.ensures.whole (λ e. no_write (c.finish.ensures.cut e).0)).0 in
+    when_told o (g.S.Source.left c.args.source.now) r _ c.respond-reply.ensures.reply
+    (λ b says v. subst IsUnplainExit (sym same)
+    (unplain_by command b r.ran.exit r.ran.history.items (places_in r.ran) (bytes_of r.text)
+    (said_of o command b r.ran.exit r.ran.history.items (places_in r.ran) (bytes_of r.text) is says)
+    (λ e. no_read (c.respond-reply.ensures.read_fault e)) c.plain_or_not.ensures v))

@@ -1,19 +1,18 @@
 use Rattle.std.proofs.Common.{map, ap₂, sym, ◌∙◌}
 use Rattle.clap.specs.Matches.{found_of}
-use Rattle.fm_words.specs.Words.{demo_with}
 use Rattle.fm_words.proofs.Spelling.{some_same}
-use Rattle.fm_words.proofs.Parses.{IsTaken, demo_parsed, settings_taken, not_none}
-use Rattle.fm_words.proofs.values.demo_values.Goals as goal
+use Rattle.fm_words.proofs.Parses.{IsTaken, both_of, numbered_parsed, settings_taken, not_none}
+use Rattle.fm_words.proofs.values.numbered_values.Goals as goal
 
 pub unreachable-requires : goal.unreachable-requires
 unreachable-requires c =
-    let made = demo_parsed (found_of c.in_ok-matches.matches) (map (λ w. w.now) c.args.words.now) c.number_in.result c.requires c.in_ok-matches.ensures.rows c.number_in.ensures in
+    let made = numbered_parsed (found_of c.in_ok-matches.matches) (map (λ w. w.now) c.args.words.now) c.number_in.result c.requires c.in_ok-matches.ensures.rows c.number_in.ensures in
     not_none c.number_in.result made.number c.in-None.is made.read
 
 pub returns-clause-values : goal.returns-clause-values
 returns-clause-values c =
     let found = found_of c.in_ok-matches.matches in
-    let made = demo_parsed found (map (λ w. w.now) c.args.words.now) c.number_in.result c.requires c.in_ok-matches.ensures.rows c.number_in.ensures in
+    let made = numbered_parsed found (map (λ w. w.now) c.args.words.now) c.number_in.result c.requires c.in_ok-matches.ensures.rows c.number_in.ensures in
     let taken : IsTaken found c.settings_in.result = record {
       turns = c.settings_in.ensures.turns;
       workers = c.settings_in.ensures.workers;
@@ -22,4 +21,4 @@ returns-clause-values c =
       vars = c.settings_in.ensures.vars;
       no_vars = c.settings_in.ensures.no_vars;
     } in
-    made.are ∙ ap₂ demo_with (some_same made.number c.in-Some.number (sym made.read ∙ c.in-Some.is)) (sym (settings_taken found c.settings_in.result made.settings taken made.shown))
+    made.are ∙ ap₂ both_of (some_same made.number c.in-Some.number (sym made.read ∙ c.in-Some.is)) (sym (settings_taken found c.settings_in.result made.settings taken made.shown))
