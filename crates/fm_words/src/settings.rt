@@ -1,6 +1,6 @@
 //! What options ask for, each at most once.
 
-ghost use Rattle.std.specs.Prelude.{◌≡◌, [], ◌∷◌, None, Some, List, map, option_and_then, MatchOption};
+ghost use Rattle.std.specs.Prelude.{◌≡◌, ◌∷◌, None, Some, List, map, option_and_then, MatchOption};
 ghost use Rattle.fm_words.specs.declared.option.Setting.{Setting};
 ghost use Rattle.fm_words.specs.Words.{settings_of, options_of, asked, given};
 ghost use Rattle.fm_words.specs.Held.{asked_with};
