@@ -183,13 +183,13 @@ fn first_other(alloc: Global, source: &[u8]) -> Result<Option<&'static str>, Fai
 #[test]
 fn hosts_tell_what_runs_tell(rt: HostRuntime) -> Result<(), Fail> {
     let alloc = rt.alloc();
-    for (i, row) in language::ROWS.iter().enumerate() {
+    for (i, row) in language::rows().iter().enumerate() {
         assert_eq!(rt; first_other(alloc, row.source)?, None, "language row {i}");
     }
-    for (i, row) in programs::RUNS.iter().enumerate() {
+    for (i, row) in programs::run_rows().iter().enumerate() {
         assert_eq!(rt; first_other(alloc, row.source)?, None, "programs row {i}");
     }
-    for (i, row) in examples::ROWS.iter().enumerate() {
+    for (i, row) in examples::rows().iter().enumerate() {
         assert_eq!(rt; first_other(alloc, row.source)?, None, "examples row {i}");
     }
     assert_eq!(rt; first_other(alloc, RING)?, None);
@@ -245,6 +245,7 @@ fn step_all(alloc: Global, nodes: &mut Nodes) -> Result<bool, Fail> {
 }
 
 /// A packet that was sent: its channel and number, and how often.
+#[derive(Drop)]
 struct Sent {
     channel: ChanName,
     number: u64,
