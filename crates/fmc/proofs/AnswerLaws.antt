@@ -39,7 +39,7 @@ use Rattle.fm_image.specs.ImageOf.{image_of}
 use Rattle.fm_object.specs.Texts.{object_text}
 use Rattle.fm_verdict.specs.Program.{IsCheckedOf}
 use Rattle.fm_verdict.specs.Verdict.{IsBroken, IsBrokenForm, AreStatementsOf}
-use Rattle.fm_nodes_plain.specs.Lines.{IsFirstUnplain, IsPlainVerdict}
+use Rattle.fm_nodes_plain.specs.Lines.{IsPlainVerdict}
 use Rattle.fm_nodes_plain.proofs.Declared.{told_program}
 use Rattle.fm_run.specs.Orders.{places_of}
 use Rattle.fm_run.specs.Programs.{EndsSo, Follows, IsRun}
@@ -61,7 +61,7 @@ use Rattle.fmc.specs.declared.answer.Reply.{Reply}
 use Rattle.fmc.specs.Exits.{is_end, is_decided, is_of_reading}
 use Rattle.fmc.specs.Listing.{listed_text}
 use Rattle.fmc.specs.Outcomes.{IsAccepted, IsRefusedFor, IsUnplayed, cost_of, exit_by, exit_of, source_limit, state_after, usage_text}
-use Rattle.fmc.specs.Plain.{HasPlainVerdict, IsNotPlain, IsPlainSource, PlainOrNot, unplain_text}
+use Rattle.fmc.specs.Plain.{HasPlainVerdict, IsNotPlain, IsPlainSource, PlainOrNot}
 use Rattle.fmc.specs.Replay.{IsTooLongTrace, IsTraceOf, SaysReplay, trace_limit}
 use Rattle.fmc.specs.Answer.{Answers, Asked, HasGround, Says, SaysRun, SaysMade, SaysNodes, SaysTrace, IsListOf, SaysTold, TellsList, TellsDeterminism, IsFirstRaceOf, determinism_text, flow_text, TellsFlow, TellsObject, SaysOf, IsHistoryIn, IsHistoryOf, IsEnded, IsNoHistory, HasHistory, IsReady, IsRefusedBy, IsCompleted, IsMalformedBy, IsMalformedExit, IsRefusedExit, IsTooLongBy, IsTooLongExit, IsUnplainBy, IsUnplainExit, IsPlayedExit, are_reading, is_reading, limit_of, report_asked, summary_asked, trace_asked}
 use Rattle.fmc.specs.Reply.{bytes_of, places_in, IsFlowReply, IsObjectReply, IsReply, IsReplyFor, IsReplyOf, IsFairlySpent, IsRunBy, IsRunOf, IsTableOf, exit_in, is_spent_by, text_in}

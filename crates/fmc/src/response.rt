@@ -50,7 +50,12 @@ fn exit_in(ending: &Ending) -> Exit
 }
 
 // The text of a run: its report, or that it was spent.
-pub(crate) fn report_in(alloc: Global, run: &Run, turns: u64, vars: bool) -> Result<Vec<u8>, NoMemory>
+pub(crate) fn report_in(
+    alloc: Global,
+    run: &Run,
+    turns: u64,
+    vars: bool,
+) -> Result<Vec<u8>, NoMemory>
     ensures { IfOk result (λ v. v.items ≡ text_in (report_asked turns vars []) run.now.history.items (places_of run.now.paths.items) run.now.ending) }
 {
     match &run.ending {

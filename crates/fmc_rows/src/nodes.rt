@@ -159,7 +159,11 @@ fn worked_programs(rt: HostRuntime) -> Result<(), Fail> {
     let (ran, text) = answer(alloc, &["nodes", "0", "--turns=3"], THREE)?;
     assert_eq!(rt; text.as_slice(), b"spent 3\n".as_slice());
     assert_eq!(rt; ran.exit, Exit::Spent);
-    let (ran, _) = answer(alloc, &["nodes", "0"], b"      PROGRAM P\n      X = 1\n      END\n")?;
+    let (ran, _) = answer(
+        alloc,
+        &["nodes", "0"],
+        b"      PROGRAM P\n      X = 1\n      END\n",
+    )?;
     assert_eq!(rt; ran.exit, Exit::Refused);
     Ok(())
 }

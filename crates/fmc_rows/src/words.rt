@@ -176,7 +176,16 @@ fn words_are_their_commands(rt: HostRuntime) -> Result<(), Fail> {
         plan: Plan::Block,
     };
     assert_eq!(rt;
-        words(alloc, &["nodes", "999999999999999999", "--vars", "--turns=5", "--plan=block"]),
+        words(
+            alloc,
+            &[
+                "nodes",
+                "999999999999999999",
+                "--vars",
+                "--turns=5",
+                "--plan=block"
+            ]
+        ),
         Ok(Command::Nodes {
             number: 999_999_999_999_999_999,
             setup,

@@ -14,5 +14,5 @@ returns-in-Err-Refused-clause-reply c =
     let refused = subst (IsRefusal (IsBroken c.args.bytes.now)) c.in-Err-Refused.field-0-is c.in-Err-Refused.ensures.refused in
     both_ok c.refusal_reply.result _ _ _
     (λ r e u. refused_by_hosts c.args.bytes.now c.args.number c.args.setup c.args.vars c.in-Err-Refused.refusal r c.requires refused e
-        (subst (λ (v : Refusal). IsUnplayed r.ran.history.items (places_in r.ran) (bytes_of r.text) (refusal_text v)) c.in-Err-Refused.refusal-is u))
+    (subst (λ (v : Refusal). IsUnplayed r.ran.history.items (places_in r.ran) (bytes_of r.text) (refusal_text v)) c.in-Err-Refused.refusal-is u))
     c.refusal_reply.ensures.exit c.refusal_reply.ensures.text
