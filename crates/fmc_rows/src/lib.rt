@@ -22,8 +22,6 @@ mod language;
 #[cfg(test)]
 mod made;
 #[cfg(test)]
-mod nodes;
-#[cfg(test)]
 mod pieces;
 #[cfg(test)]
 mod placement;
