@@ -222,7 +222,7 @@ fn kid(alloc: Global, start: &Start) -> Result<Kid, NoMemory>
 {
     Ok(Kid {
         unit: start.unit,
-        backs: Seq::from_slice(alloc, start.backs.as_slice())?,
+        backs: Rare::from_slice(alloc, start.backs.as_slice())?,
     })
 }
 

@@ -25,7 +25,7 @@ use crate::dropping::drop_body;
 use crate::measuring::{joining_words, room_with};
 use fm_base::{NoMemory, Seq};
 use fm_chan::{Channels, Port};
-use fm_code::{Back, Body};
+use fm_code::{Back, Body, Rare};
 use fm_proc_events::{Kid, Phase, Process, set_address, shed};
 use fm_proc_slots::{Child, Gains, Slots, give_back};
 use std::alloc::Global;
@@ -215,7 +215,7 @@ fn next_kid(alloc: Global, kids: &mut VecDeque<Kid>) -> Kid
         Some(kid) => kid,
         None => Kid {
             unit: 0,
-            backs: Seq::new(alloc),
+            backs: Rare::new(alloc),
         },
     }
 }

@@ -9,7 +9,7 @@ pub struct Kid {
     /// The number of the unit that it began with.
     pub unit: u32,
     /// What it gives back.
-    pub backs: Seq<Back>,
+    pub backs: Rare<Back>,
 }
 
 impl Drop for Kid {
