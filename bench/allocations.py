@@ -38,6 +38,8 @@ CALLS = [
     ("check", "merger"),
     ("list", "checked"),
     ("compile", "slices"),
+    ("nodes 0", "producer"),
+    ("nodes 5 --vars", "merger"),
     ("make 7", b""),
     ("demo 7", b""),
     ("run --fast", b""),
