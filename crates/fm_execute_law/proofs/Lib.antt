@@ -1,4 +1,5 @@
 mod Back
+mod Turns
 mod Variables
 mod Firsts
 mod Shown

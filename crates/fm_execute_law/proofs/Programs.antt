@@ -1,7 +1,9 @@
 -- A run of the image of a program is a run of the program.
-use Rattle.std.proofs.Common.{◌≡◌, ℕ, List, sym, subst, ◌∙◌}
+use Rattle.std.proofs.Common.{◌≡◌, ℕ, List, [], Some, sym, subst, ◌∙◌}
+use Rattle.std.specs.FinMap.{get}
+use Rattle.fm_base.specs.declared.schedule.Turn.{Turn}
 use Rattle.fm_net.specs.Correspondence.{StandsFor}
-use Rattle.fm_net.specs.Machine.{State}
+use Rattle.fm_net.specs.Machine.{Place, State}
 use Rattle.fm_net.specs.Owned.{main_alone}
 use Rattle.fm_rules.specs.declared.program.Program.{Program}
 use Rattle.fm_mean.specs.Process.{Proc}
@@ -15,6 +17,7 @@ use Rattle.fm_proc_language.specs.Processes.{CodeProc}
 use Rattle.fm_outcome_code.specs.Corresponds.{Corresponds, IsLive}
 use Rattle.fm_outcome_code.specs.Shown.{first_process}
 use Rattle.fm_outcome_code.proofs.Alike.{machines_alike}
+use Rattle.fm_outcome_code.proofs.Asking.{local_alike}
 use Rattle.fm_outcome_code.proofs.FirstAlike.{first_alike}
 use Rattle.fm_outcome_code.proofs.Shows.{shows_alike}
 use Rattle.fm_outcome_code.proofs.Sound.{first_live}
@@ -22,12 +25,13 @@ use Rattle.fm_run.specs.declared.run.Run.{Run}
 use Rattle.fm_run.specs.Plays.{Play, first}
 use Rattle.fm_run.specs.Programs as programs
 use Rattle.fm_run.specs.Programs.{play_of}
-use Rattle.fm_run.specs.Runs.{IsRun}
+use Rattle.fm_run.specs.Runs.{Follows, IsRun}
 use Rattle.fm_image_play.specs.Play.{image_play}
 use Rattle.fm_execute.specs.Executed.{IsExecuted}
 use Rattle.fm_execute_law.proofs.Back.{run_back}
 use Rattle.fm_execute_law.proofs.Firsts.{first_same}
 use Rattle.fm_execute_law.proofs.Shown.{outcome_same}
+use Rattle.fm_execute_law.proofs.Turns.{follows_back}
 
 module _ (p : Program) where
   abbrev plays : Play
@@ -47,3 +51,15 @@ module _ (p : Program) where
   pub run_of_text : (bytes : List ℕ) → IsObjectText bytes (image_of p (code_of p)) → (turns : ℕ) (run : Run) → IsExecuted bytes turns run → programs.IsRun p turns run
   run_of_text bytes object turns run h =
       run_of_program turns run (subst (λ (i : Image). IsRun (image_play i) turns run) (one_object_text bytes h.image (image_of p (code_of p)) h.object object) h.of_image.runs)
+
+  -- ---- in which order
+
+  local : (s : State Proc) → IsLive p s → (c : Place) (x : Proc) (y : CodeProc) → get s.procs c ≡ Some x → Corresponds p y x → plays.is_local y ≡ (play_of p).is_local x
+  local s live c x y is corresponds = local_alike p s live c x is y corresponds
+
+  pub follows_program : (slice : ℕ) (choices : List ℕ) (history : List Turn) → Follows plays slice choices history → programs.Follows p slice choices history
+  follows_program slice choices history h = follows_back (play_of p) plays (Corresponds p) (IsLive p) (machines_alike p) begins local slice choices history h
+
+  pub text_follows : (bytes : List ℕ) → IsObjectText bytes (image_of p (code_of p)) → (turns : ℕ) (run : Run) → IsExecuted bytes turns run → programs.Follows p 1000 [] run.history.items
+  text_follows bytes object turns run h =
+      follows_program 1000 [] run.history.items (subst (λ (i : Image). Follows (image_play i) 1000 [] run.history.items) (one_object_text bytes h.image (image_of p (code_of p)) h.object object) h.of_image.in_turn)
