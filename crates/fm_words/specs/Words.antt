@@ -210,6 +210,13 @@ has_no_threads s = is_none s.workers && is_none s.slice
 abbrev pub nodes_with : ℕ → Settings → Option Command
 nodes_with n s = cond (has_no_threads s) (option_map (λ u. command.Nodes n u s.vars) (setup_of s)) None
 
+-- `exec` has one thread and pieces of its own: of the setup only the turns are asked for
+abbrev pub has_turns_only : Settings → Bool
+has_turns_only s = has_no_threads s && is_none s.plan
+
+abbrev pub exec_with : Settings → Option Command
+exec_with s = cond (has_turns_only s) (option_map (λ u. command.Exec u.turns s.vars) (setup_of s)) None
+
 -- a command that takes no more words
 abbrev pub alone : Command → List (List ℕ) → Option Command
 alone c [] = Some c
@@ -226,6 +233,10 @@ trace_of ws = option_and_then trace_with (options_of ws)
 -- `replay` and its option
 abbrev pub replay_of : List (List ℕ) → Option Command
 replay_of ws = option_and_then replay_with (options_of ws)
+
+-- `exec` and its options
+abbrev pub exec_of : List (List ℕ) → Option Command
+exec_of ws = option_and_then exec_with (options_of ws)
 
 -- `make` and its number
 abbrev pub make_of : List (List ℕ) → Option Command
@@ -258,4 +269,5 @@ command_of (w ∷ ws) =
     (cond (bytes_eq w (codes "demo")) (demo_of ws)
     (cond (bytes_eq w (codes "flow")) (alone command.Flow ws)
     (cond (bytes_eq w (codes "compile")) (alone command.Compile ws)
-    (cond (bytes_eq w (codes "nodes")) (nodes_of ws) None)))))))))
+    (cond (bytes_eq w (codes "exec")) (exec_of ws)
+    (cond (bytes_eq w (codes "nodes")) (nodes_of ws) None))))))))))

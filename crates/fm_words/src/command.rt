@@ -1,7 +1,7 @@
 //! The command that words are.
 
 ghost use Rattle.std.specs.Prelude.{◌≡◌, Some, map, is_none, MatchResult};
-ghost use Rattle.fm_words.specs.Words.{run_with, trace_with, replay_with, has_vars_only, has_no_threads, demo_with, nodes_with, alone, run_of, trace_of, replay_of, make_of, numbered_of, demo_of, nodes_of, command_of};
+ghost use Rattle.fm_words.specs.Words.{run_with, trace_with, replay_with, has_vars_only, has_no_threads, has_turns_only, demo_with, nodes_with, exec_with, alone, run_of, trace_of, replay_of, exec_of, make_of, numbered_of, demo_of, nodes_of, command_of};
 ghost use Rattle.fm_words.specs.Fails.{is_usage, IsCause};
 
 use crate::option::number;
@@ -40,6 +40,13 @@ pub enum Command {
     Flow,
     /// Checks a program and writes its object text.
     Compile,
+    /// Reads an object text, runs its image and writes the report.
+    Exec {
+        /// The most that the run may cost, 1 to 1,000,000,000.
+        turns: u64,
+        /// Whether the report has the variables of main, and the cost.
+        vars: bool,
+    },
     /// Writes a generated program.
     Make {
         /// The number of the program, below 10 to the 18.
@@ -170,6 +177,27 @@ fn nodes_with(number: u64, settings: Settings) -> Option<Command>
     }
 }
 
+// Whether nothing of the setup is asked for but the turns: `exec` has one thread, and pieces of its own.
+fn has_turns_only(settings: Settings) -> bool
+    ensures { result ≡ has_turns_only settings }
+{
+    has_no_threads(settings) && settings.plan.is_none()
+}
+
+fn exec_with(settings: Settings) -> Option<Command>
+    ensures { result ≡ exec_with settings }
+{
+    if has_turns_only(settings) {
+        let setup = setup_of(settings)?;
+        Some(Command::Exec {
+            turns: setup.turns,
+            vars: settings.vars,
+        })
+    } else {
+        None
+    }
+}
+
 fn alone(command: Command, words: &[&str]) -> Result<Command, WordsFail>
     ensures { MatchResult result (λ c. alone command (map (λ w. w.now) words.now) ≡ Some c) (λ e. is_usage e ≡ is_none (alone command (map (λ w. w.now) words.now))) }
 {
@@ -234,6 +262,12 @@ fn replay_of(words: &[&str]) -> Option<Command>
     replay_with(options_of(words)?)
 }
 
+fn exec_of(words: &[&str]) -> Option<Command>
+    ensures { result ≡ exec_of (map (λ w. w.now) words.now) }
+{
+    exec_with(options_of(words)?)
+}
+
 fn run(alloc: Global, words: &[&str]) -> Result<Command, WordsFail>
     ensures { MatchResult result (λ c. run_of (map (λ w. w.now) words.now) ≡ Some c) (λ e. is_usage e ≡ is_none (run_of (map (λ w. w.now) words.now))) }
 {
@@ -265,6 +299,18 @@ fn replay(alloc: Global, words: &[&str]) -> Result<Command, WordsFail>
         return Err(WordsFail::Usage);
     }
     match replay_with(run_values(alloc, words)?) {
+        Some(command) => Ok(command),
+        None => unreachable!(),
+    }
+}
+
+fn exec(alloc: Global, words: &[&str]) -> Result<Command, WordsFail>
+    ensures { MatchResult result (λ c. exec_of (map (λ w. w.now) words.now) ≡ Some c) (λ e. is_usage e ≡ is_none (exec_of (map (λ w. w.now) words.now))) }
+{
+    if exec_of(words).is_none() {
+        return Err(WordsFail::Usage);
+    }
+    match exec_with(run_values(alloc, words)?) {
         Some(command) => Ok(command),
         None => unreachable!(),
     }
@@ -333,6 +379,8 @@ pub fn words(alloc: Global, words: &[&str]) -> Result<Command, WordsFail>
         alone(Command::Flow, behind)
     } else if *first == "compile" {
         alone(Command::Compile, behind)
+    } else if *first == "exec" {
+        exec(alloc, behind)
     } else if *first == "nodes" {
         nodes(alloc, behind)
     } else {

@@ -56,15 +56,17 @@ use Rattle.fm_words.specs.Words.{command_of}
 use Rattle.fm_words.specs.declared.command.Command.{Command}
 use Rattle.fm_words.specs.declared.command.Command.TheVariants as command
 use Rattle.fmc.specs.declared.answer.Exit.{Exit}
-use Rattle.fmc.specs.declared.answer.Exit.TheVariants.{Done, Faulted, Deadlocked, Refused, Spent, Usage, ReadFault, WriteFault, NoMemory, TooLong, Malformed, Illegal, Unfinished, NotPlain}
+use Rattle.fmc.specs.declared.answer.Exit.TheVariants.{Done, Faulted, Deadlocked, Refused, Spent, Usage, ReadFault, WriteFault, NoMemory, TooLong, Malformed, Illegal, Unfinished, BadObject, Unverified, NotPlain}
 use Rattle.fmc.specs.declared.answer.Reply.{Reply}
 use Rattle.fmc.specs.Exits.{is_end, is_decided, is_of_reading}
+use Rattle.fmc.specs.Executes.{SaysExec}
 use Rattle.fmc.specs.Listing.{listed_text}
-use Rattle.fmc.specs.Outcomes.{IsAccepted, IsRefusedFor, IsUnplayed, cost_of, exit_by, exit_of, source_limit, state_after, usage_text}
+use Rattle.fmc.specs.Outcomes.{IsAccepted, IsRefusedFor, IsUnplayed, cost_of, exit_by, exit_of, source_limit, state_after, usage_text, exit_in}
 use Rattle.fmc.specs.Plain.{HasPlainVerdict, IsNotPlain, IsPlainSource, PlainOrNot}
 use Rattle.fmc.specs.Replay.{IsTooLongTrace, IsTraceOf, SaysReplay, trace_limit}
 use Rattle.fmc.specs.Answer.{Answers, Asked, HasGround, Says, SaysRun, SaysMade, SaysNodes, SaysTrace, IsListOf, SaysTold, TellsList, TellsDeterminism, IsFirstRaceOf, determinism_text, flow_text, TellsFlow, TellsObject, SaysOf, IsHistoryIn, IsHistoryOf, IsEnded, IsNoHistory, HasHistory, IsReady, IsRefusedBy, IsCompleted, IsMalformedBy, IsMalformedExit, IsRefusedExit, IsTooLongBy, IsTooLongExit, IsUnplainBy, IsUnplainExit, IsPlayedExit, are_reading, is_reading, limit_of, report_asked, summary_asked, trace_asked}
-use Rattle.fmc.specs.Reply.{bytes_of, places_in, IsFlowReply, IsObjectReply, IsReply, IsReplyFor, IsReplyOf, IsFairlySpent, IsRunBy, IsRunOf, IsTableOf, exit_in, is_spent_by, text_in}
+use Rattle.fmc.specs.Reply.{bytes_of, places_in, IsFlowReply, IsObjectReply, IsReply, IsReplyFor, IsReplyOf, IsFairlySpent, IsRunBy, IsRunOf, IsTableOf, is_spent_by, text_in}
+use Rattle.fmc.proofs.ExecSaid.{exec_completed, exec_history, exec_long, found}
 
 -- Replies from what the parts give.
 
@@ -126,6 +128,8 @@ ended_says b asked TooLong h ps t e k = absurd (false≢true e)
 ended_says b asked Malformed h ps t e k = absurd (false≢true e)
 ended_says b asked Illegal h ps t e k = absurd (false≢true e)
 ended_says b asked Unfinished h ps t e k = absurd (false≢true e)
+ended_says b asked BadObject h ps t e k = absurd (false≢true e)
+ended_says b asked Unverified h ps t e k = absurd (false≢true e)
 ended_says b asked NotPlain h ps t e k = absurd (false≢true e)
 
 -- a schedule that costs more than the turns: each one that ends costs as much or more
@@ -305,6 +309,8 @@ run_history asked b TooLong h ps t k = inl (no_history h ps t _ k.1)
 run_history asked b Malformed h ps t k = absurd k
 run_history asked b Illegal h ps t k = absurd k
 run_history asked b Unfinished h ps t k = absurd k
+run_history asked b BadObject h ps t k = absurd k
+run_history asked b Unverified h ps t k = absurd k
 run_history asked b NotPlain h ps t k = absurd k
 
 -- hosts say what a run says, or that the program isn't plain
@@ -322,6 +328,8 @@ nodes_say asked b TooLong h ps t k = inl k
 nodes_say asked b Malformed h ps t k = absurd k
 nodes_say asked b Illegal h ps t k = absurd k
 nodes_say asked b Unfinished h ps t k = absurd k
+nodes_say asked b BadObject h ps t k = absurd k
+nodes_say asked b Unverified h ps t k = absurd k
 nodes_say asked b NotPlain h ps t k = inr k
 
 -- of a plain program they say what a run says
@@ -339,6 +347,8 @@ said_by_hosts asked b TooLong h ps t plain k = k
 said_by_hosts asked b Malformed h ps t plain k = k
 said_by_hosts asked b Illegal h ps t plain k = k
 said_by_hosts asked b Unfinished h ps t plain k = k
+said_by_hosts asked b BadObject h ps t plain k = absurd k
+said_by_hosts asked b Unverified h ps t plain k = absurd k
 said_by_hosts asked b NotPlain h ps t plain k = absurd k
 
 nodes_history : (asked : Asked) (b : List ℕ) (exit : Exit) (h : List Turn) (ps : List Place) (t : List ℕ) → SaysRun asked b exit h ps t ⊎ IsNotPlain b h ps t → IsHistoryIn asked.turns b h ps
@@ -361,6 +371,8 @@ module _ (TellsOf : List Placed → List ℕ → Type 0) (b : List ℕ) where
   told_history Malformed h ps t k = absurd k
   told_history Illegal h ps t k = absurd k
   told_history Unfinished h ps t k = absurd k
+  told_history BadObject h ps t k = absurd k
+  told_history Unverified h ps t k = absurd k
   told_history NotPlain h ps t k = absurd k
 
   told_completed : (exit : Exit) (h : List Turn) (ps : List Place) (t : List ℕ) → SaysTold TellsOf b exit h ps t → (exit ≡ ReadFault → ⊥) → length b ≤ source_limit → IsClean (IsBroken b) → (exit ≡ Done) ⊎ (exit ≡ NoMemory)
@@ -377,6 +389,8 @@ module _ (TellsOf : List Placed → List ℕ → Type 0) (b : List ℕ) where
   told_completed Malformed h ps t k r le v = absurd k
   told_completed Illegal h ps t k r le v = absurd k
   told_completed Unfinished h ps t k r le v = absurd k
+  told_completed BadObject h ps t k r le v = absurd k
+  told_completed Unverified h ps t k r le v = absurd k
   told_completed NotPlain h ps t k r le v = absurd k
 
   told_refused : (exit : Exit) (h : List Turn) (ps : List Place) (t : List ℕ) → SaysTold TellsOf b exit h ps t → (exit ≡ ReadFault → ⊥) → length b ≤ source_limit → (v : Refusal) → IsRefusedFor b v → IsRefusedExit exit
@@ -393,6 +407,8 @@ module _ (TellsOf : List Placed → List ℕ → Type 0) (b : List ℕ) where
   told_refused Malformed h ps t k r le v w = absurd k
   told_refused Illegal h ps t k r le v w = absurd k
   told_refused Unfinished h ps t k r le v w = absurd k
+  told_refused BadObject h ps t k r le v w = absurd k
+  told_refused Unverified h ps t k r le v w = absurd k
   told_refused NotPlain h ps t k r le v w = absurd k
 
   told_long : (exit : Exit) (h : List Turn) (ps : List Place) (t : List ℕ) → SaysTold TellsOf b exit h ps t → (exit ≡ ReadFault → ⊥) → source_limit < length b → IsTooLongExit exit
@@ -409,6 +425,8 @@ module _ (TellsOf : List Placed → List ℕ → Type 0) (b : List ℕ) where
   told_long Malformed h ps t k r l = absurd k
   told_long Illegal h ps t k r l = absurd k
   told_long Unfinished h ps t k r l = absurd k
+  told_long BadObject h ps t k r l = absurd k
+  told_long Unverified h ps t k r l = absurd k
   told_long NotPlain h ps t k r l = absurd k
 
 -- of a replay: bytes are the text of one trace, or malformed
@@ -439,6 +457,8 @@ replay_history vars b TooLong h ps t k = no_history h ps t _ k.1
 replay_history vars b Malformed h ps t k = no_history h ps t _ k.unplayed
 replay_history vars b Illegal h ps t k = no_history h ps t _ k.unplayed
 replay_history vars b Unfinished h ps t k = no_history h ps t _ k.unplayed
+replay_history vars b BadObject h ps t k = absurd k
+replay_history vars b Unverified h ps t k = absurd k
 replay_history vars b NotPlain h ps t k = absurd k
 
 replay_completed : (vars : Bool) (b : List ℕ) (exit : Exit) (h : List Turn) (ps : List Place) (t : List ℕ) → SaysReplay vars b exit h ps t → (exit ≡ ReadFault → ⊥) → IsTraceOf IsAccepted b → IsPlayedExit exit ⊎ ((exit ≡ Illegal) ⊎ ((exit ≡ Unfinished) ⊎ (exit ≡ NoMemory)))
@@ -455,6 +475,8 @@ replay_completed vars b TooLong h ps t k r v = absurd (not_long b v.within v.tra
 replay_completed vars b Malformed h ps t k r v = absurd (no_line_of_a_trace b v.trace v.read k.line k.malformed)
 replay_completed vars b Illegal h ps t k r v = inr (inl refl)
 replay_completed vars b Unfinished h ps t k r v = inr (inr (inl refl))
+replay_completed vars b BadObject h ps t k r v = absurd k
+replay_completed vars b Unverified h ps t k r v = absurd k
 replay_completed vars b NotPlain h ps t k r v = absurd k
 
 replay_refused : (vars : Bool) (b : List ℕ) (exit : Exit) (h : List Turn) (ps : List Place) (t : List ℕ) → SaysReplay vars b exit h ps t → (exit ≡ ReadFault → ⊥) → (v : Refusal) → IsTraceOf (λ source. IsRefusedFor source v) b → IsRefusedExit exit
@@ -471,6 +493,8 @@ replay_refused vars b TooLong h ps t k r v w = absurd (not_long b w.within w.tra
 replay_refused vars b Malformed h ps t k r v w = absurd (no_line_of_a_trace b w.trace w.read k.line k.malformed)
 replay_refused vars b Illegal h ps t k r v w = absurd (k.lawful.clean v (same_trace (λ source. IsRefusedFor source v) b w k.trace k.read).broken)
 replay_refused vars b Unfinished h ps t k r v w = absurd (k.lawful.clean v (same_trace (λ source. IsRefusedFor source v) b w k.trace k.read).broken)
+replay_refused vars b BadObject h ps t k r v w = absurd k
+replay_refused vars b Unverified h ps t k r v w = absurd k
 replay_refused vars b NotPlain h ps t k r v w = absurd k
 
 replay_long : (vars : Bool) (b : List ℕ) (exit : Exit) (h : List Turn) (ps : List Place) (t : List ℕ) → SaysReplay vars b exit h ps t → (exit ≡ ReadFault → ⊥) → IsTooLongTrace b → IsTooLongExit exit
@@ -487,6 +511,8 @@ replay_long vars b TooLong h ps t k r l = inl refl
 replay_long vars b Malformed h ps t k r l = absurd (malformed_not_long b k.within k.line k.malformed l)
 replay_long vars b Illegal h ps t k r l = absurd (not_long b k.within k.trace k.read k.short l)
 replay_long vars b Unfinished h ps t k r l = absurd (not_long b k.within k.trace k.read k.short l)
+replay_long vars b BadObject h ps t k r l = absurd k
+replay_long vars b Unverified h ps t k r l = absurd k
 replay_long vars b NotPlain h ps t k r l = absurd k
 
 replay_malformed : (vars : Bool) (b : List ℕ) (exit : Exit) (h : List Turn) (ps : List Place) (t : List ℕ) → SaysReplay vars b exit h ps t → (exit ≡ ReadFault → ⊥) → (length b ≤ trace_limit) × (line : ℕ) × IsFirstMalformed b line → IsMalformedExit exit
@@ -503,6 +529,8 @@ replay_malformed vars b TooLong h ps t k r l = absurd (malformed_not_long b l.0 
 replay_malformed vars b Malformed h ps t k r l = inl refl
 replay_malformed vars b Illegal h ps t k r l = absurd (no_line_of_a_trace b k.trace k.read l.1 l.2)
 replay_malformed vars b Unfinished h ps t k r l = absurd (no_line_of_a_trace b k.trace k.read l.1 l.2)
+replay_malformed vars b BadObject h ps t k r l = absurd k
+replay_malformed vars b Unverified h ps t k r l = absurd k
 replay_malformed vars b NotPlain h ps t k r l = absurd k
 
 made_history : (number : ℕ) (exit : Exit) (h : List Turn) (ps : List Place) (t : List ℕ) → SaysMade number exit h ps t → IsNoHistory h ps
@@ -518,6 +546,7 @@ says_history (Some command.Check) b exit h ps t k = told_history TellsDeterminis
 says_history (Some command.List) b exit h ps t k = told_history TellsList b exit h ps t k
 says_history (Some command.Flow) b exit h ps t k = told_history TellsFlow b exit h ps t k
 says_history (Some command.Compile) b exit h ps t k = told_history TellsObject b exit h ps t k
+says_history (Some (command.Exec turns vars)) b exit h ps t k = exec_history turns vars b exit h ps t (found turns vars b exit h ps t k)
 says_history (Some (command.Make number)) b exit h ps t k = made_history number exit h ps t k
 says_history (Some (command.Demo number setup)) b exit h ps t k = run_history (summary_asked setup.turns) (made_text number) exit h ps t k.1
 says_history (Some (command.Nodes number setup vars)) b exit h ps t k = nodes_history (report_asked setup.turns vars []) b exit h ps t (nodes_say (report_asked setup.turns vars []) b exit h ps t k)
@@ -536,6 +565,8 @@ run_completed asked b TooLong h ps t k r le v = absurd (omega (arith, k.0))
 run_completed asked b Malformed h ps t k r le v = absurd k
 run_completed asked b Illegal h ps t k r le v = absurd k
 run_completed asked b Unfinished h ps t k r le v = absurd k
+run_completed asked b BadObject h ps t k r le v = absurd k
+run_completed asked b Unverified h ps t k r le v = absurd k
 run_completed asked b NotPlain h ps t k r le v = absurd k
 
 -- the program of a plain source isn't found not to be plain
@@ -561,6 +592,7 @@ completed command.Check b exit h ps t k r short apart v = told_completed TellsDe
 completed command.List b exit h ps t k r short apart v = told_completed TellsList b exit h ps t k r v.0 v.1
 completed command.Flow b exit h ps t k r short apart v = told_completed TellsFlow b exit h ps t k r v.0 v.1
 completed command.Compile b exit h ps t k r short apart v = told_completed TellsObject b exit h ps t k r v.0 v.1
+completed (command.Exec turns vars) b exit h ps t k r short apart v = exec_completed turns vars b exit h ps t (found turns vars b exit h ps t k) r v
 completed (command.Make number) b exit h ps t k r short apart v = made_completed number exit h ps t k
 completed (command.Demo number setup) b exit h ps t k r short apart v = run_completed (summary_asked setup.turns) (made_text number) exit h ps t k.1 (demo_reads exit k.0) (short number) v
 completed (command.Nodes number setup vars) b exit h ps t k r short apart v = nodes_completed (report_asked setup.turns vars []) b exit h ps t (nodes_say (report_asked setup.turns vars []) b exit h ps t k) r apart v.0 v.1
@@ -579,6 +611,8 @@ run_refused asked b TooLong h ps t k r le v w = absurd (omega (arith, k.0))
 run_refused asked b Malformed h ps t k r le v w = absurd k
 run_refused asked b Illegal h ps t k r le v w = absurd k
 run_refused asked b Unfinished h ps t k r le v w = absurd k
+run_refused asked b BadObject h ps t k r le v w = absurd k
+run_refused asked b Unverified h ps t k r le v w = absurd k
 run_refused asked b NotPlain h ps t k r le v w = absurd k
 
 nodes_refused : (asked : Asked) (b : List ℕ) (exit : Exit) (h : List Turn) (ps : List Place) (t : List ℕ) → SaysRun asked b exit h ps t ⊎ IsNotPlain b h ps t → (exit ≡ ReadFault → ⊥) → length b ≤ source_limit → (v : Refusal) → IsRefusedFor b v → IsRefusedExit exit
@@ -593,6 +627,7 @@ refused_of command.Check b exit h ps t k r short v w = told_refused TellsDetermi
 refused_of command.List b exit h ps t k r short v w = told_refused TellsList b exit h ps t k r w.0 v w.1
 refused_of command.Flow b exit h ps t k r short v w = told_refused TellsFlow b exit h ps t k r w.0 v w.1
 refused_of command.Compile b exit h ps t k r short v w = told_refused TellsObject b exit h ps t k r w.0 v w.1
+refused_of (command.Exec turns vars) b exit h ps t k r short v w = absurd w
 refused_of (command.Make number) b exit h ps t k r short v w = absurd w
 refused_of (command.Demo number setup) b exit h ps t k r short v w = run_refused (summary_asked setup.turns) (made_text number) exit h ps t k.1 (demo_reads exit k.0) (short number) v w
 refused_of (command.Nodes number setup vars) b exit h ps t k r short v w = nodes_refused (report_asked setup.turns vars []) b exit h ps t (nodes_say (report_asked setup.turns vars []) b exit h ps t k) r w.0 v w.1
@@ -611,6 +646,8 @@ run_long asked b TooLong h ps t k r l = inl refl
 run_long asked b Malformed h ps t k r l = absurd k
 run_long asked b Illegal h ps t k r l = absurd k
 run_long asked b Unfinished h ps t k r l = absurd k
+run_long asked b BadObject h ps t k r l = absurd k
+run_long asked b Unverified h ps t k r l = absurd k
 run_long asked b NotPlain h ps t k r l = absurd k
 
 nodes_long : (asked : Asked) (b : List ℕ) (exit : Exit) (h : List Turn) (ps : List Place) (t : List ℕ) → SaysRun asked b exit h ps t ⊎ IsNotPlain b h ps t → (exit ≡ ReadFault → ⊥) → source_limit < length b → IsTooLongExit exit
@@ -632,6 +669,8 @@ nodes_unplain asked b TooLong h ps t k r le line v not_plain = absurd (omega (ar
 nodes_unplain asked b Malformed h ps t k r le line v not_plain = absurd k
 nodes_unplain asked b Illegal h ps t k r le line v not_plain = absurd k
 nodes_unplain asked b Unfinished h ps t k r le line v not_plain = absurd k
+nodes_unplain asked b BadObject h ps t k r le line v not_plain = absurd k
+nodes_unplain asked b Unverified h ps t k r le line v not_plain = absurd k
 nodes_unplain asked b NotPlain h ps t k r le line v not_plain = inl refl
 
 pub unplain_by : (c : Command) (b : List ℕ) (exit : Exit) (h : List Turn) (ps : List Place) (t : List ℕ) → Says c b exit h ps t → (exit ≡ ReadFault → ⊥) → PlainOrNot → IsUnplainBy c b → IsUnplainExit exit
@@ -643,6 +682,7 @@ unplain_by command.Check b exit h ps t k r apart v = absurd v
 unplain_by command.List b exit h ps t k r apart v = absurd v
 unplain_by command.Flow b exit h ps t k r apart v = absurd v
 unplain_by command.Compile b exit h ps t k r apart v = absurd v
+unplain_by (command.Exec turns vars) b exit h ps t k r apart v = absurd v
 unplain_by (command.Make number) b exit h ps t k r apart v = absurd v
 unplain_by (command.Demo number setup) b exit h ps t k r apart v = absurd v
 unplain_by (command.Nodes number setup vars) b exit h ps t k r apart v = nodes_unplain (report_asked setup.turns vars []) b exit h ps t k r v.0 v.1 v.2 (λ plain. apart b v.1 plain v.2)
@@ -655,6 +695,7 @@ too_long_by command.Check b exit h ps t k r l = told_long TellsDeterminism b exi
 too_long_by command.List b exit h ps t k r l = told_long TellsList b exit h ps t k r l
 too_long_by command.Flow b exit h ps t k r l = told_long TellsFlow b exit h ps t k r l
 too_long_by command.Compile b exit h ps t k r l = told_long TellsObject b exit h ps t k r l
+too_long_by (command.Exec turns vars) b exit h ps t k r l = exec_long turns vars b exit h ps t (found turns vars b exit h ps t k) r l
 too_long_by (command.Make number) b exit h ps t k r l = absurd l
 too_long_by (command.Demo number setup) b exit h ps t k r l = absurd l
 too_long_by (command.Nodes number setup vars) b exit h ps t k r l = nodes_long (report_asked setup.turns vars []) b exit h ps t (nodes_say (report_asked setup.turns vars []) b exit h ps t k) r l
@@ -667,6 +708,7 @@ malformed_by command.Check b exit h ps t k r l = absurd l
 malformed_by command.List b exit h ps t k r l = absurd l
 malformed_by command.Flow b exit h ps t k r l = absurd l
 malformed_by command.Compile b exit h ps t k r l = absurd l
+malformed_by (command.Exec turns vars) b exit h ps t k r l = absurd l
 malformed_by (command.Make number) b exit h ps t k r l = absurd l
 malformed_by (command.Demo number setup) b exit h ps t k r l = absurd l
 malformed_by (command.Nodes number setup vars) b exit h ps t k r l = absurd l
@@ -680,6 +722,7 @@ says_unread command.Check b other exit h ps t e k = absurd (false≢true (sym e)
 says_unread command.List b other exit h ps t e k = absurd (false≢true (sym e))
 says_unread command.Flow b other exit h ps t e k = absurd (false≢true (sym e))
 says_unread command.Compile b other exit h ps t e k = absurd (false≢true (sym e))
+says_unread (command.Exec turns vars) b other exit h ps t e k = absurd (false≢true (sym e))
 says_unread (command.Make number) b other exit h ps t e k = k
 says_unread (command.Demo number setup) b other exit h ps t e k = k
 says_unread (command.Nodes number setup vars) b other exit h ps t e k = absurd (false≢true (sym e))
@@ -694,6 +737,7 @@ no_memory_says (Some command.Check) b exit h ps t c e u = subst (λ (x : Exit). 
 no_memory_says (Some command.List) b exit h ps t c e u = subst (λ (x : Exit). SaysTold TellsList b x h ps t) (sym e) u
 no_memory_says (Some command.Flow) b exit h ps t c e u = subst (λ (x : Exit). SaysTold TellsFlow b x h ps t) (sym e) u
 no_memory_says (Some command.Compile) b exit h ps t c e u = subst (λ (x : Exit). SaysTold TellsObject b x h ps t) (sym e) u
+no_memory_says (Some (command.Exec turns vars)) b exit h ps t c e u = subst (λ (x : Exit). SaysExec turns vars b x h ps t) (sym e) u
 no_memory_says (Some (command.Make number)) b exit h ps t c e u = inr (e, u)
 no_memory_says (Some (command.Demo number setup)) b exit h ps t c e u = (ap is_of_reading e, subst (λ (x : Exit). SaysRun (summary_asked setup.turns) (made_text number) x h ps t) (sym e) u)
 no_memory_says (Some (command.Nodes number setup vars)) b exit h ps t c e u = subst (λ (x : Exit). SaysNodes (report_asked setup.turns vars []) b x h ps t) (sym e) u
@@ -735,6 +779,7 @@ no_read_fault command.Check b exit h ps t e k f = false≢true (sym e)
 no_read_fault command.List b exit h ps t e k f = false≢true (sym e)
 no_read_fault command.Flow b exit h ps t e k f = false≢true (sym e)
 no_read_fault command.Compile b exit h ps t e k f = false≢true (sym e)
+no_read_fault (command.Exec turns vars) b exit h ps t e k f = false≢true (sym e)
 no_read_fault (command.Make number) b exit h ps t e (inl k) f = cc (sym k.0 ∙ f)
 no_read_fault (command.Make number) b exit h ps t e (inr k) f = cc (sym k.0 ∙ f)
 no_read_fault (command.Demo number setup) b exit h ps t e k f = demo_reads exit k.0 f
@@ -749,6 +794,7 @@ read_fault_says command.Check b exit h ps t c e u = subst (λ (x : Exit). SaysTo
 read_fault_says command.List b exit h ps t c e u = subst (λ (x : Exit). SaysTold TellsList b x h ps t) (sym e) u
 read_fault_says command.Flow b exit h ps t c e u = subst (λ (x : Exit). SaysTold TellsFlow b x h ps t) (sym e) u
 read_fault_says command.Compile b exit h ps t c e u = subst (λ (x : Exit). SaysTold TellsObject b x h ps t) (sym e) u
+read_fault_says (command.Exec turns vars) b exit h ps t c e u = subst (λ (x : Exit). SaysExec turns vars b x h ps t) (sym e) u
 read_fault_says (command.Make number) b exit h ps t c e u = absurd (false≢true c)
 read_fault_says (command.Demo number setup) b exit h ps t c e u = absurd (false≢true c)
 read_fault_says (command.Nodes number setup vars) b exit h ps t c e u = subst (λ (x : Exit). SaysNodes (report_asked setup.turns vars []) b x h ps t) (sym e) u
@@ -761,6 +807,7 @@ too_long_says command.Check b exit h ps t c e l u = subst (λ (x : Exit). SaysTo
 too_long_says command.List b exit h ps t c e l u = subst (λ (x : Exit). SaysTold TellsList b x h ps t) (sym e) (l, u)
 too_long_says command.Flow b exit h ps t c e l u = subst (λ (x : Exit). SaysTold TellsFlow b x h ps t) (sym e) (l, u)
 too_long_says command.Compile b exit h ps t c e l u = subst (λ (x : Exit). SaysTold TellsObject b x h ps t) (sym e) (l, u)
+too_long_says (command.Exec turns vars) b exit h ps t c e l u = subst (λ (x : Exit). SaysExec turns vars b x h ps t) (sym e) (l, u)
 too_long_says (command.Make number) b exit h ps t c e l u = absurd (false≢true c)
 too_long_says (command.Demo number setup) b exit h ps t c e l u = absurd (false≢true c)
 too_long_says (command.Nodes number setup vars) b exit h ps t c e l u = subst (λ (x : Exit). SaysNodes (report_asked setup.turns vars []) b x h ps t) (sym e) (l, u)

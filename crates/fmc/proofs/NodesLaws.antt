@@ -18,9 +18,9 @@ use Rattle.fmc.specs.declared.answer.Exit.{Exit}
 use Rattle.fmc.specs.declared.answer.Exit.TheVariants.{NotPlain, Refused}
 use Rattle.fmc.specs.declared.answer.Reply.{Reply}
 use Rattle.fmc.specs.Answer.{Says, SaysNodes, report_asked}
-use Rattle.fmc.specs.Outcomes.{IsRefusedFor, IsUnplayed, source_limit}
+use Rattle.fmc.specs.Outcomes.{IsRefusedFor, IsUnplayed, source_limit, exit_in}
 use Rattle.fmc.specs.Plain.{PlainOrNot, unplain_text}
-use Rattle.fmc.specs.Reply.{bytes_of, places_in, IsReply, exit_in, text_in}
+use Rattle.fmc.specs.Reply.{bytes_of, places_in, IsReply, text_in}
 use Rattle.fmc.proofs.AnswerLaws.{hosts_run, run_says, said_by_hosts}
 
 -- of a program that hosts played

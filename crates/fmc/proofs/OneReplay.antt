@@ -23,7 +23,7 @@ use Rattle.fm_trace.specs.Texts.{IsFirstMalformed, IsTraceText, history_of}
 use Rattle.fm_trace.specs.declared.trace.Trace.{Trace}
 use Rattle.fm_trace.proofs.MalformedLaws.{no_line_of_a_trace, one_first_line, one_trace_text}
 use Rattle.fmc.specs.declared.answer.Exit.{Exit}
-use Rattle.fmc.specs.declared.answer.Exit.TheVariants.{Done, Faulted, Deadlocked, Refused, Spent, Usage, ReadFault, WriteFault, NoMemory, TooLong, Malformed, Illegal, Unfinished, NotPlain}
+use Rattle.fmc.specs.declared.answer.Exit.TheVariants.{Done, Faulted, Deadlocked, Refused, Spent, Usage, ReadFault, WriteFault, NoMemory, TooLong, Malformed, Illegal, Unfinished, BadObject, Unverified, NotPlain}
 use Rattle.fmc.specs.Exits.{is_decided}
 use Rattle.fmc.specs.OneReplay.{IsOneAnswer}
 use Rattle.fmc.specs.Outcomes.{IsRefusedFor, IsUnplayed, cost_of, exit_of, source_limit, state_after}
@@ -170,6 +170,8 @@ module _ (p : Program) where
       kind_of vars Malformed text k = absurd k
       kind_of vars Illegal text k = inr (inr (inl (refl, k)))
       kind_of vars Unfinished text k = inr (inr (inr (refl, k)))
+      kind_of vars BadObject text k = absurd k
+      kind_of vars Unverified text k = absurd k
       kind_of vars NotPlain text k = absurd k
 
 -- entries come to one exit and one text
@@ -230,6 +232,8 @@ found vars b TooLong h ps t d m k = record { told = codes "source too long\n"; f
 found vars b Malformed h ps t d m k = record { told = codes "malformed trace: line " ++ decimal k.line ++ 10 ∷ []; finds = inr (inl (k.within, k.line, k.malformed, refl, refl)); unplayed = k.unplayed }
 found vars b Illegal h ps t d m k = replayed_found vars b Illegal h ps t k
 found vars b Unfinished h ps t d m k = replayed_found vars b Unfinished h ps t k
+found vars b BadObject h ps t d m k = absurd k
+found vars b Unverified h ps t d m k = absurd k
 found vars b NotPlain h ps t d m k = absurd k
 
 -- bytes over a limit are no trace within its limits, and have no malformed line

@@ -38,10 +38,10 @@ use Rattle.fm_base.specs.Rules.{refusal_text}
 use Rattle.fm_trace.proofs.HistoryLaws.{history_again}
 use Rattle.fm_words.specs.declared.command.Command.TheVariants as command
 use Rattle.fmc.specs.declared.answer.Exit.{Exit}
-use Rattle.fmc.specs.declared.answer.Exit.TheVariants.{Done, Faulted, Deadlocked, Refused, Spent, Usage, ReadFault, WriteFault, NoMemory, TooLong, Malformed, Illegal, Unfinished, NotPlain}
+use Rattle.fmc.specs.declared.answer.Exit.TheVariants.{Done, Faulted, Deadlocked, Refused, Spent, Usage, ReadFault, WriteFault, NoMemory, TooLong, Malformed, Illegal, Unfinished, BadObject, Unverified, NotPlain}
 use Rattle.fmc.specs.declared.answer.Reply.{Reply}
-use Rattle.fmc.specs.Reply.{IsReply, IsRunOf, bytes_of, exit_in, places_in}
-use Rattle.fmc.specs.Outcomes.{IsRefusedFor, IsUnplayed, source_limit, cost_of, exit_of, state_after}
+use Rattle.fmc.specs.Reply.{IsReply, IsRunOf, bytes_of, places_in}
+use Rattle.fmc.specs.Outcomes.{IsRefusedFor, IsUnplayed, source_limit, cost_of, exit_of, state_after, exit_in}
 use Rattle.fmc.specs.Exits.{is_decided, is_end}
 use Rattle.fmc.specs.Replay.{ComesTo, CostsMore, EndsProgram, HasCome, IsLacking, IsReplayed, SaysReplay, SaysTable, told_after, trace_limit}
 use Rattle.fmc.specs.Answer.{IsEnded, IsPlayedExit, IsSpent, Says, SaysRun, SaysTrace, report_asked, trace_asked}
@@ -108,6 +108,8 @@ comes_ended vars TooLong program turns ts t e k = absurd (false≢true e)
 comes_ended vars Malformed program turns ts t e k = absurd (false≢true e)
 comes_ended vars Illegal program turns ts t e k = absurd (false≢true e)
 comes_ended vars Unfinished program turns ts t e k = absurd (false≢true e)
+comes_ended vars BadObject program turns ts t e k = absurd (false≢true e)
+comes_ended vars Unverified program turns ts t e k = absurd (false≢true e)
 comes_ended vars NotPlain program turns ts t e k = absurd (false≢true e)
 
 -- all entries were played, where what was played doesn't cost more than the turns
@@ -359,6 +361,8 @@ comes_decided vars TooLong program turns ts t k = absurd k
 comes_decided vars Malformed program turns ts t k = absurd k
 comes_decided vars Illegal program turns ts t k = refl
 comes_decided vars Unfinished program turns ts t k = refl
+comes_decided vars BadObject program turns ts t k = absurd k
+comes_decided vars Unverified program turns ts t k = absurd k
 comes_decided vars NotPlain program turns ts t k = absurd k
 
 -- what comes of entries is what is said
@@ -376,6 +380,8 @@ says_replayed vars b TooLong h ps t program trace told k r = absurd k
 says_replayed vars b Malformed h ps t program trace told k r = absurd k
 says_replayed vars b Illegal h ps t program trace told k r = r
 says_replayed vars b Unfinished h ps t program trace told k r = r
+says_replayed vars b BadObject h ps t program trace told k r = absurd k
+says_replayed vars b Unverified h ps t program trace told k r = absurd k
 says_replayed vars b NotPlain h ps t program trace told k r = absurd k
 
 pub replied : (vars : Bool) (b : List ℕ) (trace : Trace) (program : Program) (r : Reply) → length b ≤ trace_limit → IsTraceText b trace → length trace.source ≤ source_limit → IsCheckedOf trace.source program

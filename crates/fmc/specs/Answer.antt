@@ -42,8 +42,9 @@ use Rattle.fm_words.specs.Words.{command_of}
 use Rattle.fm_words.specs.declared.command.Command.{Command}
 use Rattle.fm_words.specs.declared.command.Command.TheVariants as command
 use Rattle.fmc.specs.declared.answer.Exit.{Exit}
-use Rattle.fmc.specs.declared.answer.Exit.TheVariants.{Done, Faulted, Deadlocked, Refused, Spent, Usage, ReadFault, WriteFault, NoMemory, TooLong, Malformed, Illegal, Unfinished, NotPlain}
+use Rattle.fmc.specs.declared.answer.Exit.TheVariants.{Done, Faulted, Deadlocked, Refused, Spent, Usage, ReadFault, WriteFault, NoMemory, TooLong, Malformed, Illegal, Unfinished, BadObject, Unverified, NotPlain}
 use Rattle.fmc.specs.Exits.{is_read, is_of_reading}
+use Rattle.fmc.specs.Executes.{IsObjectHistory, IsRunnable, SaysExec, object_limit}
 use Rattle.fmc.specs.Listing.{listed_text}
 use Rattle.fmc.specs.Outcomes.{IsAccepted, IsRefused, IsRefusedFor, IsUnplayed, cost_of, exit_of, source_limit, state_after, usage_text}
 use Rattle.fmc.specs.Plain.{HasPlainVerdict, IsNotPlain, IsPlainSource}
@@ -198,6 +199,7 @@ HasHistory (Some command.Check) source history places = IsNoHistory history plac
 HasHistory (Some command.List) source history places = IsNoHistory history places
 HasHistory (Some command.Flow) source history places = IsNoHistory history places
 HasHistory (Some command.Compile) source history places = IsNoHistory history places
+HasHistory (Some (command.Exec turns vars)) source history places = IsNoHistory history places ⊎ IsObjectHistory source turns history places
 HasHistory (Some (command.Make number)) source history places = IsNoHistory history places
 HasHistory (Some (command.Demo number setup)) source history places = IsHistoryIn setup.turns (made_text number) history places
 HasHistory (Some (command.Nodes number setup vars)) source history places = IsHistoryIn setup.turns source history places
@@ -217,6 +219,8 @@ SaysRun asked b TooLong h ps t = (source_limit < length b) × IsUnplayed h ps t 
 SaysRun asked b Malformed h ps t = ⊥
 SaysRun asked b Illegal h ps t = ⊥
 SaysRun asked b Unfinished h ps t = ⊥
+SaysRun asked b BadObject h ps t = ⊥
+SaysRun asked b Unverified h ps t = ⊥
 SaysRun asked b NotPlain h ps t = ⊥
 
 -- a run that was played to its end, or as far as its turns
@@ -238,6 +242,8 @@ SaysNodes asked b TooLong h ps t = SaysRun asked b TooLong h ps t
 SaysNodes asked b Malformed h ps t = ⊥
 SaysNodes asked b Illegal h ps t = ⊥
 SaysNodes asked b Unfinished h ps t = ⊥
+SaysNodes asked b BadObject h ps t = ⊥
+SaysNodes asked b Unverified h ps t = ⊥
 SaysNodes asked b NotPlain h ps t = IsNotPlain b h ps t
 
 -- what `trace` says by its exit: what a run says, whose text is that of its trace, which `replay` reads
@@ -259,6 +265,8 @@ SaysTold TellsOf b TooLong h ps t = (source_limit < length b) × IsUnplayed h ps
 SaysTold TellsOf b Malformed h ps t = ⊥
 SaysTold TellsOf b Illegal h ps t = ⊥
 SaysTold TellsOf b Unfinished h ps t = ⊥
+SaysTold TellsOf b BadObject h ps t = ⊥
+SaysTold TellsOf b Unverified h ps t = ⊥
 SaysTold TellsOf b NotPlain h ps t = ⊥
 
 -- `make` writes the program of its number
@@ -278,6 +286,7 @@ Says command.Check b exit h ps t = SaysTold TellsDeterminism b exit h ps t
 Says command.List b exit h ps t = SaysTold TellsList b exit h ps t
 Says command.Flow b exit h ps t = SaysTold TellsFlow b exit h ps t
 Says command.Compile b exit h ps t = SaysTold TellsObject b exit h ps t
+Says (command.Exec turns vars) b exit h ps t = SaysExec turns vars b exit h ps t
 Says (command.Make number) b exit h ps t = SaysMade number exit h ps t
 Says (command.Demo number setup) b exit h ps t = SaysDemo number setup.turns exit h ps t
 Says (command.Nodes number setup vars) b exit h ps t = SaysNodes (report_asked setup.turns vars []) b exit h ps t
@@ -296,6 +305,7 @@ is_reading command.Check = true
 is_reading command.List = true
 is_reading command.Flow = true
 is_reading command.Compile = true
+is_reading (command.Exec turns vars) = true
 is_reading (command.Make number) = false
 is_reading (command.Demo number setup) = false
 is_reading (command.Nodes number setup vars) = true
@@ -313,6 +323,7 @@ limit_of command.Check = source_limit
 limit_of command.List = source_limit
 limit_of command.Flow = source_limit
 limit_of command.Compile = source_limit
+limit_of (command.Exec turns vars) = object_limit
 limit_of (command.Make number) = source_limit
 limit_of (command.Demo number setup) = source_limit
 limit_of (command.Nodes number setup vars) = source_limit
@@ -345,6 +356,7 @@ IsReady command.Check b = IsLawful b
 IsReady command.List b = IsLawful b
 IsReady command.Flow b = IsLawful b
 IsReady command.Compile b = IsLawful b
+IsReady (command.Exec turns vars) b = IsRunnable b
 IsReady (command.Make number) b = Unit {0}
 IsReady (command.Demo number setup) b = IsAccepted (made_text number)
 -- that of another program is the matter of IsUnplainBy
@@ -359,6 +371,7 @@ IsCompleted command.Check exit = (exit ≡ Done) ⊎ (exit ≡ NoMemory)
 IsCompleted command.List exit = (exit ≡ Done) ⊎ (exit ≡ NoMemory)
 IsCompleted command.Flow exit = (exit ≡ Done) ⊎ (exit ≡ NoMemory)
 IsCompleted command.Compile exit = (exit ≡ Done) ⊎ (exit ≡ NoMemory)
+IsCompleted (command.Exec turns vars) exit = ((exit ≡ Done) ⊎ ((exit ≡ Faulted) ⊎ (exit ≡ Deadlocked))) ⊎ ((exit ≡ Spent) ⊎ (exit ≡ NoMemory))
 IsCompleted (command.Make number) exit = (exit ≡ Done) ⊎ (exit ≡ NoMemory)
 IsCompleted (command.Demo number setup) exit = ((exit ≡ Done) ⊎ ((exit ≡ Faulted) ⊎ (exit ≡ Deadlocked))) ⊎ ((exit ≡ Spent) ⊎ (exit ≡ NoMemory))
 IsCompleted (command.Nodes number setup vars) exit = ((exit ≡ Done) ⊎ ((exit ≡ Faulted) ⊎ (exit ≡ Deadlocked))) ⊎ ((exit ≡ Spent) ⊎ (exit ≡ NoMemory))
@@ -376,6 +389,7 @@ IsRefusedBy command.Check b v = IsUnlawful b v
 IsRefusedBy command.List b v = IsUnlawful b v
 IsRefusedBy command.Flow b v = IsUnlawful b v
 IsRefusedBy command.Compile b v = IsUnlawful b v
+IsRefusedBy (command.Exec turns vars) b v = ⊥
 IsRefusedBy (command.Make number) b v = ⊥
 IsRefusedBy (command.Demo number setup) b v = IsRefusedFor (made_text number) v
 IsRefusedBy (command.Nodes number setup vars) b v = IsUnlawful b v
@@ -395,6 +409,7 @@ IsTooLongBy command.Check b = source_limit < length b
 IsTooLongBy command.List b = source_limit < length b
 IsTooLongBy command.Flow b = source_limit < length b
 IsTooLongBy command.Compile b = source_limit < length b
+IsTooLongBy (command.Exec turns vars) b = object_limit < length b
 IsTooLongBy (command.Make number) b = ⊥
 IsTooLongBy (command.Demo number setup) b = ⊥
 IsTooLongBy (command.Nodes number setup vars) b = source_limit < length b
@@ -411,9 +426,17 @@ IsMalformedBy command.Check b = ⊥
 IsMalformedBy command.List b = ⊥
 IsMalformedBy command.Flow b = ⊥
 IsMalformedBy command.Compile b = ⊥
+IsMalformedBy (command.Exec turns vars) b = ⊥
 IsMalformedBy (command.Make number) b = ⊥
 IsMalformedBy (command.Demo number setup) b = ⊥
 IsMalformedBy (command.Nodes number setup vars) b = ⊥
+
+-- the object text is malformed, or its image makes no sense
+abbrev pub IsBadObjectExit : Exit → Type 0
+IsBadObjectExit exit = (exit ≡ BadObject) ⊎ (exit ≡ NoMemory)
+
+abbrev pub IsUnverifiedExit : Exit → Type 0
+IsUnverifiedExit exit = (exit ≡ Unverified) ⊎ (exit ≡ NoMemory)
 
 abbrev pub IsUnplainExit : Exit → Type 0
 IsUnplainExit exit = (exit ≡ NotPlain) ⊎ (exit ≡ NoMemory)
@@ -427,6 +450,7 @@ IsUnplainBy command.Check b = ⊥
 IsUnplainBy command.List b = ⊥
 IsUnplainBy command.Flow b = ⊥
 IsUnplainBy command.Compile b = ⊥
+IsUnplainBy (command.Exec turns vars) b = ⊥
 IsUnplainBy (command.Make number) b = ⊥
 IsUnplainBy (command.Demo number setup) b = ⊥
 IsUnplainBy (command.Nodes number setup vars) b = (length b ≤ source_limit) × (line : Line) × HasPlainVerdict b (Some line)

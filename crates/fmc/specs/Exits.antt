@@ -2,7 +2,7 @@
 -- Source: this profile.
 use Rattle.std.specs.Prelude.{ℕ, Bool, true, false}
 use Rattle.fmc.specs.declared.answer.Exit.{Exit}
-use Rattle.fmc.specs.declared.answer.Exit.TheVariants.{Done, Faulted, Deadlocked, Refused, Spent, Usage, ReadFault, WriteFault, NoMemory, TooLong, Malformed, Illegal, Unfinished, NotPlain}
+use Rattle.fmc.specs.declared.answer.Exit.TheVariants.{Done, Faulted, Deadlocked, Refused, Spent, Usage, ReadFault, WriteFault, NoMemory, TooLong, Malformed, Illegal, Unfinished, BadObject, Unverified, NotPlain}
 
 abbrev pub status_of : Exit → ℕ
 status_of Done = 0
@@ -18,6 +18,8 @@ status_of TooLong = 9
 status_of Malformed = 10
 status_of Illegal = 11
 status_of Unfinished = 12
+status_of BadObject = 13
+status_of Unverified = 14
 status_of NotPlain = 15
 
 abbrev pub is_usage : Exit → Bool
@@ -34,6 +36,8 @@ is_usage TooLong = false
 is_usage Malformed = false
 is_usage Illegal = false
 is_usage Unfinished = false
+is_usage BadObject = false
+is_usage Unverified = false
 is_usage NotPlain = false
 
 -- an exit of a source that was read to its end
@@ -46,6 +50,8 @@ is_read Spent = true
 is_read Malformed = true
 is_read Illegal = true
 is_read Unfinished = true
+is_read BadObject = true
+is_read Unverified = true
 is_read NotPlain = true
 is_read Usage = false
 is_read ReadFault = false
@@ -68,6 +74,8 @@ is_end TooLong = false
 is_end Malformed = false
 is_end Illegal = false
 is_end Unfinished = false
+is_end BadObject = false
+is_end Unverified = false
 is_end NotPlain = false
 
 -- an exit that the bytes decide, or want of memory
@@ -82,6 +90,8 @@ is_decided TooLong = true
 is_decided Malformed = true
 is_decided Illegal = true
 is_decided Unfinished = true
+is_decided BadObject = true
+is_decided Unverified = true
 is_decided NotPlain = true
 is_decided Usage = false
 is_decided ReadFault = false
@@ -102,4 +112,6 @@ is_of_reading NoMemory = false
 is_of_reading Malformed = false
 is_of_reading Illegal = false
 is_of_reading Unfinished = false
+is_of_reading BadObject = false
+is_of_reading Unverified = false
 is_of_reading NotPlain = false

@@ -2,6 +2,7 @@ pub mod Exits
 pub mod Outcomes
 pub mod Listing
 pub mod Plain
+pub mod Executes
 pub mod Replay
 pub mod OneReplay
 pub mod Answer

@@ -13,11 +13,13 @@ use Rattle.fm_mean.specs.Process.{Proc}
 use Rattle.fm_mean.specs.Steps.{step, first}
 use Rattle.fm_rules.specs.declared.program.Program.{Program}
 use Rattle.fm_verdict.specs.Verdict.{IsBroken}
+use Rattle.fm_run.specs.declared.run.Ending.{Ending}
+use Rattle.fm_run.specs.declared.run.Ending.TheVariants as ending
 use Rattle.fmc.specs.declared.answer.Exit.{Exit}
-use Rattle.fmc.specs.declared.answer.Exit.TheVariants.{Done, Faulted, Deadlocked}
+use Rattle.fmc.specs.declared.answer.Exit.TheVariants.{Done, Faulted, Deadlocked, Spent}
 
 abbrev pub usage_text : List ℕ
-usage_text = codes "usage: fmc run or trace or replay or check or list or make N or demo N or flow or compile or nodes N\n"
+usage_text = codes "usage: fmc run or trace or replay or check or list or make N or demo N or compile or exec or flow or nodes N\n"
 
 -- the most bytes of a source
 abbrev pub source_limit : ℕ
@@ -31,6 +33,11 @@ exit_by (f ∷ fs) ended = Faulted
 
 abbrev pub exit_of : Outcome → Exit
 exit_of o = exit_by o.faults o.main_ended
+
+-- the exit of a run
+abbrev pub exit_in : Ending → Exit
+exit_in (ending.Ended o) = exit_of o
+exit_in ending.Spent = Spent
 
 -- the state that a schedule of a program leads to, and what it costs
 abbrev pub state_after : Program → List Place → State Proc

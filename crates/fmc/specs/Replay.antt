@@ -18,7 +18,7 @@ use Rattle.fm_trace.specs.declared.trace.Trace.{Trace}
 use Rattle.fm_table.specs.Told.{IsKept, Told, cost_of as told_cost, stand_of, told_at}
 use Rattle.fm_table.specs.Turning.{CantStepBehind, MakesSteps}
 use Rattle.fmc.specs.declared.answer.Exit.{Exit}
-use Rattle.fmc.specs.declared.answer.Exit.TheVariants.{Done, Faulted, Deadlocked, Refused, Spent, Usage, ReadFault, WriteFault, NoMemory, TooLong, Malformed, Illegal, Unfinished, NotPlain}
+use Rattle.fmc.specs.declared.answer.Exit.TheVariants.{Done, Faulted, Deadlocked, Refused, Spent, Usage, ReadFault, WriteFault, NoMemory, TooLong, Malformed, Illegal, Unfinished, BadObject, Unverified, NotPlain}
 use Rattle.fmc.specs.Outcomes.{IsRefused, IsUnplayed, cost_of, exit_of, source_limit, state_after}
 
 -- the most bytes of a trace
@@ -86,6 +86,8 @@ ComesTo vars TooLong program turns entries text = ⊥
 ComesTo vars Malformed program turns entries text = ⊥
 ComesTo vars Illegal program turns entries text = AsksForMore program turns entries text
 ComesTo vars Unfinished program turns entries text = EndsBefore program turns entries text
+ComesTo vars BadObject program turns entries text = ⊥
+ComesTo vars Unverified program turns entries text = ⊥
 ComesTo vars NotPlain program turns entries text = ⊥
 
 -- ---- what comes of bytes
@@ -143,6 +145,8 @@ SaysReplay vars b TooLong h ps t = IsTooLongTrace b × IsUnplayed h ps t (codes 
 SaysReplay vars b Malformed h ps t = IsMalformed b h ps t
 SaysReplay vars b Illegal h ps t = IsReplayed vars Illegal b h ps t
 SaysReplay vars b Unfinished h ps t = IsReplayed vars Unfinished b h ps t
+SaysReplay vars b BadObject h ps t = ⊥
+SaysReplay vars b Unverified h ps t = ⊥
 SaysReplay vars b NotPlain h ps t = ⊥
 
 -- ---- a table behind entries

@@ -20,14 +20,12 @@ use Rattle.fm_run.specs.declared.run.Ending.TheVariants.{Ended, Spent}
 use Rattle.fm_table.specs.Fair.{IsFair}
 use Rattle.fm_table.specs.Told.{Told}
 use Rattle.fm_words.specs.declared.command.Command.{Command}
-use Rattle.fmc.specs.declared.answer.Exit.{Exit}
-use Rattle.fmc.specs.declared.answer.Exit.TheVariants as exit
 use Rattle.fmc.specs.declared.answer.Ran.{Ran}
 use Rattle.fmc.specs.declared.answer.Reply.{Reply}
 use Rattle.fmc.specs.declared.answer.Text.{Text}
 use Rattle.fmc.specs.declared.answer.Text.TheVariants.{Fixed, Made}
 use Rattle.fmc.specs.Exits.{is_of_reading}
-use Rattle.fmc.specs.Outcomes.{IsUnplayed, exit_of}
+use Rattle.fmc.specs.Outcomes.{IsUnplayed}
 use Rattle.fmc.specs.Answer.{Asked, Says, SaysOf, SaysRun, flow_text, summary_asked}
 
 abbrev pub bytes_of : Text → List ℕ
@@ -48,11 +46,6 @@ IsReplyFor o b r = SaysOf o b r.ran.exit r.ran.history.items (places_in r.ran) (
 -- the reply is one of the words for some bytes: for those that the source had left, where it tells them
 abbrev pub IsReplyOf : Option Command → (left : Option (List ℕ)) → Reply → Type 0
 IsReplyOf o left r = (b : List ℕ) × IfSome left (λ l. l ≡ b) × IsReplyFor o b r
-
--- the exit of a run
-abbrev pub exit_in : Ending → Exit
-exit_in (Ended o) = exit_of o
-exit_in Spent = exit.Spent
 
 -- what is told of a run that ended, or that it was spent
 abbrev pub text_in : Asked → List Turn → List Place → Ending → List ℕ

@@ -6,7 +6,7 @@ ghost use Rattle.fmc.specs.Exits.{status_of};
 use fm_base::{Path, Turn};
 use std::sync::Arc;
 
-/// How a call ended. The numbers are the exit statuses, 0 to 12 and 15.
+/// How a call ended. The numbers are the exit statuses, 0 to 15.
 #[derive(Clone, Copy, Debug, PartialEq, Eq)]
 pub enum Exit {
     /// The run ended, nobody faulted, and main ended.
@@ -35,12 +35,16 @@ pub enum Exit {
     Illegal,
     /// A trace ends before the run does.
     Unfinished,
+    /// A line of an object text is outside its form.
+    BadObject,
+    /// The image of an object text makes no sense.
+    Unverified,
     /// The program isn't one that hosts can play.
-    NotPlain = 15,
+    NotPlain,
 }
 
 impl Exit {
-    /// The exit status, 0 to 12 or 15.
+    /// The exit status, 0 to 15.
     pub fn status(self) -> u8
         ensures { result ≡ status_of self }
     {

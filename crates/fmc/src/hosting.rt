@@ -6,9 +6,9 @@ ghost use Rattle.fm_run.specs.Orders.{places_of};
 ghost use Rattle.fm_words.specs.declared.command.Command.TheVariants as command;
 ghost use Rattle.fmc.specs.Answer.{report_asked};
 ghost use Rattle.fmc.specs.Exits.{is_decided};
-ghost use Rattle.fmc.specs.Outcomes.{source_limit};
+ghost use Rattle.fmc.specs.Outcomes.{source_limit, exit_in};
 ghost use Rattle.fmc.specs.Plain.{unplain_text};
-ghost use Rattle.fmc.specs.Reply.{bytes_of, exit_in, text_in, IsReply};
+ghost use Rattle.fmc.specs.Reply.{bytes_of, text_in, IsReply};
 
 use crate::answer::{Exit, Reply, Text};
 use crate::replies::{refusal_reply, unplayed_reply};
@@ -32,7 +32,12 @@ fn unplain_text(alloc: Global, line: Line) -> Result<Text, NoMemory>
 }
 
 // The reply of a run: its report, or that it was spent.
-fn report_reply(alloc: Global, run: Run, turns: u64, vars: bool) -> Result<Reply, NoMemory>
+pub(crate) fn report_reply(
+    alloc: Global,
+    run: Run,
+    turns: u64,
+    vars: bool,
+) -> Result<Reply, NoMemory>
     ensures exit { IfOk result (λ r. r.ran.exit ≡ exit_in run.ending) }
     ensures history { IfOk result (λ r. r.ran.history ≡ run.history) }
     ensures paths { IfOk result (λ r. r.ran.paths ≡ run.paths) }

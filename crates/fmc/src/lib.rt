@@ -5,6 +5,7 @@
 
 mod answer;
 mod call;
+mod executing;
 mod hosting;
 mod laws;
 mod listing;
@@ -16,5 +17,7 @@ mod top;
 
 pub use answer::{Exit, Ran};
 pub use call::{exit_of_call, words};
-pub use laws::{compiled_makes_sense, replay_has_one_answer};
+pub use laws::{
+    compiled_makes_sense, exec_has_one_cause, exec_tells_the_run, replay_has_one_answer,
+};
 pub use top::{flow_excludes_deadlock, fmc, one_verdict, play_choices, replay_tells_the_run};

@@ -12,11 +12,12 @@ ghost use Rattle.fmc.specs.Listing.{listed_text};
 ghost use Rattle.fm_run.specs.Orders.{places_of};
 ghost use Rattle.fm_words.specs.declared.command.Command.TheVariants as command;
 ghost use Rattle.fmc.specs.Exits.{is_decided};
-ghost use Rattle.fmc.specs.Outcomes.{source_limit};
+ghost use Rattle.fmc.specs.Outcomes.{source_limit, exit_in};
 ghost use Rattle.fmc.specs.Answer.{FollowsIn, IsListOf, determinism_text, flow_text, IsPlayedExit, SaysDemo, SaysMade, SaysRun, SaysTrace, count_line, ended_word, limit_of, report_asked, summary_asked, summary_by};
-ghost use Rattle.fmc.specs.Reply.{bytes_of, places_in, IsFlowReply, IsObjectReply, IsReply, IsSummary, exit_in, text_in};
+ghost use Rattle.fmc.specs.Reply.{bytes_of, places_in, IsFlowReply, IsObjectReply, IsReply, IsSummary, text_in};
 
 use crate::answer::{Exit, Ran, Reply, Text};
+use crate::executing::try_exec;
 use crate::hosting::try_nodes;
 use crate::listing::list_text;
 use crate::playing::{run_chosen, run_source};
@@ -178,7 +179,12 @@ fn try_trace<W: Workers<Table>>(
 }
 
 // Puts a word and a number on a line of their own.
-fn push_count(alloc: Global, out: &mut Vec<u8>, word: &[u8], count: u64) -> Result<(), NoMemory>
+pub(crate) fn push_count(
+    alloc: Global,
+    out: &mut Vec<u8>,
+    word: &[u8],
+    count: u64,
+) -> Result<(), NoMemory>
     ensures { OnOk result (out.new.items ≡ out.old.items ++ count_line word.now count) }
 {
     out.extend_from_slice(word)?;
@@ -435,6 +441,7 @@ pub fn reply<W: Workers<Table>>(alloc: Global, command: Command, bytes: &[u8], w
         Command::List => try_list(alloc, bytes),
         Command::Flow => try_flow(alloc, bytes),
         Command::Compile => try_compile(alloc, bytes),
+        Command::Exec { turns, vars } => try_exec(alloc, bytes, turns, vars),
         Command::Make { number } => try_make(alloc, number),
         Command::Demo { number, setup } => try_demo(alloc, number, setup, workers),
         Command::Nodes {

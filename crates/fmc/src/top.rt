@@ -16,9 +16,10 @@ ghost use Rattle.fm_base.specs.declared.schedule.Turn.{Turn};
 ghost use Rattle.fm_net.specs.Machine.{Place};
 ghost use Rattle.fmc.specs.declared.answer.Exit as declared_exit;
 ghost use Rattle.fmc.specs.Exits.{is_usage, is_read};
+ghost use Rattle.fmc.specs.Executes.{HasBadLine, HasBadUnit};
 ghost use Rattle.fmc.specs.Outcomes.{source_limit};
 ghost use Rattle.fmc.specs.Replay.{trace_limit};
-ghost use Rattle.fmc.specs.Answer.{Answers, Asked, FollowsIn, Says, SaysRun, HasHistory, IsReady, IsRefusedBy, IsCompleted, IsMalformedBy, IsMalformedExit, IsRefusedExit, IsTooLongBy, IsTooLongExit, IsUnplainBy, IsUnplainExit, IsPlayedExit, are_reading, is_reading, limit_of, report_asked};
+ghost use Rattle.fmc.specs.Answer.{Answers, Asked, FollowsIn, Says, SaysRun, HasHistory, IsReady, IsRefusedBy, IsCompleted, IsMalformedBy, IsMalformedExit, IsRefusedExit, IsTooLongBy, IsTooLongExit, IsBadObjectExit, IsUnverifiedExit, IsUnplainBy, IsUnplainExit, IsPlayedExit, are_reading, is_reading, limit_of, report_asked};
 ghost use Rattle.fmc.specs.Reply.{IsReplyFor, IsReplyOf, bytes_of, places_in};
 
 use crate::answer::{Exit, Ran, Reply, Text};
@@ -38,11 +39,14 @@ const LIMIT: usize = 1_000_000;
 /// The most bytes of a trace.
 const TRACE_LIMIT: usize = 100_000_000;
 
+/// The most bytes of an object text.
+const OBJECT_LIMIT: usize = 100_000_000;
+
 /// The most steps of a piece under a schedule of the caller's.
 const SLICE: u32 = 1_000;
 
 const USAGE: &[u8] =
-    b"usage: fmc run or trace or replay or check or list or make N or demo N or flow or compile or nodes N\n";
+    b"usage: fmc run or trace or replay or check or list or make N or demo N or compile or exec or flow or nodes N\n";
 
 fn limit_of(command: &Command) -> usize
     ensures { result ≡ limit_of command.now }
@@ -55,6 +59,7 @@ fn limit_of(command: &Command) -> usize
         Command::List => LIMIT,
         Command::Flow => LIMIT,
         Command::Compile => LIMIT,
+        Command::Exec { .. } => OBJECT_LIMIT,
         Command::Make { .. } => LIMIT,
         Command::Demo { .. } => LIMIT,
         Command::Nodes { .. } => LIMIT,
@@ -100,6 +105,7 @@ fn is_reading(command: &Command) -> bool
         Command::List => true,
         Command::Flow => true,
         Command::Compile => true,
+        Command::Exec { .. } => true,
         Command::Make { .. } => false,
         Command::Demo { .. } => false,
         Command::Nodes { .. } => true,
@@ -226,6 +232,10 @@ pub fn fmc<S: Source, K: Sink, W: Workers<Table>>(
         → IfSome (S.left source.old) (λ b. IsMalformedBy command b → IsMalformedExit result.exit) }
     ensures unplain { (command : Command) → command_of (map (λ w. w.now) words.now) ≡ Some command → ¬ Rose (S.faults source.old) (S.faults source.new) → ¬ Rose (K.faults sink.old) (K.faults sink.new)
         → IfSome (S.left source.old) (λ b. IsUnplainBy command b → IsUnplainExit result.exit) }
+    ensures bad_object { (turns : ℕ) (vars : Bool) → command_of (map (λ w. w.now) words.now) ≡ Some (command.Exec turns vars) → ¬ Rose (S.faults source.old) (S.faults source.new) → ¬ Rose (K.faults sink.old) (K.faults sink.new)
+        → IfSome (S.left source.old) (λ b. HasBadLine b → IsBadObjectExit result.exit) }
+    ensures unverified { (turns : ℕ) (vars : Bool) → command_of (map (λ w. w.now) words.now) ≡ Some (command.Exec turns vars) → ¬ Rose (S.faults source.old) (S.faults source.new) → ¬ Rose (K.faults sink.old) (K.faults sink.new)
+        → IfSome (S.left source.old) (λ b. HasBadUnit b → IsUnverifiedExit result.exit) }
 {
     plain_or_not();
     let reply = respond(alloc, words, source, workers);

@@ -1,9 +1,11 @@
 use Rattle.std.proofs.Common.{sym, ap, subst, map, ◌∙◌}
 use Rattle.fm_make.proofs.Short.{made_text_short}
 use Rattle.fm_words.specs.Words.{command_of}
-use Rattle.fmc.specs.Answer.{IsCompleted, IsRefusedExit, IsMalformedExit, IsTooLongExit, IsUnplainExit, are_reading}
+use Rattle.fm_words.specs.declared.command.Command.TheVariants as command
+use Rattle.fmc.specs.Answer.{IsBadObjectExit, IsCompleted, IsRefusedExit, IsMalformedExit, IsTooLongExit, IsUnplainExit, IsUnverifiedExit, are_reading}
 use Rattle.fmc.specs.Reply.{bytes_of, places_in}
 use Rattle.fmc.proofs.AnswerLaws.{when_told, said_of, says_history, answered, completed, refused_of, too_long_by, malformed_by, no_read_fault, unplain_by}
+use Rattle.fmc.proofs.ExecSaid.{exec_malformed, exec_unverified, found}
 use Rattle.fmc.proofs.top.fmc.Goals as goal
 
 pub returns-clause-answers : goal.returns-clause-answers
@@ -122,3 +124,27 @@ returns-clause-unplain g c = λ command is no_read no_write.
     (unplain_by command b r.ran.exit r.ran.history.items (places_in r.ran) (bytes_of r.text)
     (said_of o command b r.ran.exit r.ran.history.items (places_in r.ran) (bytes_of r.text) is says)
     (λ e. no_read (c.respond-reply.ensures.read_fault e)) c.plain_or_not.ensures v))
+
+pub returns-clause-bad_object : goal.returns-clause-bad_object
+returns-clause-bad_object g c = λ turns vars is no_read no_write.
+    let o = command_of (map (λ w. w.now) c.args.words.now) in
+    let r = c.respond-reply.result in
+    let same = (c.finish.ensures.whole (λ e. no_write (c.finish.ensures.cut e).0)).0 in
+    when_told o (g.S.Source.left c.args.source.now) r _ c.respond-reply.ensures.reply
+    (λ b says l. subst IsBadObjectExit (sym same)
+    (exec_malformed turns vars b r.ran.exit r.ran.history.items (places_in r.ran) (bytes_of r.text)
+    (found turns vars b r.ran.exit r.ran.history.items (places_in r.ran) (bytes_of r.text)
+    (said_of o (command.Exec turns vars) b r.ran.exit r.ran.history.items (places_in r.ran) (bytes_of r.text) is says))
+    (λ e. no_read (c.respond-reply.ensures.read_fault e)) l))
+
+pub returns-clause-unverified : goal.returns-clause-unverified
+returns-clause-unverified g c = λ turns vars is no_read no_write.
+    let o = command_of (map (λ w. w.now) c.args.words.now) in
+    let r = c.respond-reply.result in
+    let same = (c.finish.ensures.whole (λ e. no_write (c.finish.ensures.cut e).0)).0 in
+    when_told o (g.S.Source.left c.args.source.now) r _ c.respond-reply.ensures.reply
+    (λ b says l. subst IsUnverifiedExit (sym same)
+    (exec_unverified turns vars b r.ran.exit r.ran.history.items (places_in r.ran) (bytes_of r.text)
+    (found turns vars b r.ran.exit r.ran.history.items (places_in r.ran) (bytes_of r.text)
+    (said_of o (command.Exec turns vars) b r.ran.exit r.ran.history.items (places_in r.ran) (bytes_of r.text) is says))
+    (λ e. no_read (c.respond-reply.ensures.read_fault e)) l))
