@@ -12,6 +12,8 @@ mod compiled;
 #[cfg(test)]
 mod examples;
 #[cfg(test)]
+mod executed;
+#[cfg(test)]
 mod faults;
 #[cfg(test)]
 mod flow;

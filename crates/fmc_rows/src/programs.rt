@@ -7,7 +7,7 @@ use std::alloc::Global;
 use std::test::Fail;
 
 const USAGE: &[u8] =
-    b"usage: fmc run or trace or replay or check or list or make N or demo N or flow or compile or nodes N\n";
+    b"usage: fmc run or trace or replay or check or list or make N or demo N or compile or exec or flow or nodes N\n";
 
 /// A source, and the exit and the text for it.
 pub(crate) struct Row {

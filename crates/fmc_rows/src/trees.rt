@@ -26,6 +26,8 @@ fn is_end(exit: Exit) -> bool {
         | Exit::Malformed
         | Exit::Illegal
         | Exit::Unfinished
+        | Exit::BadObject
+        | Exit::Unverified
         | Exit::NotPlain => false,
     }
 }

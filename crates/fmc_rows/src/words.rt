@@ -88,7 +88,7 @@ const RUNS: [(&[&str], Setup, bool); 8] = [
 ];
 
 /// Words that are no command.
-const NOTHING: [&[&str]; 49] = [
+const NOTHING: [&[&str]; 55] = [
     &[],
     &[""],
     &["RUN"],
@@ -100,6 +100,12 @@ const NOTHING: [&[&str]; 49] = [
     &["flow", "--vars"],
     &["compile", "--vars"],
     &["compile", "--turns", "5"],
+    &["exec", "7"],
+    &["exec", "--turns=0"],
+    &["exec", "--turns=1000000001"],
+    &["exec", "--workers=1"],
+    &["exec", "--slice=1000"],
+    &["exec", "--plan=cyclic"],
     &["run", "list"],
     &["run", "--"],
     &["run", "-h"],
@@ -189,6 +195,20 @@ fn words_are_their_commands(rt: HostRuntime) -> Result<(), Fail> {
         Ok(Command::Nodes {
             number: 999_999_999_999_999_999,
             setup,
+            vars: true
+        })
+    );
+    assert_eq!(rt;
+        words(alloc, &["exec"]),
+        Ok(Command::Exec {
+            turns: 10_000_000,
+            vars: false
+        })
+    );
+    assert_eq!(rt;
+        words(alloc, &["exec", "--vars", "--turns", "1000000000"]),
+        Ok(Command::Exec {
+            turns: 1_000_000_000,
             vars: true
         })
     );
