@@ -12,11 +12,13 @@ _fmc() {
         --turns | --slice | --workers) return ;;
     esac
     if ((COMP_CWORD == 1)); then
-        options='run trace replay check list make demo flow compile nodes'
+        options='run trace replay check list make demo flow compile exec nodes'
     elif [[ ${COMP_WORDS[1]} == run || ${COMP_WORDS[1]} == trace ]]; then
         options='--turns --slice --workers --plan --vars'
     elif [[ ${COMP_WORDS[1]} == replay ]]; then
         options='--vars'
+    elif [[ ${COMP_WORDS[1]} == exec ]]; then
+        options='--turns --vars'
     elif [[ ${COMP_WORDS[1]} == demo ]] && ((COMP_CWORD > 2)); then
         options='--turns --slice --workers --plan'
     elif [[ ${COMP_WORDS[1]} == nodes ]] && ((COMP_CWORD > 2)); then
