@@ -1,13 +1,13 @@
 -- Entry by entry: who makes the steps of the next one can step behind those before it, and so has its number among the
 -- processes that these have started.
 use Rattle.std.proofs.Common.{◌≡◌, ℕ, zero, suc, ◌≤◌, arith, Option, Some, None, List, [], ◌∷◌, ◌++◌, replicate, refl, sym, ap, ◌∙◌, subst, append_assoc, append-nil}
-use Rattle.std.specs.Prelude.{option_and_then, option_map, slice_get}
+use Rattle.std.specs.Prelude.{slice_get}
 use Rattle.fm_base.specs.declared.schedule.Turn.{Turn}
 use Rattle.fm_sched.specs.Schedule.{Can, IsLegal, play}
 use Rattle.fm_sched.proofs.Runs.{legal_first, legal_second}
 use Rattle.fm_net.specs.Machine.{Place}
 use Rattle.fm_net.specs.Starts.{choices_of, starts_along, starts_of}
-use Rattle.fm_net.proofs.Histories.{first_turn, longer_at}
+use Rattle.fm_net.proofs.Histories.{longer_at}
 use Rattle.fm_net.proofs.Orders.{everybody, one_number_each, starts_more}
 use Rattle.fm_net.proofs.Taken.{taken}
 use Rattle.fm_rules.specs.declared.program.Program.{Program}
@@ -17,6 +17,7 @@ use Rattle.fm_mean.specs.Steps.{first, first_proc, language, main_by, main_in, p
 use Rattle.fm_mean.proofs.Calling.{all_unset_nil}
 use Rattle.fm_mean.proofs.Lawful.{lawful}
 use Rattle.fm_replay_law.specs.Entries.{AreSteps, GoesOnWith, HasItsSteps}
+use Rattle.fm_replay_law.proofs.Halves.{halves, parts}
 
 main_holds : (n : ℕ) (u : Option ProgramUnit) → held (proc_of (main_in n u)) ≡ []
 main_holds n None = refl
@@ -25,46 +26,6 @@ main_holds n (Some u) = ap (λ ps. (ps ++ []) ++ []) (all_unset_nil u.names.vari
 first_holds : (p : Program) (o : Option ℕ) → held (proc_of (main_by p o)) ≡ []
 first_holds p None = refl
 first_holds p (Some n) = main_holds n (unit_at p n)
-
--- the choices of the first entry, and those of the others
-record Parts (t : Turn) (ts : List Turn) (places cs : List Place) : Type 0 where
-  who : Place
-  others : List Place
-  who_is : slice_get places t.number ≡ Some who
-  others_are : choices_of ts places ≡ Some others
-  whole : cs ≡ replicate t.steps who ++ others
-
-the_list : (own bs : List Place) → Some own ≡ Some bs → bs ≡ own
-the_list own bs e = cc
-
-parts : (t : Turn) (ts : List Turn) (places cs : List Place) → choices_of (t ∷ ts) places ≡ Some cs → Parts t ts places cs
-parts t ts places cs e = go (slice_get places t.number) (choices_of ts places) refl refl e
-  where
-    go : (a : Option Place) (o : Option (List Place)) → slice_get places t.number ≡ a → choices_of ts places ≡ o → option_and_then (λ p. option_map (λ ds. replicate t.steps p ++ ds) o) a ≡ Some cs → Parts t ts places cs
-    go None o ea eo f = absurd (cc f)
-    go (Some p) None ea eo f = absurd (cc f)
-    go (Some p) (Some ds) ea eo f = record { who = p; others = ds; who_is = ea; others_are = eo; whole = the_list (replicate t.steps p ++ ds) cs f }
-
--- the choices of some entries, and those of the others
-record Halves (ts us : List Turn) (places cs : List Place) : Type 0 where
-  front : List Place
-  back : List Place
-  front_is : choices_of ts places ≡ Some front
-  back_is : choices_of us places ≡ Some back
-  whole : cs ≡ front ++ back
-
-halves : (ts us : List Turn) (places cs : List Place) → choices_of (ts ++ us) places ≡ Some cs → Halves ts us places cs
-halves [] us places cs e = record { front = []; back = cs; front_is = refl; back_is = e; whole = refl }
-halves (t ∷ ts) us places cs e =
-    let k = parts t (ts ++ us) places cs e in
-    let h = halves ts us places k.others k.others_are in
-    record {
-      front = replicate t.steps k.who ++ h.front;
-      back = h.back;
-      front_is = first_turn t ts places k.who h.front k.who_is h.front_is;
-      back_is = h.back_is;
-      whole = k.whole ∙ ap (λ ds. replicate t.steps k.who ++ ds) h.whole ∙ sym (append_assoc (replicate t.steps k.who) h.front h.back);
-    }
 
 the_place : (a b : Place) → Some a ≡ Some b → a ≡ b
 the_place a b e = cc

@@ -1,0 +1,6 @@
+pub mod Counts
+pub mod Along
+pub mod Pieces
+pub mod Fairness
+pub mod Reached
+pub mod OneRun
