@@ -1,14 +1,17 @@
 //! The net over stack code, with the pieces that it made.
 
+ghost use Rattle.std.specs.Option.{option_copied};
 ghost use Rattle.fm_procs.specs.Readings.{order_of};
-ghost use Rattle.fm_run_code.specs.Given.{IsOwn};
+ghost use Rattle.fm_run_code.specs.Given.{IsBodyAt, IsOwn};
 ghost use Rattle.fm_run_code.specs.Played.{played};
 ghost use Rattle.fm_run_code.specs.Sound.{IsSound};
 
 use crate::coded::Coded;
 use fm_base::{NoMemory, Path};
+use fm_code::Body;
 use fm_machine::Done;
 use fm_mean::Outcome;
+use fm_proc_events::Process;
 use fm_procs::{CodeProcs, can_step, give_piece, make_piece, note};
 use fm_run::{Awaited, History, Kind, Net, OutsideNet, Piece, put_piece};
 use std::alloc::Global;
@@ -72,9 +75,9 @@ impl<S: Coded> Net for CodeNet<S> {
         kind: Kind,
     ) -> Result<Piece, NoMemory> {
         let actor = self.stacks.entries.actor(number)?;
-        let made = make_piece(&mut self.stacks, alloc, &actor, slice, kind.spare)?;
-        put_piece(alloc, &mut self.history, kind.joins, number, made.steps)?;
-        Ok(made)
+        let piece = make_piece(&mut self.stacks, alloc, &actor, slice, kind.spare)?;
+        put_piece(alloc, &mut self.history, kind.joins, number, piece.steps)?;
+        Ok(piece)
     }
 
     fn can_step(&self, program: &S::Source, number: u32) -> Result<bool, NoMemory> {
@@ -121,8 +124,23 @@ impl<S: Coded> OutsideNet for CodeNet<S> {
         done: &Done,
     ) -> Result<Piece, NoMemory> {
         let actor = self.stacks.entries.actor(number)?;
-        let given = give_piece(&mut self.stacks, alloc, &actor, done)?;
-        put_piece(alloc, &mut self.history, false, number, given.steps)?;
-        Ok(given)
+        let piece = give_piece(&mut self.stacks, alloc, &actor, done)?;
+        put_piece(alloc, &mut self.history, false, number, piece.steps)?;
+        Ok(piece)
+    }
+}
+
+impl<S> CodeNet<S> {
+    /// The body of the process of a number, if it has one.
+    pub fn body_of(&self, number: u32) -> Option<&Body>
+        ensures { IsBodyAt self.now.stacks number (option_copied result) }
+    {
+        match self.stacks.entries.process(number) {
+            Some(process) => {
+                let held: &Process = &process.held;
+                held.body.as_ref()
+            }
+            None => None,
+        }
     }
 }

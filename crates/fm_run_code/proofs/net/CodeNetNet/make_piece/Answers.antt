@@ -45,17 +45,17 @@ returns-clause-sound g c =
     let coded = g.met.S.Coded.is_coded p in
     let ps = order_of net.stacks.entries in
     let q = actor_place c.in_ok-actor.actor in
-    let r = c.in_ok-made.made in
+    let r = c.in_ok-piece.piece in
     sound_after P C L coded net.stacks net.history c.requires.sound c.args.number q (ap (slice_get ps) (sym c.in_ok-actor.ensures.number) ∙ c.in_ok-actor.ensures.actor) c.args.slice c.args.kind.spare r
-    c.make_piece.new.procs c.in_ok-made.ensures.kept c.in_ok-made.ensures.piece c.in_ok-made.ensures.order c.args.kind.joins c.requires.joins c.put_piece.new.history c.in_ok-put_piece.ensures.ok
+    c.make_piece.new.procs c.in_ok-piece.ensures.kept c.in_ok-piece.ensures.piece c.in_ok-piece.ensures.order c.args.kind.joins c.requires.joins c.put_piece.new.history c.in_ok-put_piece.ensures.ok
 
 pub returns-clause-order : goal.returns-clause-order
 returns-clause-order g c =
     let ps = order_of c.args.self.now.stacks.entries in
     let q = actor_place c.in_ok-actor.actor in
-    let r = c.in_ok-made.made in
+    let r = c.in_ok-piece.piece in
     let who : slice_get ps c.args.number ≡ Some q = ap (slice_get ps) (sym c.in_ok-actor.ensures.number) ∙ c.in_ok-actor.ensures.actor in
-    (c.in_ok-made.ensures.order ∙ ap (λ (z : Place). ps ++ child_places z r.block 1 r.started) (sym (get_or_from_slice_get ps c.args.number q [] who)))
+    (c.in_ok-piece.ensures.order ∙ ap (λ (z : Place). ps ++ child_places z r.block 1 r.started) (sym (get_or_from_slice_get ps c.args.number q [] who)))
 
 pub returns-clause-piece : goal.returns-clause-piece
 returns-clause-piece g c =
@@ -67,8 +67,8 @@ returns-clause-piece g c =
     let coded = g.met.S.Coded.is_coded p in
     let ps = order_of net.stacks.entries in
     let q = actor_place c.in_ok-actor.actor in
-    let r = c.in_ok-made.made in
+    let r = c.in_ok-piece.piece in
     let who : slice_get ps c.args.number ≡ Some q = ap (slice_get ps) (sym c.in_ok-actor.ensures.number) ∙ c.in_ok-actor.ensures.actor in
     subst (λ (z : Place). IsPiece P c.args.slice c.args.kind.spare (played P net.history ps) z r (played P c.put_piece.new.history (order_of c.make_piece.new.procs.entries))) (sym (get_or_from_slice_get ps c.args.number q [] who))
     (piece_made P C L coded net.stacks net.history c.requires.sound c.args.number q who c.args.slice c.args.kind.spare r
-    c.make_piece.new.procs c.in_ok-made.ensures.kept c.in_ok-made.ensures.piece c.in_ok-made.ensures.order c.args.kind.joins c.requires.joins c.put_piece.new.history c.in_ok-put_piece.ensures.ok r refl)
+    c.make_piece.new.procs c.in_ok-piece.ensures.kept c.in_ok-piece.ensures.piece c.in_ok-piece.ensures.order c.args.kind.joins c.requires.joins c.put_piece.new.history c.in_ok-put_piece.ensures.ok r refl)

@@ -38,7 +38,7 @@ give_piece-requires-clause-can g c =
 pub give_piece-requires-clause-own : goal.give_piece-requires-clause-own
 give_piece-requires-clause-own g c =
     let ps = order_of c.args.self.now.stacks.entries in
-    λ y is. c.requires.own (actor_place c.in_ok-actor.actor) y (ap (slice_get ps) (sym c.in_ok-actor.ensures.number) ∙ c.in_ok-actor.ensures.actor) is
+    λ y is. sym (c.requires.own (actor_place c.in_ok-actor.actor) y (ap (slice_get ps) (sym c.in_ok-actor.ensures.number) ∙ c.in_ok-actor.ensures.actor) is)
 
 pub returns-clause-sound : goal.returns-clause-sound
 returns-clause-sound g c =
@@ -50,17 +50,17 @@ returns-clause-sound g c =
     let coded = g.met.S.Coded.is_coded p in
     let ps = order_of net.stacks.entries in
     let q = actor_place c.in_ok-actor.actor in
-    let r = c.in_ok-given.given in
+    let r = c.in_ok-piece.piece in
     sound_after P C L coded net.stacks net.history c.requires.sound c.args.number q (ap (slice_get ps) (sym c.in_ok-actor.ensures.number) ∙ c.in_ok-actor.ensures.actor) c.args.done.now.steps true r
-    c.give_piece.new.procs c.in_ok-given.ensures.kept c.in_ok-given.ensures.piece c.in_ok-given.ensures.order false (λ e. absurd (cc e)) c.put_piece.new.history c.in_ok-put_piece.ensures.ok
+    c.give_piece.new.procs c.in_ok-piece.ensures.kept c.in_ok-piece.ensures.piece c.in_ok-piece.ensures.order false (λ e. absurd (cc e)) c.put_piece.new.history c.in_ok-put_piece.ensures.ok
 
 pub returns-clause-order : goal.returns-clause-order
 returns-clause-order g c =
     let ps = order_of c.args.self.now.stacks.entries in
     let q = actor_place c.in_ok-actor.actor in
-    let r = c.in_ok-given.given in
+    let r = c.in_ok-piece.piece in
     let who : slice_get ps c.args.number ≡ Some q = ap (slice_get ps) (sym c.in_ok-actor.ensures.number) ∙ c.in_ok-actor.ensures.actor in
-    (c.in_ok-given.ensures.order ∙ ap (λ (z : Place). ps ++ child_places z r.block 1 r.started) (sym (get_or_from_slice_get ps c.args.number q [] who)))
+    (c.in_ok-piece.ensures.order ∙ ap (λ (z : Place). ps ++ child_places z r.block 1 r.started) (sym (get_or_from_slice_get ps c.args.number q [] who)))
 
 pub returns-clause-piece : goal.returns-clause-piece
 returns-clause-piece g c =
@@ -72,8 +72,8 @@ returns-clause-piece g c =
     let coded = g.met.S.Coded.is_coded p in
     let ps = order_of net.stacks.entries in
     let q = actor_place c.in_ok-actor.actor in
-    let r = c.in_ok-given.given in
+    let r = c.in_ok-piece.piece in
     let who : slice_get ps c.args.number ≡ Some q = ap (slice_get ps) (sym c.in_ok-actor.ensures.number) ∙ c.in_ok-actor.ensures.actor in
     subst (λ (z : Place). IsPiece P c.args.done.now.steps true (played P net.history ps) z r (played P c.put_piece.new.history (order_of c.give_piece.new.procs.entries))) (sym (get_or_from_slice_get ps c.args.number q [] who))
     (piece_made P C L coded net.stacks net.history c.requires.sound c.args.number q who c.args.done.now.steps true r
-    c.give_piece.new.procs c.in_ok-given.ensures.kept c.in_ok-given.ensures.piece c.in_ok-given.ensures.order false (λ e. absurd (cc e)) c.put_piece.new.history c.in_ok-put_piece.ensures.ok r refl)
+    c.give_piece.new.procs c.in_ok-piece.ensures.kept c.in_ok-piece.ensures.piece c.in_ok-piece.ensures.order false (λ e. absurd (cc e)) c.put_piece.new.history c.in_ok-put_piece.ensures.ok r refl)
