@@ -1,9 +1,9 @@
 -- What follows choices in the one follows them in the other, which does the same.
-use Rattle.std.proofs.Common.{◌≡◌, ◌⊎◌, inl, inr, ℕ, zero, suc, ◌+◌, ◌≤◌, true, false, Option, Some, None, List, [], ◌∷◌, ◌++◌, filter, length, replicate, refl, sym, ap, ap₂, subst, ◌∙◌, arith}
+use Rattle.std.proofs.Common.{◌≡◌, ◌⊎◌, inl, inr, ℕ, suc, ◌+◌, ◌≤◌, true, false, Option, Some, None, List, [], ◌∷◌, ◌++◌, filter, length, replicate, refl, sym, ap, ap₂, subst, ◌∙◌, arith}
 use Rattle.std.specs.Prelude.{is_some, slice_get}
 use Rattle.std.specs.FinMap.{get}
 use Rattle.fm_base.specs.declared.schedule.Turn.{Turn}
-use Rattle.fm_sched.specs.Schedule.{IsLegal, Step, next, play}
+use Rattle.fm_sched.specs.Schedule.{IsLegal, play}
 use Rattle.fm_net.specs.Correspondence.{AreAlike, BothOrNeither, StandsFor}
 use Rattle.fm_net.specs.Machine.{Place, State}
 use Rattle.fm_net.specs.Starts.{starts_along}
@@ -11,19 +11,14 @@ use Rattle.fm_run.specs.Orders.{can_at, can_in, chosen, in_turn, ready_after}
 use Rattle.fm_run.specs.Pieces.{IsFull, after_steps, is_local_at, is_local_in}
 use Rattle.fm_run.specs.Plays.{Play, first, language, step}
 use Rattle.fm_run.specs.Runs.{Follows, FollowsFrom, Stand, after_entry, first_stand, place_of, steps_of}
-use Rattle.fm_image_play.proofs.Runs.{waits}
+use Rattle.fm_run_law.proofs.Pieces.{legal_part}
+use Rattle.fm_image_play.proofs.Alike.{waits}
 
--- fewer steps of one actor are legal where more are
-legal_part : {S A : Type 0} (step : Step S A) (s : S) (c : A) (n k : ℕ) → k ≤ n → IsLegal step s (replicate n c) → IsLegal step s (replicate k c)
-legal_part step s c n zero low legal = tt
-legal_part step s c zero (suc k) low legal = absurd (omega (arith, low))
-legal_part step s c (suc n) (suc k) low legal = (legal.0, legal_part step (next step s c) c n k (omega (arith, low)) legal.1)
-
-same_tail : (a b : List Place) → ◌≡◌ {A = List Place} ([] ∷ a) ([] ∷ b) → a ≡ b
+pub same_tail : (a b : List Place) → ◌≡◌ {A = List Place} ([] ∷ a) ([] ∷ b) → a ≡ b
 same_tail a b e = cc e
 
 module _ (p q : Play) (Relates : q.Proc → p.Proc → Type 0) (IsLive : State p.Proc → Type 0) (alike : AreAlike Relates IsLive p.speaks q.speaks)
-    (begins : StandsFor Relates IsLive (first q) (first p)) (shows : (used : ℕ) (s : State p.Proc) (t : State q.Proc) → StandsFor Relates IsLive t s → p.shows used s ≡ q.shows used t)
+    (begins : StandsFor Relates IsLive (first q) (first p))
     (local : (x : p.Proc) (y : q.Proc) → Relates y x → q.is_local y ≡ p.is_local x) where
   abbrev Stands : State q.Proc → State p.Proc → Type 0
   Stands = StandsFor Relates IsLive
@@ -72,7 +67,7 @@ module _ (p q : Play) (Relates : q.Proc → p.Proc → Type 0) (IsLive : State p
         ⊎ (((k : ℕ) × (steps ≡ k + 1) × (is_local_at q (after_steps q t c k) c ≡ false)) ⊎ ((steps ≤ slice) × (step q (after_steps q t c steps) c ≡ None)))
     stops (inl h) = inl (h.0, λ e. local_alike (after_steps p s c steps) (after_steps q t c steps) (stands_after steps (omega arith)) c ∙ h.1 e)
     stops (inr (inl h)) = inr (inl (h.0, h.1, local_alike (after_steps p s c h.0) (after_steps q t c h.0) (stands_after h.0 (omega (arith, h.1))) c ∙ h.2))
-    stops (inr (inr h)) = inr (inr (h.0, waits p q Relates IsLive alike begins shows (after_steps p s c steps) (after_steps q t c steps) (stands_after steps (omega arith)) c h.1))
+    stops (inr (inr h)) = inr (inr (h.0, waits p q Relates IsLive alike (after_steps p s c steps) (after_steps q t c steps) (stands_after steps (omega arith)) c h.1))
 
     full_alike : IsFull q slice true t c steps
     full_alike = record {

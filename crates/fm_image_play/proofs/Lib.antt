@@ -1,5 +1,7 @@
 pub mod Begun
 pub mod PortWords
-pub mod Played
-pub mod Following
+pub mod Alike
 pub mod Runs
+pub mod Following
+pub mod FairAlike
+pub mod Played

@@ -1,8 +1,7 @@
 -- What runs of an image do and show is what its processes of stack code do and show, and they are lawful where it makes sense.
-use Rattle.std.proofs.Common.{◌≡◌, ℕ, Option, Some, None, List, refl, sym, ap, ◌∙◌}
+use Rattle.std.proofs.Common.{◌≡◌, ℕ, Option, Some, None, [], refl, sym, ap, ◌∙◌}
 use Rattle.std.specs.Prelude.{option_map}
 use Rattle.std.specs.FinMap.{get}
-use Rattle.fm_base.specs.declared.schedule.Turn.{Turn}
 use Rattle.fm_finmap.proofs.Maps.{get-map_values}
 use Rattle.fm_finmap.proofs.Keys.{same}
 use Rattle.fm_net.specs.Correspondence.{AreAlike, BothOrNeither, IsCorrespondence, StandsFor}
@@ -24,25 +23,27 @@ use Rattle.fm_verify_law.specs.Typed.{Typed}
 use Rattle.fm_image_law.specs.Image.{first_process}
 use Rattle.fm_image_law.proofs.First.{first_holds}
 use Rattle.fm_run.specs.declared.run.Run.{Run}
+use Rattle.fm_run.specs.Orders.{places_of}
 use Rattle.fm_run.specs.Plays.{IsLawfulPlay, first, need_of}
 use Rattle.fm_run.specs.Runs.{Follows, IsRun}
-use Rattle.fm_image_play.specs.Play.{GoodProc, IsBare, IsLive, account, bare, bare_state, good_main, good_play, good_speaks, image_play}
+use Rattle.fm_run_law.specs.Alike.{FollowsAs, IsFairAs, RunsAs}
+use Rattle.fm_run_law.specs.Fair.{IsFair}
+use Rattle.fm_run_law.proofs.Reached.{run_is_fair}
+use Rattle.fm_image_play.specs.Play.{Anyway, GoodProc, IsBare, IsLive, account, bare, bare_state, good_main, good_play, good_speaks, image_play}
+use Rattle.fm_image_play.proofs.FairAlike.{fair_alike}
 use Rattle.fm_image_play.proofs.Following.{follows_alike}
 use Rattle.fm_image_play.proofs.Runs.{run_alike}
 
 module _ (i : Image) where
-  abbrev Anyway : State (GoodProc i) → Type 0
-  Anyway s = Unit {0}
-
   pub lawful_play : Typed i → IsLawfulPlay (good_play i)
   lawful_play t = record { lawful = kept_lawful code_language (Typed i) (IsGood (shapes_of i)) (account i) t; free = first_holds i t }
 
-  pub plays_alike : AreAlike (IsBare i) Anyway (good_speaks i) code_language
+  pub plays_alike : AreAlike (IsBare i) (Anyway i) (good_speaks i) code_language
   plays_alike = kept_alike code_language (Typed i) (IsGood (shapes_of i)) (account i)
 
   -- ---- where it makes sense
 
-  bare_correspond : IsCorrespondence (IsBare i) Anyway (good_speaks i) code_language
+  bare_correspond : IsCorrespondence (IsBare i) (Anyway i) (good_speaks i) code_language
   bare_correspond = kept_correspond code_language (Typed i) (IsGood (shapes_of i)) (account i)
 
   live_correspond : IsCorrespondence (IsBare i) (IsLive i) (good_speaks i) code_language
@@ -88,15 +89,21 @@ module _ (i : Image) where
     pub shows_alike : (used : ℕ) → (good_play i).shows used s ≡ (image_play i).shows used t
     shows_alike used = ap ((image_play i).shows used) states_same
 
-  begins : StandsFor (IsBare i) Anyway (first (image_play i)) (first (good_play i))
+  begins : StandsFor (IsBare i) (Anyway i) (first (image_play i)) (first (good_play i))
   begins = plays_alike.begin (good_main i) (first_process i) refl tt
 
-  shows_too : (used : ℕ) (s : State (GoodProc i)) (t : State CodeProc) → StandsFor (IsBare i) Anyway t s → (good_play i).shows used s ≡ (image_play i).shows used t
-  shows_too used s t stands = shows_alike Anyway s t stands used
+  shows_too : (used : ℕ) (s : State (GoodProc i)) (t : State CodeProc) → StandsFor (IsBare i) (Anyway i) t s → (good_play i).shows used s ≡ (image_play i).shows used t
+  shows_too used s t stands = shows_alike (Anyway i) s t stands used
 
-  pub run_of_image : (turns : ℕ) (run : Run) → IsRun (good_play i) turns run → IsRun (image_play i) turns run
-  run_of_image turns run h = run_alike (good_play i) (image_play i) (IsBare i) Anyway plays_alike begins shows_too turns run h
+  pub run_of_image : RunsAs (good_play i) (image_play i)
+  run_of_image = λ turns run h. run_alike (good_play i) (image_play i) (IsBare i) (Anyway i) plays_alike begins shows_too turns run h
 
-  pub follows_of_image : (slice : ℕ) (choices : List ℕ) (history : List Turn) → Follows (good_play i) slice choices history → Follows (image_play i) slice choices history
-  follows_of_image slice choices history h =
-      follows_alike (good_play i) (image_play i) (IsBare i) Anyway plays_alike begins shows_too (λ g y is. ap code.is_local is) slice choices history h
+  pub follows_of_image : FollowsAs (good_play i) (image_play i)
+  follows_of_image = λ slice choices history h. follows_alike (good_play i) (image_play i) (IsBare i) (Anyway i) plays_alike begins (λ g y is. ap code.is_local is) slice choices history h
+
+  pub fair_of_image : IsFairAs (good_play i) (image_play i)
+  fair_of_image = fair_alike (good_play i) (image_play i) (IsBare i) (Anyway i) plays_alike begins
+
+  -- where it makes sense, what is served in turn is fair
+  pub turns_are_fair : Typed i → (slice turns : ℕ) (run : Run) → IsRun (good_play i) turns run → Follows (good_play i) slice [] run.history.items → IsFair (image_play i) run.history.items (places_of run.paths.items)
+  turns_are_fair t slice turns run r follows = fair_of_image run.history.items (places_of run.paths.items) (run_is_fair (good_play i) (lawful_play t) slice turns run r follows)

@@ -9,19 +9,12 @@ use Rattle.fm_run.specs.declared.run.Ending.TheVariants.{Ended, Spent}
 use Rattle.fm_run.specs.declared.run.Run.{Run}
 use Rattle.fm_run.specs.Plays.{Play, first, step}
 use Rattle.fm_run.specs.Runs.{EndsSo, IsRun}
+use Rattle.fm_image_play.proofs.Alike.{waits}
 
 module _ (p q : Play) (Relates : q.Proc → p.Proc → Type 0) (IsLive : State p.Proc → Type 0) (alike : AreAlike Relates IsLive p.speaks q.speaks)
     (begins : StandsFor Relates IsLive (first q) (first p)) (shows : (used : ℕ) (s : State p.Proc) (t : State q.Proc) → StandsFor Relates IsLive t s → p.shows used s ≡ q.shows used t) where
   abbrev Stands : State q.Proc → State p.Proc → Type 0
   Stands = StandsFor Relates IsLive
-
-  -- who can't step there can't step here
-  pub waits : (s : State p.Proc) (t : State q.Proc) → Stands t s → (c : Place) → step p s c ≡ None → step q t c ≡ None
-  waits s t stands c none = go (step q t c) refl
-    where
-      go : (o : Option (State q.Proc × ℕ)) → step q t c ≡ o → o ≡ None
-      go None e = refl
-      go (Some b) e = let can = alike.step.back s t c stands (b, e) in absurd (cc (sym none ∙ can.1))
 
   -- the same cost, whatever is chosen
   pub same_cost : (cs : List Place) (s : State p.Proc) (t : State q.Proc) → Stands t s → used (step q) t cs ≡ used (step p) s cs
@@ -34,7 +27,7 @@ module _ (p q : Play) (Relates : q.Proc → p.Proc → Type 0) (IsLive : State p
           ap₂ (λ (m n : ℕ). m + n) (alike.step.forth.costs s t c stands (r, e))
           (rest (next (step p) s c) (next (step q) t c) (alike.step.forth.stands s t c stands (r, e)))
       go rest None e =
-          let none = waits s t stands c e in
+          let none = waits p q Relates IsLive alike s t stands c e in
           ap₂ (λ (m n : ℕ). m + n) (cost-None (step q) t c none ∙ sym (cost-None (step p) s c e))
           (ap (λ (u : State q.Proc). used (step q) u cs) (next-None (step q) t c none) ∙ rest s t stands ∙ sym (ap (λ (u : State p.Proc). used (step p) u cs) (next-None (step p) s c e)))
 

@@ -24,9 +24,13 @@ words_shown zero s ws = shown.Numbers ws
 words_shown (suc zero) s ws = shown.Truths (map is_truth ws)
 words_shown (suc (suc k)) s ws = shown.Ports (channels_in s ws)
 
--- what a variable has among the words of a frame
+-- the words of a variable among those of a frame
+abbrev pub own_words : List ℤ → Cell → List ℤ
+own_words ws c = take c.words (drop c.first ws)
+
+-- its name, and what they show
 abbrev pub cell_shown : Slots → List ℤ → Cell → List ℕ × Shown
-cell_shown s ws c = (c.name, words_shown c.kind s (take c.words (drop c.first ws)))
+cell_shown s ws c = (c.name, words_shown c.kind s (own_words ws c))
 
 -- in byte order of the names; of two variables of a name the first counts
 abbrev pub cells_shown : Slots → List ℤ → List Cell → List ShownVariable

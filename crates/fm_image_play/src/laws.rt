@@ -1,27 +1,24 @@
 //! That an image as what is run is lawful where it makes sense. Each function here has an empty body: its contract is a law.
 
-ghost use Rattle.std.specs.Prelude.{ℕ, List};
-ghost use Rattle.fm_base.specs.declared.schedule.Turn as declared_turn;
 ghost use Rattle.fm_net.specs.Correspondence.{AreAlike};
-ghost use Rattle.fm_net.specs.Machine.{State};
 ghost use Rattle.fm_object.specs.declared.image.Image as declared_image;
 ghost use Rattle.fm_proc_language.specs.Processes.{code_language};
-ghost use Rattle.fm_run.specs.declared.run.Run as declared_run;
 ghost use Rattle.fm_run.specs.Plays.{IsLawfulPlay, language};
-ghost use Rattle.fm_run.specs.Runs.{Follows, IsRun};
+ghost use Rattle.fm_run_law.specs.Alike.{FollowsAs, IsFairAs, RunsAs};
 ghost use Rattle.fm_verify_law.specs.Typed.{Typed};
-ghost use Rattle.fm_image_play.specs.Play.{GoodProc, IsBare, IsLive, good_play, image_play};
+ghost use Rattle.fm_image_play.specs.Play.{Anyway, IsBare, IsLive, good_play, image_play};
 
 /// Of an image that makes sense processes account for their ports, and main holds none.
 pub fn good_play_is_lawful()
     ensures { (i : declared_image.Image) → Typed i → IsLawfulPlay (good_play i) }
 {}
 
-/// Of every image the good processes do what its own machine does, and so a run of theirs is one of that machine; where the image makes sense
-/// ports stay where they are accounted for.
+/// Of every image the good processes do what its own machine does, and so a run of theirs is one of that machine, follows the same choices
+/// there, and is fair there where it is so among them; where the image makes sense ports stay where they are accounted for.
 pub fn plays_are_alike()
-    ensures alike { (i : declared_image.Image) → AreAlike (IsBare i) (λ (s : State (GoodProc i)). Unit {0}) (language (good_play i)) code_language }
+    ensures alike { (i : declared_image.Image) → AreAlike (IsBare i) (Anyway i) (language (good_play i)) code_language }
     ensures live { (i : declared_image.Image) → AreAlike (IsBare i) (IsLive i) (language (good_play i)) code_language }
-    ensures runs { (i : declared_image.Image) (turns : ℕ) (run : declared_run.Run) → IsRun (good_play i) turns run → IsRun (image_play i) turns run }
-    ensures follows { (i : declared_image.Image) (slice : ℕ) (choices : List ℕ) (history : List declared_turn.Turn) → Follows (good_play i) slice choices history → Follows (image_play i) slice choices history }
+    ensures runs { (i : declared_image.Image) → RunsAs (good_play i) (image_play i) }
+    ensures follows { (i : declared_image.Image) → FollowsAs (good_play i) (image_play i) }
+    ensures fair { (i : declared_image.Image) → IsFairAs (good_play i) (image_play i) }
 {}

@@ -1,10 +1,10 @@
 //! What the variables of main hold.
 
-ghost use Rattle.std.specs.Prelude.{◌≡◌, map, option_map, slice_get, take, drop, IfOk, OnOk};
+ghost use Rattle.std.specs.Prelude.{◌≡◌, map, option_map, slice_get, IfOk, OnOk};
 ghost use Rattle.std.specs.Option.{option_copied};
 ghost use Rattle.fm_symbols.specs.ByName.{first_of_each, with_new};
 ghost use Rattle.fm_proc_events.specs.Phases.{proc_of};
-ghost use Rattle.fm_image_play.specs.Outcome.{body_shown, cell_shown, cells_in, cells_shown, frame_shown, shown_all, words_shown};
+ghost use Rattle.fm_image_play.specs.Outcome.{body_shown, cell_shown, cells_in, cells_shown, frame_shown, own_words, shown_all, words_shown};
 
 use fm_base::{NoMemory, Seq};
 use fm_code::{Body, Frame};
@@ -37,7 +37,7 @@ fn put_cell(
     words: &[i64],
     cell: &Cell,
 ) -> Result<(), NoMemory>
-    ensures { OnOk result (all.new ≡ with_new all.old cell.now.name (words_shown cell.now.kind slots.now (take cell.now.words (drop cell.now.first words.now)))) }
+    ensures { OnOk result (all.new ≡ with_new all.old cell.now.name (words_shown cell.now.kind slots.now (own_words words.now cell.now))) }
 {
     if all.contains_key(&cell.name) {
         return Ok(());

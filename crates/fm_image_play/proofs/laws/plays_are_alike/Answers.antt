@@ -1,4 +1,4 @@
-use Rattle.fm_image_play.proofs.Played.{follows_of_image, live_alike, plays_alike, run_of_image}
+use Rattle.fm_image_play.proofs.Played.{fair_of_image, follows_of_image, live_alike, plays_alike, run_of_image}
 use Rattle.fm_image_play.proofs.laws.plays_are_alike.Goals as goal
 
 pub returns-clause-alike : goal.returns-clause-alike
@@ -12,3 +12,6 @@ returns-clause-runs c = run_of_image
 
 pub returns-clause-follows : goal.returns-clause-follows
 returns-clause-follows c = follows_of_image
+
+pub returns-clause-fair : goal.returns-clause-fair
+returns-clause-fair c = fair_of_image
