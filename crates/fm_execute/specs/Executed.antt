@@ -1,19 +1,30 @@
 -- What comes of bytes that are executed.
 -- Source: this profile.
-use Rattle.std.specs.Prelude.{◌≡◌, ℕ, List, [], Result, Ok, Err}
+use Rattle.std.specs.Prelude.{◌≡◌, ℕ, false, Some, List, Result, Ok, Err}
+use Rattle.std.specs.FinMap.{get}
+use Rattle.fm_sched.specs.Schedule.{IsLegal, play}
+use Rattle.fm_code.specs.Statements.{is_stuck}
+use Rattle.fm_code.specs.declared.body.Body.{Body}
+use Rattle.fm_net.specs.Machine.{Place}
 use Rattle.fm_object.specs.declared.image.Image.{Image}
 use Rattle.fm_object.specs.Texts.{IsFirstMalformed, IsObjectText}
 use Rattle.fm_verify_law.specs.Typed.{IsBad, Typed}
+use Rattle.fm_proc_language.specs.Processes.{CodeProc}
+use Rattle.fm_image_law.specs.Image.{GoesOn, first, step}
 use Rattle.fm_run.specs.declared.run.Run.{Run}
-use Rattle.fm_run.specs.Runs.{Follows, IsRun}
+use Rattle.fm_run_law.specs.Fair.{IsRunInTurn}
 use Rattle.fm_image_play.specs.Play.{image_play}
 use Rattle.fm_execute.specs.declared.fail.ExecuteFail.{ExecuteFail}
 use Rattle.fm_execute.specs.declared.fail.ExecuteFail.TheVariants as fails
 
--- the run is one of the image's own machine under these turns, in which those that can step are served in turn
-pub record IsRunOf (i : Image) (turns : ℕ) (run : Run) : Type 0 where
-  pub runs : IsRun (image_play i) turns run
-  pub in_turn : Follows (image_play i) 1000 [] run.history.items
+-- the run is one of the image's own machine under these turns, in which those that can step are served in turn, and which is fair
+abbrev pub IsRunOf : Image → (turns : ℕ) → Run → Type 0
+IsRunOf i turns run = IsRunInTurn (image_play i) 1000 turns run
+
+-- wherever a schedule of the image leads, nobody that has more to do is stuck
+abbrev pub IsNeverStuck : Image → Type 0
+IsNeverStuck i = (choices : List Place) → IsLegal step (first i) choices → (q : Place) (y : CodeProc) (b : Body)
+    → get (play step (first i) choices).procs q ≡ Some y → y.body ≡ Some b → GoesOn y.phase → is_stuck b ≡ false
 
 -- the bytes are the text of an image that makes sense, and the run is one of it
 pub record IsExecuted (bytes : List ℕ) (turns : ℕ) (run : Run) : Type 0 where

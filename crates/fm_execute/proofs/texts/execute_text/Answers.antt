@@ -14,4 +14,4 @@ returns-in_err-image-2-clause-whole c = λ i object typed.
 pub returns-clause-whole : goal.returns-clause-whole
 returns-clause-whole c = λ i object typed.
     let same : c.in_ok-image-2.image ≡ i = c.in_ok-image-2.ensures.same ∙ one_object_text c.args.bytes.now c.in_ok-image.image i c.in_ok-image.ensures.object object in
-    subst (λ (k : Image). IsRunOf k c.args.turns c.in_ok-run.run') same (record { runs = c.in_ok-run.ensures.run; in_turn = c.in_ok-run.ensures.in_turn })
+    subst (λ (k : Image). IsRunOf k c.args.turns c.in_ok-run.run') same (record { runs = c.in_ok-run.ensures.run; in_turn = c.in_ok-run.ensures.in_turn; fair = c.in_ok-run.ensures.fair })
