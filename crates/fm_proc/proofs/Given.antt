@@ -13,14 +13,14 @@ runs_on (Joining block kids) o e = absurd (cc e)
 runs_on Ended o e = absurd (cc e)
 runs_on (Faulted line fault) o e = absurd (cc e)
 
-pub given_runs : (y : CodeProc) (d : Done) → is_running y ≡ true → y.body ≡ Some d.start.value → (b : Body) → b ≡ d.end.value → (lines : List (List ℕ)) → lines ≡ y.lines ++ d.lines → (steps cost : ℕ) → steps ≡ d.steps → cost ≡ d.cost
-    → Runs y steps cost (record y { body = Some b; lines = lines })
-given_runs y d runs own b b_is lines lines_are steps cost steps_are cost_is = record {
+pub given_runs : (y : CodeProc) (d : Done) → is_running y ≡ true → y.body ≡ Some d.start.value → (o : Option Body) → o ≡ Some d.end.value → (lines : List (List ℕ)) → lines ≡ y.lines ++ d.lines → (steps cost : ℕ) → steps ≡ d.steps → cost ≡ d.cost
+    → Runs y steps cost (record y { body = o; lines = lines })
+given_runs y d runs own o o_is lines lines_are steps cost steps_are cost_is = record {
   running = runs_on y.phase y.body runs;
   before = d.start.value;
   is_before = own;
   after = record { body = d.end.value; lines = d.lines; cost = d.cost };
   ran = ap (λ (n : ℕ). run n d.start.value) steps_are ∙ d.ran;
-  is_after = ap₂ (λ (v : Body) (ls : List (List ℕ)). record y { body = Some v; lines = ls }) b_is lines_are;
+  is_after = ap₂ (λ (v : Option Body) (ls : List (List ℕ)). record y { body = v; lines = ls }) o_is lines_are;
   cost_is = cost_is;
 }
