@@ -45,6 +45,10 @@ impl Piece {
 // What a heavy process gets at once, in slices, where it is played beside others.
 const HEAVY_SLICES: u32 = 64;
 
+// How many statements a process gets at least for each word of its frame. With 8 its copies and comparisons took some 5 in 100 of its
+// time, without what fresh pages cost.
+const STEPS_FOR_A_WORD: u32 = 64;
+
 /// The most statements of the piece of a process whose frame has so many words: as many as the setup says; or more where it is heavy,
 /// or its body is large, so that handing it out, copying it and comparing it takes little of its time.
 pub(crate) fn slice_for(slice: u32, words: usize, heavy: bool) -> u32
@@ -54,8 +58,8 @@ pub(crate) fn slice_for(slice: u32, words: usize, heavy: bool) -> u32
     ensures small { result ≤ 1000000 }
 {
     let long = if heavy { slice * HEAVY_SLICES } else { slice };
-    if words < 125_000 && long < 1_000_000 {
-        long.max(words as u32 * 8)
+    if words < 15_625 && long < 1_000_000 {
+        long.max(words as u32 * STEPS_FOR_A_WORD)
     } else {
         1_000_000
     }
