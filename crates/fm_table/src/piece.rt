@@ -43,7 +43,7 @@ impl Piece {
 }
 
 // What a heavy process gets at once, in slices, where it is played beside others.
-const HEAVY_SLICES: u32 = 64;
+const HEAVY_SLICES: u32 = 128;
 
 // How many statements a process gets at least for each word of its frame. With 8 its copies and comparisons took some 5 in 100 of its
 // time, without what fresh pages cost.
