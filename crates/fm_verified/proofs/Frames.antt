@@ -1,19 +1,16 @@
 -- The tests of machines and of the words of frames hold exactly where they make sense.
-use Rattle.std.proofs.Common.{◌≡◌, ℕ, zero, suc, ◌+◌, ◌*◌, ◌<◌, ◌≤◌, ◌==◌, Bool, true, false, ◌&&◌, ◌||◌, ◌⊎◌, inl, inr, not, Option, Some, None, List, [], ◌∷◌, length, drop, get_or, map, slice_get, add-one, refl, sym, ap, subst, ◌∙◌, arith}
+use Rattle.std.proofs.Common.{◌≡◌, ℕ, nat_eq, zero, suc, ◌+◌, ◌*◌, ◌<◌, ◌≤◌, ◌==◌, Bool, true, false, ◌&&◌, ◌||◌, ◌⊎◌, inl, inr, not, Option, Some, List, [], ◌∷◌, ◌++◌, length, drop, get_or, map, slice_get, add-one, refl, sym, ap, subst, ◌∙◌, arith}
 use Rattle.std.specs.Prelude.{nat_le}
 use Rattle.std.specs.List.{AllByRecursion}
-use Rattle.std.specs.Ordering.{nat_cmp}
-use Rattle.std.specs.Cmp.Lexicographic.{slice_cmp}
-use Rattle.std.specs.FinMap.{contains_key, empty, get, get-empty, insert}
+use Rattle.std.specs.Cmp.Lexicographic.{pointwise, bytes_decides}
+use Rattle.std.proofs.lemmas.List.Folds.{list_any-append}
 use Rattle.std.proofs.lemmas.Bool.{and_parts, and_from, or_cases, or_left, or_right, not-true, not_from_false, eqb-true, eq-eqb, leb-true, le-leb, both_ways}
 use Rattle.fm_base.specs.Letters.{is_name_text}
-use Rattle.fm_finmap.proofs.Inserts.{insert_here, insert_there}
-use Rattle.fm_finmap.proofs.Keys.{nat_list_order}
 use Rattle.fm_code_kinds.specs.Shapes.{words_of}
 use Rattle.fm_object.specs.declared.image.Cell.{Cell}
 use Rattle.fm_verify_law.specs.Shapes.{cell_of}
 use Rattle.fm_verify_law.specs.Typed.{MachineIsTyped, nodes, CellIsTyped, CellsAreTyped, AreApart, is_formal}
-use Rattle.fm_verified.specs.Tests.{has_type, are_nodes, is_machine, is_cell, are_cells, Names, are_apart}
+use Rattle.fm_verified.specs.Tests.{has_type, are_nodes, is_machine, is_cell, are_cells, is_named, are_apart}
 use Rattle.fm_verified.proofs.TypeTests.{type_so, type_from}
 
 abbrev some : {A : Type 0} → A → Option A
@@ -137,56 +134,71 @@ words_more types word end i cs c l here e f =
 
 -- ---- names
 
--- no name of these is in the map
-abbrev NoneIn : Names → List Cell → Type 0
-NoneIn m cs = (a : ℕ) (c : Cell) → slice_get cs a ≡ Some c → get m c.name ≡ None
+-- none of these has a name that is among those
+abbrev NoneIn : List (List ℕ) → List Cell → Type 0
+NoneIn names cs = (a : ℕ) (c : Cell) → slice_get cs a ≡ Some c → is_named names c.name ≡ false
 
-key_not : (m : Names) (k : List ℕ) → contains_key m k ≡ false → get m k ≡ None
-key_not m k e = go (get m k) refl
+named_more : (names : List (List ℕ)) (new name : List ℕ) → is_named (names ++ new ∷ []) name ≡ (is_named names name || (pointwise nat_eq name new || false))
+named_more names new name = list_any-append (pointwise nat_eq name) names (new ∷ [])
+
+neither : (a b : Bool) → (a || (b || false)) ≡ false → (a ≡ false) × (b ≡ false)
+neither true b e = absurd cc
+neither false true e = absurd cc
+neither false false e = (refl, refl)
+
+both_false : (a b : Bool) → a ≡ false → b ≡ false → (a || (b || false)) ≡ false
+both_false a b e f = rw (e, f) refl
+
+other_name : (x y : List ℕ) → (x ≡ y → ⊥) → pointwise nat_eq x y ≡ false
+other_name x y h = go (pointwise nat_eq x y) refl
   where
-    go : (o : Option Bool) → get m k ≡ o → get m k ≡ None
-    go None is = is
-    go (Some b) is = absurd (both_ways (contains_key m k) e (rw is refl))
-
-not_key : (m : Names) (k : List ℕ) → get m k ≡ None → contains_key m k ≡ false
-not_key m k e = rw e refl
+    go : (b : Bool) → pointwise nat_eq x y ≡ b → pointwise nat_eq x y ≡ false
+    go true e = absurd (h ((bytes_decides x y).0 e))
+    go false e = e
 
 tail_apart : (c : Cell) (cs : List Cell) → AreApart (c ∷ cs) → AreApart cs
 tail_apart c cs h a b d e f g s = let n : suc a ≡ suc b = h (suc a) (suc b) d e f g s in omega (arith, n)
 
-apart_none : (m : Names) (cs : List Cell) → are_apart m cs ≡ true → NoneIn m cs
-apart_none m [] e a d f = absurd cc
-apart_none m (c ∷ cs) e zero d f =
-    let p = and_parts (not (contains_key m c.name)) (are_apart (insert m c.name true) cs) e in
-    subst (λ (x : Cell). get m x.name ≡ None) (some_is c d f) (key_not m c.name (not-true (contains_key m c.name) p.0))
-apart_none m (c ∷ cs) e (suc a) d f =
-    let p = and_parts (not (contains_key m c.name)) (are_apart (insert m c.name true) cs) e in
-    let none : get (insert m c.name true) d.name ≡ None = apart_none (insert m c.name true) cs p.1 a d f in
-    sym (insert_there nat_list_order m c.name true d.name (λ same. differs none same)) ∙ none
-  where
-    differs : get (insert m c.name true) d.name ≡ None → d.name ≡ c.name → ⊥
-    differs none same = let here = insert_here nat_list_order m c.name true in absurd (cc (sym none ∙ ap (get (insert m c.name true)) same ∙ here))
+-- of those behind the first, none has a name that is among these, nor that of the first
+behind : (names : List (List ℕ)) (c : Cell) (cs : List Cell) → NoneIn (names ++ c.name ∷ []) cs → (a : ℕ) (d : Cell) → slice_get cs a ≡ Some d
+    → (is_named names d.name ≡ false) × (pointwise nat_eq d.name c.name ≡ false)
+behind names c cs none a d f = neither (is_named names d.name) (pointwise nat_eq d.name c.name) (sym (named_more names c.name d.name) ∙ none a d f)
 
-clash : (m : Names) (c : Cell) (cs : List Cell) → are_apart m (c ∷ cs) ≡ true → (x y : Cell) (b : ℕ) → some c ≡ some x → slice_get cs b ≡ Some y → x.name ≡ y.name → ⊥
-clash m c cs h x y b e f s =
-    let p = and_parts (not (contains_key m c.name)) (are_apart (insert m c.name true) cs) h in
-    let none : get (insert m c.name true) y.name ≡ None = apart_none (insert m c.name true) cs p.1 b y f in
-    let here = insert_here nat_list_order m c.name true in
+apart_none : (names : List (List ℕ)) (cs : List Cell) → are_apart names cs ≡ true → NoneIn names cs
+apart_none names [] e a d f = absurd cc
+apart_none names (c ∷ cs) e zero d f =
+    let p = and_parts (not (is_named names c.name)) (are_apart (names ++ c.name ∷ []) cs) e in
+    subst (λ (x : Cell). is_named names x.name ≡ false) (some_is c d f) (not-true (is_named names c.name) p.0)
+apart_none names (c ∷ cs) e (suc a) d f =
+    let p = and_parts (not (is_named names c.name)) (are_apart (names ++ c.name ∷ []) cs) e in
+    (behind names c cs (apart_none (names ++ c.name ∷ []) cs p.1) a d f).0
+
+clash : (names : List (List ℕ)) (c : Cell) (cs : List Cell) → are_apart names (c ∷ cs) ≡ true → (x y : Cell) (b : ℕ) → some c ≡ some x → slice_get cs b ≡ Some y → x.name ≡ y.name → ⊥
+clash names c cs h x y b e f s =
+    let p = and_parts (not (is_named names c.name)) (are_apart (names ++ c.name ∷ []) cs) h in
+    let other : pointwise nat_eq y.name c.name ≡ false = (behind names c cs (apart_none (names ++ c.name ∷ []) cs p.1) b y f).1 in
     let same : y.name ≡ c.name = sym s ∙ ap (λ (z : Cell). z.name) (sym (some_is c x e)) in
-    absurd (cc (sym none ∙ ap (get (insert m c.name true)) same ∙ here))
+    absurd (both_ways (pointwise nat_eq y.name c.name) other ((bytes_decides y.name c.name).1 same))
 
-pub apart_so : (m : Names) (cs : List Cell) → are_apart m cs ≡ true → AreApart cs
-apart_so m [] h a b c d e f s = absurd cc
-apart_so m (c ∷ cs) h zero zero x y e f s = refl
-apart_so m (c ∷ cs) h zero (suc b) x y e f s = absurd (clash m c cs h x y b e f s)
-apart_so m (c ∷ cs) h (suc a) zero x y e f s = absurd (clash m c cs h y x a f e (sym s))
-apart_so m (c ∷ cs) h (suc a) (suc b) x y e f s = ap suc (apart_so (insert m c.name true) cs (and_parts (not (contains_key m c.name)) (are_apart (insert m c.name true) cs) h).1 a b x y e f s)
+pub apart_so : (names : List (List ℕ)) (cs : List Cell) → are_apart names cs ≡ true → AreApart cs
+apart_so names [] h a b c d e f s = absurd cc
+apart_so names (c ∷ cs) h zero zero x y e f s = refl
+apart_so names (c ∷ cs) h zero (suc b) x y e f s = absurd (clash names c cs h x y b e f s)
+apart_so names (c ∷ cs) h (suc a) zero x y e f s = absurd (clash names c cs h y x a f e (sym s))
+apart_so names (c ∷ cs) h (suc a) (suc b) x y e f s =
+    ap suc (apart_so (names ++ c.name ∷ []) cs (and_parts (not (is_named names c.name)) (are_apart (names ++ c.name ∷ []) cs) h).1 a b x y e f s)
 
-apart_in : (m : Names) (cs : List Cell) → NoneIn m cs → AreApart cs → are_apart m cs ≡ true
-apart_in m [] none h = refl
-apart_in m (c ∷ cs) none h =
-    and_from (not (contains_key m c.name)) (are_apart (insert m c.name true) cs) (not_from_false (contains_key m c.name) (not_key m c.name (none 0 c refl)))
-    (apart_in (insert m c.name true) cs (λ a d e. insert_there nat_list_order m c.name true d.name (λ same. absurd (omega (arith, h 0 (suc a) c d refl e (sym same)))) ∙ none (suc a) d e) (tail_apart c cs h))
+apart_in : (names : List (List ℕ)) (cs : List Cell) → NoneIn names cs → AreApart cs → are_apart names cs ≡ true
+apart_in names [] none h = refl
+apart_in names (c ∷ cs) none h =
+    and_from (not (is_named names c.name)) (are_apart (names ++ c.name ∷ []) cs) (not_from_false (is_named names c.name) (none 0 c refl))
+    (apart_in (names ++ c.name ∷ []) cs rest (tail_apart c cs h))
+  where
+    rest : NoneIn (names ++ c.name ∷ []) cs
+    rest a d e =
+        named_more names c.name d.name
+        ∙ both_false (is_named names d.name) (pointwise nat_eq d.name c.name) (none (suc a) d e)
+        (other_name d.name c.name (λ same. absurd (omega (arith, h 0 (suc a) c d refl e (sym same)))))
 
-pub apart_from : (cs : List Cell) → AreApart cs → are_apart empty cs ≡ true
-apart_from cs h = apart_in empty cs (λ a c e. get-empty (slice_cmp nat_cmp) c.name) h
+pub apart_from : (cs : List Cell) → AreApart cs → are_apart [] cs ≡ true
+apart_from cs h = apart_in [] cs (λ a c e. refl) h

@@ -1,7 +1,6 @@
 -- A unit makes sense exactly where the tests of it hold and its code has its kinds.
 use Rattle.std.proofs.Common.{◌≡◌, ◌↔◌, ℕ, zero, suc, ◌+◌, ◌<◌, Bool, true, false, ◌&&◌, length, slice_get, Some, List, [], ◌∷◌, take, sym, ap, subst, ◌∙◌, add-one}
 use Rattle.std.specs.Prelude.{IsTrue, nat_le, map, Result, Ok, Err, IfOk}
-use Rattle.std.specs.FinMap.{empty}
 use Rattle.std.specs.List.{AllByRecursion}
 use Rattle.std.proofs.lemmas.Bool.{and_parts, and_from, both_ways, leb-true, le-leb}
 use Rattle.std.proofs.lemmas.Option.{slice_get_within}
@@ -26,7 +25,7 @@ some_is x y e = cc
 
 -- the parts of what is tested beside words and kinds
 record Plain (u : UnitImage) : Type 0 where
-  pub apart : are_apart empty u.cells ≡ true
+  pub apart : are_apart [] u.cells ≡ true
   pub places : have_places u.cells ≡ true
   pub heading : nat_le u.heading 3 ≡ true
   pub machine : is_machine u.extents ≡ true
@@ -37,7 +36,7 @@ record Plain (u : UnitImage) : Type 0 where
 
 plain_parts : (u : UnitImage) → is_plain u ≡ true → Plain u
 plain_parts u e =
-    let a = and_parts (are_apart empty u.cells) (have_places u.cells && (is_framed u && (is_entered u && joins_stand u.code (addresses_of u)))) e in
+    let a = and_parts (are_apart [] u.cells) (have_places u.cells && (is_framed u && (is_entered u && joins_stand u.code (addresses_of u)))) e in
     let b = and_parts (have_places u.cells) (is_framed u && (is_entered u && joins_stand u.code (addresses_of u))) a.1 in
     let c = and_parts (is_framed u) (is_entered u && joins_stand u.code (addresses_of u)) b.1 in
     let d = and_parts (nat_le u.heading 3) (is_machine u.extents) c.0 in
@@ -53,7 +52,7 @@ unit_so i u w e k =
       heading = leb-true u.heading 3 p.heading;
       machine = machine_so u.extents p.machine;
       cells = cells_so (length i.types) 0 u.cells w;
-      names = apart_so empty u.cells p.apart;
+      names = apart_so [] u.cells p.apart;
       formals = places_so u.cells p.places;
       begin = begin_so (addresses_of u) p.begin;
       rise = rise_so 0 (addresses_of u) p.rise;
@@ -67,7 +66,7 @@ cells_hold i u h = cells_from (length i.types) 0 u.cells h.cells
 
 pub plain_holds : (i : Image) (u : UnitImage) → UnitIsTyped i u → is_plain u ≡ true
 plain_holds i u h =
-    and_from (are_apart empty u.cells) (have_places u.cells && (is_framed u && (is_entered u && joins_stand u.code (addresses_of u)))) (apart_from u.cells h.names)
+    and_from (are_apart [] u.cells) (have_places u.cells && (is_framed u && (is_entered u && joins_stand u.code (addresses_of u)))) (apart_from u.cells h.names)
     (and_from (have_places u.cells) (is_framed u && (is_entered u && joins_stand u.code (addresses_of u))) (places_from u.cells h.formals)
     (and_from (is_framed u) (is_entered u && joins_stand u.code (addresses_of u)) (and_from (nat_le u.heading 3) (is_machine u.extents) (le-leb u.heading 3 h.heading) (machine_from u.extents h.machine))
     (and_from (is_entered u) (joins_stand u.code (addresses_of u))

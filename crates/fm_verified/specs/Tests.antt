@@ -1,9 +1,8 @@
 -- The tests by which an image is judged; proofs/ has that they hold exactly where it makes sense.
 -- Source: this profile.
-use Rattle.std.specs.Prelude.{ℕ, suc, ◌+◌, ◌-◌, ◌*◌, ◌==◌, nat_lt, nat_le, not, cond, Bool, true, false, ◌&&◌, ◌||◌, Option, Some, None, List, [], ◌∷◌, ◌++◌, length, replicate, slice_get, slice_set}
-use Rattle.std.specs.FinMap.{FinMap, contains_key, empty, insert}
-use Rattle.std.specs.Ordering.{nat_cmp}
-use Rattle.std.specs.Cmp.Lexicographic.{slice_cmp}
+use Rattle.std.specs.Prelude.{ℕ, nat_eq, suc, ◌+◌, ◌-◌, ◌*◌, ◌==◌, nat_lt, nat_le, not, cond, Bool, true, false, ◌&&◌, ◌||◌, Option, Some, None, List, [], ◌∷◌, ◌++◌, length, replicate, slice_get, slice_set}
+use Rattle.std.specs.List.{list_any}
+use Rattle.std.specs.Cmp.Lexicographic.{pointwise}
 use Rattle.fm_base.specs.Letters.{is_name_text}
 use Rattle.fm_code.specs.declared.instr.Instr.{Instr}
 use Rattle.fm_code_kinds.specs.Leading.{goes, is_begin, is_join}
@@ -57,13 +56,13 @@ abbrev pub are_cells : (types word : ℕ) → List Cell → Bool
 are_cells types word [] = nat_le word 65536
 are_cells types word (c ∷ cs) = is_cell types word c && are_cells types (word + c.words) cs
 
-abbrev pub Names : Type 0
-Names = FinMap (slice_cmp nat_cmp) Bool
+abbrev pub is_named : (names : List (List ℕ)) → (name : List ℕ) → Bool
+is_named names name = list_any (pointwise nat_eq name) names
 
 -- no name is among these, nor stands twice
-abbrev pub are_apart : Names → List Cell → Bool
+abbrev pub are_apart : (names : List (List ℕ)) → List Cell → Bool
 are_apart names [] = true
-are_apart names (c ∷ cs) = not (contains_key names c.name) && are_apart (insert names c.name true) cs
+are_apart names (c ∷ cs) = not (is_named names c.name) && are_apart (names ++ c.name ∷ []) cs
 
 -- with this place taken, where it is there and free
 abbrev pub with_free : (taken : List Bool) → (place : ℕ) → Option Bool → Option (List Bool)
@@ -123,4 +122,4 @@ abbrev pub is_entered : UnitImage → Bool
 is_entered u = begin_at_first (addresses_of u) && (rise_from 0 (addresses_of u) && nat_le (loops_of u.code) (length u.entries))
 
 abbrev pub is_plain : UnitImage → Bool
-is_plain u = are_apart empty u.cells && (have_places u.cells && (is_framed u && (is_entered u && joins_stand u.code (addresses_of u))))
+is_plain u = are_apart [] u.cells && (have_places u.cells && (is_framed u && (is_entered u && joins_stand u.code (addresses_of u))))

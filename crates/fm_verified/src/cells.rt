@@ -1,7 +1,6 @@
 //! The variables of a unit.
 
-ghost use Rattle.std.specs.Prelude.{◌≡◌, ◌+◌, IfOk, MatchOption, OnOk, true, false, map, slice_get};
-ghost use Rattle.std.specs.FinMap.{contains_key, empty, insert};
+ghost use Rattle.std.specs.Prelude.{◌≡◌, ◌+◌, [], IfOk, MatchOption, true, false, map};
 ghost use Rattle.fm_code_kinds.specs.Shapes.{words_of};
 ghost use Rattle.fm_verify_law.specs.Shapes.{cell_of};
 ghost use Rattle.fm_verify_law.specs.Typed.{how_many, is_formal};
@@ -10,8 +9,8 @@ ghost use Rattle.fm_verified.specs.Telling.{taken_by};
 
 use crate::types::{has_type, one_where};
 use fm_base::{NoMemory, Seq, is_name_text};
-use fm_finmap::NameMap;
 use fm_object::Cell;
+use indexmap::IndexSet;
 use std::alloc::Global;
 
 /// Whether the variable is a formal.
@@ -60,14 +59,13 @@ pub(crate) fn frame_of(types: usize, cells: &[Cell]) -> Option<u32>
 
 /// Whether no name stands twice.
 pub(crate) fn are_apart(alloc: Global, cells: &[Cell]) -> Result<bool, NoMemory>
-    ensures { IfOk result (λ apart. apart ≡ are_apart empty cells.now) }
+    ensures { IfOk result (λ apart. apart ≡ are_apart [] cells.now) }
 {
-    let mut names = NameMap::new(alloc);
+    let mut names = IndexSet::new(alloc);
     'cells: for cell in cells {
-        if names.contains_key(&cell.name) {
+        if !names.insert(cell.name.copy(alloc)?)? {
             return Ok(false);
         }
-        names.insert(cell.name.copy(alloc)?, true)?;
     }
     Ok(true)
 }
