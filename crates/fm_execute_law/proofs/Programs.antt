@@ -1,7 +1,6 @@
 -- A run of the image of a program is a run of the program.
 use Rattle.std.proofs.Common.{◌≡◌, ℕ, List, [], Some, sym, subst, ◌∙◌}
 use Rattle.std.specs.FinMap.{get}
-use Rattle.fm_base.specs.declared.schedule.Turn.{Turn}
 use Rattle.fm_net.specs.Correspondence.{StandsFor}
 use Rattle.fm_net.specs.Machine.{Place, State}
 use Rattle.fm_net.specs.Owned.{main_alone}
@@ -21,15 +20,18 @@ use Rattle.fm_outcome_code.proofs.Asking.{local_alike}
 use Rattle.fm_outcome_code.proofs.FirstAlike.{first_alike}
 use Rattle.fm_outcome_code.proofs.Shows.{shows_alike}
 use Rattle.fm_outcome_code.proofs.Sound.{first_live}
-use Rattle.fm_run.specs.declared.run.Run.{Run}
 use Rattle.fm_run.specs.Plays.{Play, first}
-use Rattle.fm_run.specs.Programs as programs
 use Rattle.fm_run.specs.Programs.{play_of}
-use Rattle.fm_run.specs.Runs.{Follows, IsRun}
+use Rattle.fm_run.proofs.Programs.{law_of}
+use Rattle.fm_run_law.specs.Alike.{FollowsAs, RunsAs}
+use Rattle.fm_run_law.specs.Fair.{IsRunInTurn}
+use Rattle.fm_run_law.proofs.Reached.{run_is_fair}
 use Rattle.fm_image_play.specs.Play.{image_play}
-use Rattle.fm_execute.specs.Executed.{IsExecuted}
+use Rattle.fm_verify.proofs.Makes.{makes_sense}
+use Rattle.fm_execute_law.specs.Compiled.{ExecutesAs, IsTextOf}
 use Rattle.fm_execute_law.proofs.Back.{run_back}
 use Rattle.fm_execute_law.proofs.Firsts.{first_same}
+use Rattle.fm_execute_law.proofs.SameTexts.{same_object}
 use Rattle.fm_execute_law.proofs.Shown.{outcome_same}
 use Rattle.fm_execute_law.proofs.Turns.{follows_back}
 
@@ -45,21 +47,27 @@ module _ (p : Program) where
   shows : (used : ℕ) (s : State Proc) (t : State CodeProc) → StandsFor (Corresponds p) (IsLive p) t s → (play_of p).shows used s ≡ plays.shows used t
   shows used s t stands = sym (outcome_same p used t ∙ shows_alike p s t stands used)
 
-  pub run_of_program : (turns : ℕ) (run : Run) → IsRun plays turns run → programs.IsRun p turns run
-  run_of_program turns run h = run_back (play_of p) plays (Corresponds p) (IsLive p) (machines_alike p) begins shows turns run h
-
-  pub run_of_text : (bytes : List ℕ) → IsObjectText bytes (image_of p (code_of p)) → (turns : ℕ) (run : Run) → IsExecuted bytes turns run → programs.IsRun p turns run
-  run_of_text bytes object turns run h =
-      run_of_program turns run (subst (λ (i : Image). IsRun (image_play i) turns run) (one_object_text bytes h.image (image_of p (code_of p)) h.object object) h.of_image.runs)
+  pub run_of_program : RunsAs plays (play_of p)
+  run_of_program = λ turns run h. run_back (play_of p) plays (Corresponds p) (IsLive p) (machines_alike p) begins shows turns run h
 
   -- ---- in which order
 
   local : (s : State Proc) → IsLive p s → (c : Place) (x : Proc) (y : CodeProc) → get s.procs c ≡ Some x → Corresponds p y x → plays.is_local y ≡ (play_of p).is_local x
   local s live c x y is corresponds = local_alike p s live c x is y corresponds
 
-  pub follows_program : (slice : ℕ) (choices : List ℕ) (history : List Turn) → Follows plays slice choices history → programs.Follows p slice choices history
-  follows_program slice choices history h = follows_back (play_of p) plays (Corresponds p) (IsLive p) (machines_alike p) begins local slice choices history h
+  pub follows_program : FollowsAs plays (play_of p)
+  follows_program = λ slice choices history h. follows_back (play_of p) plays (Corresponds p) (IsLive p) (machines_alike p) begins local slice choices history h
 
-  pub text_follows : (bytes : List ℕ) → IsObjectText bytes (image_of p (code_of p)) → (turns : ℕ) (run : Run) → IsExecuted bytes turns run → programs.Follows p 1000 [] run.history.items
-  text_follows bytes object turns run h =
-      follows_program 1000 [] run.history.items (subst (λ (i : Image). Follows (image_play i) 1000 [] run.history.items) (one_object_text bytes h.image (image_of p (code_of p)) h.object object) h.of_image.in_turn)
+  -- ---- of its text
+
+  pub object_executes : (bytes : List ℕ) → IsObjectText bytes (image_of p (code_of p)) → ExecutesAs bytes p
+  object_executes bytes object = λ turns run h.
+      let own : IsRunInTurn plays 1000 turns run = subst (λ (i : Image). IsRunInTurn (image_play i) 1000 turns run) (one_object_text bytes h.image (image_of p (code_of p)) h.object object) h.of_image in
+      let runs = run_of_program turns run own.runs in
+      let in_turn = follows_program 1000 [] run.history.items own.in_turn in
+      record { runs = runs; in_turn = in_turn; fair = run_is_fair (play_of p) (law_of p) 1000 turns run runs in_turn }
+
+  -- what is executed fits, and so the image is that of the program
+  pub text_executes : (bytes : List ℕ) → IsTextOf p bytes → ExecutesAs bytes p
+  text_executes bytes text = λ turns run h.
+      object_executes bytes (same_object bytes (image_of p (code_of p)) h.image (makes_sense p text.named) text.object h.object) turns run h

@@ -1,9 +1,9 @@
 -- What follows choices in what stands for something else, and does the same, follows them in that.
-use Rattle.std.proofs.Common.{◌≡◌, ◌⊎◌, inl, inr, ℕ, zero, suc, ◌+◌, ◌≤◌, true, false, Option, Some, None, List, [], ◌∷◌, ◌++◌, filter, length, replicate, refl, sym, ap, ap₂, subst, ◌∙◌, arith}
+use Rattle.std.proofs.Common.{◌≡◌, ◌⊎◌, inl, inr, ℕ, suc, ◌+◌, ◌≤◌, true, false, Option, Some, None, List, [], ◌∷◌, ◌++◌, filter, length, replicate, refl, sym, ap, ap₂, subst, ◌∙◌, arith}
 use Rattle.std.specs.Prelude.{is_some, slice_get}
 use Rattle.std.specs.FinMap.{get}
 use Rattle.fm_base.specs.declared.schedule.Turn.{Turn}
-use Rattle.fm_sched.specs.Schedule.{IsLegal, Step, next, play}
+use Rattle.fm_sched.specs.Schedule.{IsLegal, play}
 use Rattle.fm_net.specs.Correspondence.{AreAlike, BothOrNeither, StandsFor}
 use Rattle.fm_net.specs.Machine.{Place, State}
 use Rattle.fm_net.specs.Starts.{starts_along}
@@ -11,15 +11,8 @@ use Rattle.fm_run.specs.Orders.{can_at, can_in, chosen, in_turn, ready_after}
 use Rattle.fm_run.specs.Pieces.{IsFull, after_steps, is_local_at, is_local_in}
 use Rattle.fm_run.specs.Plays.{Play, first, language, step}
 use Rattle.fm_run.specs.Runs.{Follows, FollowsFrom, Stand, after_entry, first_stand, place_of, steps_of}
-
--- fewer steps of one actor are legal where more are
-legal_part : {S A : Type 0} (step : Step S A) (s : S) (c : A) (n k : ℕ) → k ≤ n → IsLegal step s (replicate n c) → IsLegal step s (replicate k c)
-legal_part step s c n zero low legal = tt
-legal_part step s c zero (suc k) low legal = absurd (omega (arith, low))
-legal_part step s c (suc n) (suc k) low legal = (legal.0, legal_part step (next step s c) c n k (omega (arith, low)) legal.1)
-
-same_tail : (a b : List Place) → ◌≡◌ {A = List Place} ([] ∷ a) ([] ∷ b) → a ≡ b
-same_tail a b e = cc e
+use Rattle.fm_run_law.proofs.Pieces.{legal_part}
+use Rattle.fm_image_play.proofs.Following.{same_tail}
 
 module _ (p q : Play) (Relates : q.Proc → p.Proc → Type 0) (IsLive : State p.Proc → Type 0) (alike : AreAlike Relates IsLive p.speaks q.speaks)
     (begins : StandsFor Relates IsLive (first q) (first p))
