@@ -6,7 +6,6 @@
 #![tactic(auto)]
 
 mod nodes;
-mod order;
 mod outcome;
 
 pub use nodes::{Nodes, NodesFail};

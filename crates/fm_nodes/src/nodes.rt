@@ -13,7 +13,6 @@ ghost use Rattle.fm_nodes_plain.specs.Lines.{IsFirstUnplain, IsPlainVerdict};
 ghost use Rattle.fm_nodes_hosts.specs.Runs.{IsMoved, IsTried, first_run};
 ghost use Rattle.fm_nodes_rounds.specs.Rounds.{is_step};
 
-use crate::order::{likely_number, path_at, rank_all};
 use crate::outcome::outcome;
 use fm_base::{ChanName, Line, NoMemory, Path, Plan, Turn};
 use fm_mean::Outcome;
@@ -42,8 +41,6 @@ pub struct Nodes {
     trees: Trees,
     alloc: Global,
     state: NodeState<PlainProc>,
-    /// The numbers of the processes in the order of their paths; fewer where memory was wanting.
-    sorted: Vec<u32>,
 }
 
 impl Drop for Nodes {
@@ -52,7 +49,6 @@ impl Drop for Nodes {
             trees: _trees,
             alloc: _alloc,
             state: _state,
-            sorted: _sorted,
         } = self;
     }
 }
@@ -205,7 +201,7 @@ impl Nodes {
     pub fn path(&self, place: usize) -> Option<&Path>
         ensures { IsSome result ↔ (place < length self.now.run.order) }
     {
-        path_at(self.sorted.as_slice(), self.state.processes.paths(), place)
+        self.state.processes.path_at(place)
     }
 
     /// How many processes there are. Takes no memory.
@@ -232,7 +228,6 @@ impl Nodes {
             trees: _trees,
             alloc: _alloc,
             state,
-            sorted: _sorted,
         } = self;
         state.into_parts()
     }
@@ -243,10 +238,7 @@ impl Nodes {
         ensures same { setting_of self.new ≡ setting_of self.old }
         ensures done { IsTried (language self.old.program) path.now self.old.run self.new.run result }
     {
-        let likely = likely_number(self.sorted.as_slice(), self.state.processes.paths(), path);
-        let done = step(self.alloc, &self.trees, &mut self.state, path, likely);
-        rank_all(&mut self.sorted, self.state.processes.paths());
-        done
+        step(self.alloc, &self.trees, &mut self.state, path)
     }
 
     // A packet goes on the wire.
@@ -307,12 +299,9 @@ fn hosted(alloc: Global, program: Arc<Program>, hosts: u32, plan: Plan) -> Resul
     let trees = Trees::new(alloc, program, hosts, plan)?;
     let main = trees.first(alloc)?;
     let state = first_state(alloc, main)?;
-    let mut sorted = Vec::new(alloc);
-    rank_all(&mut sorted, state.processes.paths());
     Ok(Nodes {
         trees,
         alloc,
         state,
-        sorted,
     })
 }

@@ -199,20 +199,19 @@ fn step_by<R: Runner>(
     }
 }
 
-/// Makes a step of the process at a path, if it has one on what has arrived; it is looked for at a likely number first. Where it
-/// has none, and after want of memory, nothing has changed.
+/// Makes a step of the process at a path, if it has one on what has arrived. Where it has none, and after want of memory, nothing
+/// has changed.
 pub fn step<R: Runner>(
     alloc: Global,
     runner: &R,
     state: &mut NodeState<R::Process>,
     path: &Path,
-    likely: usize,
 ) -> Result<bool, NoMemory>
     requires sound { IsSound (R.language runner.now) (main_alone (R.main runner.now)) (run_of (R.seen runner.now) state.old) }
     requires used { state.old.used ≤ 1000000000 }
     ensures { IsTried (R.language runner.now) path.now (run_of (R.seen runner.now) state.old) (run_of (R.seen runner.now) state.new) result }
 {
-    match state.processes.number(path, likely) {
+    match state.processes.number(path, 0) {
         Some(number) => {
             if step_own(alloc, runner, state, number, path)? {
                 return Ok(true);

@@ -6,6 +6,7 @@
 #![tactic(auto)]
 
 mod children;
+mod order;
 mod processes;
 mod runner;
 

@@ -1,11 +1,12 @@
 //! The processes on hosts.
 
-ghost use Rattle.std.specs.Prelude.{◌≡◌, ◌<◌, ◌++◌, ◌^◌, [], ◌∷◌, Some, IfNone, IfOk, IfSome, OnErr, OnOk, length, map, slice_get};
+ghost use Rattle.std.specs.Prelude.{◌≡◌, ◌↔◌, ◌<◌, ◌++◌, ◌^◌, [], ◌∷◌, Some, IfNone, IfOk, IfSome, IsSome, OnErr, OnOk, length, map, slice_get};
 ghost use Rattle.std.proofs.Props.{props};
 ghost use Rattle.std.specs.FinMap.{empty, get, insert};
 ghost use Rattle.fm_finmap.specs.Rows.{AreDistinct, HasRows, numbered_map, places_in};
 ghost use Rattle.fm_net.specs.Machine.{Place};
 
+use crate::order::Order;
 use fm_base::{NoMemory, Path, order_of_paths};
 use std::alloc::Global;
 use std::sync::Arc;
@@ -15,6 +16,8 @@ use std::sync::Arc;
 pub struct Processes<X> {
     pub(crate) paths: Vec<Arc<Path>>,
     pub(crate) values: Vec<X>,
+    /// The numbers in the order of their paths; fewer where memory was wanting.
+    order: Order,
     ghost rows: { HasRows (places_in paths.items) values.items } by { Prim.hlevel props },
     ghost few: { length values.items < 2 ^ 32 },
 }
@@ -24,6 +27,7 @@ impl<X: Drop> Drop for Processes<X> {
         let Processes {
             paths: _paths,
             values: _values,
+            order: _order,
         } = self;
     }
 }
@@ -41,6 +45,7 @@ impl<X> Processes<X> {
         Processes {
             paths: Vec::new(alloc),
             values: Vec::new(alloc),
+            order: Order::new(alloc),
         }
     }
 
@@ -78,6 +83,19 @@ impl<X> Processes<X> {
         None
     }
 
+    // The number of the process at a path, looked for by the order of the paths, and one by one where it isn't in order.
+    fn seek(&self, path: &Path) -> Option<usize>
+        ensures there { IfSome result (λ n. slice_get (order_of self.now) n ≡ Some path.now) }
+        ensures none { IfNone result (get (by_path self.now) path.now ≡ None) }
+    {
+        let likely = self.order.likely_number(self.paths.as_slice(), path);
+        if self.is_at(likely, path) {
+            Some(likely)
+        } else {
+            self.find(path)
+        }
+    }
+
     /// The number of the process at a path, looked for at a likely number first.
     pub fn number(&self, path: &Path, likely: usize) -> Option<usize>
         ensures there { IfSome result (λ n. slice_get (order_of self.now) n ≡ Some path.now) }
@@ -86,8 +104,16 @@ impl<X> Processes<X> {
         if self.is_at(likely, path) {
             Some(likely)
         } else {
-            self.find(path)
+            self.seek(path)
         }
+    }
+
+    /// The path at this place, from 0, in path order, unless memory was wanting to put it there; none where there are fewer. Takes no
+    /// memory.
+    pub fn path_at(&self, place: usize) -> Option<&Path>
+        ensures { IsSome result ↔ (place < length (order_of self.now)) }
+    {
+        self.order.path_at(self.paths.as_slice(), place)
     }
 
     /// The process of a number.
@@ -154,6 +180,7 @@ impl<X: Drop> Processes<X> {
             Ok(()) => {}
             Err(_) => unreachable!(),
         }
+        self.order.rank_all(self.paths.as_slice());
     }
 
     /// The paths alone, in the order of the numbers. Takes no memory.
@@ -163,6 +190,7 @@ impl<X: Drop> Processes<X> {
         let Processes {
             paths,
             values: _values,
+            order: _order,
         } = self;
         paths
     }
