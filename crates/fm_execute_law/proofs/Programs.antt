@@ -6,7 +6,6 @@ use Rattle.fm_net.specs.Machine.{Place, State}
 use Rattle.fm_net.specs.Owned.{main_alone}
 use Rattle.fm_rules.specs.declared.program.Program.{Program}
 use Rattle.fm_mean.specs.Process.{Proc}
-use Rattle.fm_mean.specs.Steps.{first_proc}
 use Rattle.fm_object.specs.declared.image.Image.{Image}
 use Rattle.fm_object.specs.Texts.{IsObjectText}
 use Rattle.fm_object.proofs.MalformedLaws.{one_object_text}
@@ -14,12 +13,10 @@ use Rattle.fm_image.specs.ImageOf.{image_of}
 use Rattle.fm_gen.specs.Programs.{code_of}
 use Rattle.fm_proc_language.specs.Processes.{CodeProc}
 use Rattle.fm_outcome_code.specs.Corresponds.{Corresponds, IsLive}
-use Rattle.fm_outcome_code.specs.Shown.{first_process}
 use Rattle.fm_outcome_code.proofs.Alike.{machines_alike}
 use Rattle.fm_outcome_code.proofs.Asking.{local_alike}
-use Rattle.fm_outcome_code.proofs.FirstAlike.{first_alike}
+use Rattle.fm_outcome_code.proofs.FirstState.{first_stands}
 use Rattle.fm_outcome_code.proofs.Shows.{shows_alike}
-use Rattle.fm_outcome_code.proofs.Sound.{first_live}
 use Rattle.fm_run.specs.Plays.{Play, first}
 use Rattle.fm_run.specs.Programs.{play_of}
 use Rattle.fm_run.proofs.Programs.{law_of}
@@ -41,8 +38,7 @@ module _ (p : Program) where
 
   begins : StandsFor (Corresponds p) (IsLive p) (first plays) (first (play_of p))
   begins =
-      subst (λ (y : CodeProc). StandsFor (Corresponds p) (IsLive p) (main_alone y) (first (play_of p))) (sym (first_same p))
-      ((machines_alike p).begin (first_proc p) (first_process p) (first_alike p) (first_live p))
+      subst (λ (y : CodeProc). StandsFor (Corresponds p) (IsLive p) (main_alone y) (first (play_of p))) (sym (first_same p)) (first_stands p)
 
   shows : (used : ℕ) (s : State Proc) (t : State CodeProc) → StandsFor (Corresponds p) (IsLive p) t s → (play_of p).shows used s ≡ plays.shows used t
   shows used s t stands = sym (outcome_same p used t ∙ shows_alike p s t stands used)

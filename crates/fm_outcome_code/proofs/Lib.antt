@@ -3,11 +3,6 @@ mod Awaited
 mod Listed
 mod Holding
 mod Needed
-pub mod Standing
-pub mod Pieces
-pub mod Waiting
-pub mod Histories
-pub mod Sound
 pub mod Awaiting
 pub mod Context
 pub mod Owned
@@ -26,6 +21,7 @@ pub mod Asking
 pub mod Entries
 pub mod Shows
 pub mod FirstAlike
+pub mod FirstState
 pub mod Slots
 pub mod Exchange
 pub mod Messages

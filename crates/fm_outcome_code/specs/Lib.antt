@@ -3,9 +3,6 @@ pub mod First
 pub mod Waits
 pub mod Parts
 pub mod Holding
-pub mod Played
-pub mod Sound
-pub mod Given
 pub mod Corresponds
 pub mod Here
 pub mod Shown

@@ -6,7 +6,7 @@ ghost use Rattle.fm_procs.specs.Kept.{AreKept};
 ghost use Rattle.fm_procs.specs.Readings.{order_of, state_of};
 ghost use Rattle.fm_outcome_code.specs.Shown.{first_process};
 
-use crate::begun::first_stacks as stacks_of;
+use crate::begun::first_stacks;
 use fm_base::NoMemory;
 use fm_gen::generate;
 use fm_procs::CodeProcs;
@@ -14,11 +14,11 @@ use fm_rules::Program;
 use std::alloc::Global;
 
 /// Main alone, with no channel: the PROGRAM as a process of the code that is generated.
-pub(crate) fn first_stacks(alloc: Global, program: &Program) -> Result<CodeProcs, NoMemory>
+pub fn program_stacks(alloc: Global, program: &Program) -> Result<CodeProcs, NoMemory>
     ensures state { IfOk result (λ s. state_of s ≡ main_alone (first_process program.now)) }
     ensures order { IfOk result (λ s. order_of s.entries ≡ [] ∷ []) }
     ensures kept { IfOk result (λ s. AreKept s.entries) }
 {
     let code = generate(alloc, program)?;
-    stacks_of(alloc, code, program.main())
+    first_stacks(alloc, code, program.main())
 }

@@ -1,18 +1,17 @@
-//! The net that the runner plays (`fm_run::Net`), over stack code: the code of a program is generated once, and its processes run it.
+//! What a run of stack code begins with and shows, whatever code its processes run; and that the processes of a program's code are those
+//! of the program.
 //!
-//! Contracts see the state of the meaning to which the pieces lead (`played`). Processes and channels of stack code stand for those
-//! of that state (`IsSound`): processes of stack code do what those of the meaning do and show
-//! the same (`machines_are_alike`, `processes_are_alike`), so a piece of stack code is a piece of the meaning, and who can step
-//! there can step here.
+//! A run begins with a unit of the code as the one process (`first_stacks`), and in the end a state shows what `outcome_with` gathers:
+//! lines, faults, waits and holders of its processes, and for the variables of main what is given, since only who knows their names can
+//! tell them.
 //!
-//! What a run begins with and shows stands here whatever code its processes run: it begins with a unit of the code as the one process
-//! (`first_stacks`), and in the end a state shows what `outcome_with` gathers: lines, faults, waits and holders of its processes, and for
-//! the variables of main what is given, since only who knows their names can tell them. Of a program, that is the outcome (`outcome_by`) of
-//! the state for which its processes stand.
+//! The code of a program is generated once, and its processes run it. Processes of stack code correspond to those of the program
+//! (`specs/Corresponds`): they do what those of its meaning do and show the same (`machines_are_alike`, `processes_are_alike`). The one with
+//! which a program of stack code begins (`program_stacks`) stands for the PROGRAM, and what processes of its code show in the end (`outcome`)
+//! is the outcome of the state for which they stand.
 #![tactic(auto)]
 
 mod begun;
-mod compiled;
 mod first;
 mod gathering;
 mod holders;
@@ -25,8 +24,9 @@ mod waits;
 mod words;
 
 pub use begun::first_stacks;
-pub use compiled::Compiled;
+pub use first::program_stacks;
 pub use gathering::{outcome_with, process_of};
 pub use laws::{machines_are_alike, processes_are_alike};
 pub use own::own_frame;
+pub use showing::outcome;
 pub use words::{channels, part, truths};

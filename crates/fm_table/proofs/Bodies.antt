@@ -9,10 +9,10 @@ use Rattle.fm_proc_language.specs.Processes.{CodeProc}
 use Rattle.fm_proc_language.specs.Slots.{Slots}
 use Rattle.fm_procs.specs.Readings.{order_of, procs_of}
 use Rattle.fm_outcome_code.specs.Corresponds.{BodyAlike, BodyStands, Corresponds}
-use Rattle.fm_outcome_code.specs.declared.compiled.Compiled.{Compiled}
+use Rattle.fm_run_code.specs.Given.{IsBodyAt}
 use Rattle.fm_run.specs.Programs.{Stand}
 use Rattle.fm_run.specs.declared.player.Player.{Player}
-use Rattle.fm_table.specs.Inside.{IsAsItWas, IsLive, stand_in, stand_kept}
+use Rattle.fm_table.specs.Inside.{Compiled, IsAsItWas, IsLive, stand_in, stand_kept}
 use Rattle.fm_table.specs.Told.{HaveStarts, IsBodyOf, Out, without}
 use Rattle.fm_table.specs.declared.standing.Standing.{Standing}
 use Rattle.fm_table.proofs.Standings.{stand_same}
@@ -22,7 +22,7 @@ the_body a b e = cc
 
 -- in memory
 stands_for : (program : Program) (player : Player Compiled) (live : IsLive program player) (n : ℕ) (b : Body)
-    → ((q : Place) (y : CodeProc) → slice_get (order_of player.net.stacks.entries) n ≡ Some q → get (procs_of player.net.stacks.entries) q ≡ Some y → Some b ≡ y.body) → IsBodyOf program (stand_in program player) n b
+    → IsBodyAt player.net.stacks n (Some b) → IsBodyOf program (stand_in program player) n b
 stands_for program player live n b of q x at is =
     go (get (procs_of player.net.stacks.entries) q) refl (subst (BothOrNeither (Corresponds program) (get (procs_of player.net.stacks.entries) q)) is (live.sound.stands.procs q))
   where
@@ -39,7 +39,7 @@ module _ (program : Program) (old new : Standing) (same : IsAsItWas old new) (li
   there : stand_in program new.player ≡ stand_kept program old
   there = live.stand_is ∙ stand_same program old new same
 
-  pub body_kept : (b : Body) → ((q : Place) (y : CodeProc) → slice_get (order_of new.player.net.stacks.entries) n ≡ Some q → get (procs_of new.player.net.stacks.entries) q ≡ Some y → Some b ≡ y.body) → IsBodyOf program (stand_kept program old) n b
+  pub body_kept : (b : Body) → IsBodyAt new.player.net.stacks n (Some b) → IsBodyOf program (stand_kept program old) n b
   body_kept b of = subst (λ (a : Stand). IsBodyOf program a n b) there (stands_for program new.player live n b of)
 
   pub path_kept : (q : Place) → slice_get (order_of new.player.net.stacks.entries) n ≡ Some q → slice_get (stand_kept program old).places n ≡ Some q

@@ -16,16 +16,16 @@ use Rattle.fm_mean.specs.Machines.{main_nodes}
 use Rattle.fm_mean.specs.Process.{Proc}
 use Rattle.fm_mean.specs.Steps.{first_proc}
 use Rattle.fm_proc_language.specs.Processes.{CodeProc}
-use Rattle.fm_procs.specs.Readings.{order_of, procs_of}
+use Rattle.fm_procs.specs.Readings.{procs_of}
+use Rattle.fm_run_code.specs.Given.{IsBodyAt}
 use Rattle.fm_outcome_code.specs.Corresponds.{BodyAlike, Corresponds}
 use Rattle.fm_run.specs.Orders.{Among, EachOnce, others_in}
 use Rattle.fm_run.specs.Programs.{Stand}
 use Rattle.fm_run.specs.declared.orders.Queue.{Queue}
 use Rattle.fm_run.specs.declared.player.Player.{Player}
 use Rattle.fm_run.proofs.Numbers.{filter_among, once_filter}
-use Rattle.fm_outcome_code.specs.declared.compiled.Compiled.{Compiled}
 use Rattle.fm_table.specs.Giving.{taken_for}
-use Rattle.fm_table.specs.Inside.{AreBehind, AreShares, HasEntered, HasShares, HaveLeft, IsLive, IsStanding, shares_of, stand_in, stand_kept}
+use Rattle.fm_table.specs.Inside.{AreBehind, AreShares, Compiled, HasEntered, HasShares, HaveLeft, IsLive, IsStanding, shares_of, stand_in, stand_kept}
 use Rattle.fm_table.specs.Planned.{first_of, mapped, node_at, worker_at}
 use Rattle.fm_table.specs.Told.{IsKept, Out, Told, is_out, ready_in, ready_of, stand_of, stand_with}
 use Rattle.fm_table.specs.declared.shares.Shares.{Shares}
@@ -55,14 +55,14 @@ body_there program player live q x b is of = go (get (procs_of player.net.stacks
 
 -- the node of one that can step
 pub node_of_body : (program : Program) (player : Player Compiled) (live : IsLive program player) (n : ℕ) (b : Body) → Among n player.able.numbers.items
-    → ((q : Place) (y : CodeProc) → slice_get (order_of player.net.stacks.entries) n ≡ Some q → get (procs_of player.net.stacks.entries) q ≡ Some y → Some b ≡ y.body) → b.node ≡ node_at (stand_in program player) n
+    → IsBodyAt player.net.stacks n (Some b) → b.node ≡ node_at (stand_in program player) n
 node_of_body program player live n b h of =
     let a = stand_in program player in
     let t = there program a player.net.history player.used live.played.history live.played.able n h in
     (body_there program player live t.place t.process b t.is (λ y e. of t.place y t.at e)).0 ∙ sym (node_is program a player.net.history player.used live.played.history live.played.able n t)
 
 pub node_within : (program : Program) (player : Player Compiled) (live : IsLive program player) (n : ℕ) (b : Body) → Among n player.able.numbers.items
-    → ((q : Place) (y : CodeProc) → slice_get (order_of player.net.stacks.entries) n ≡ Some q → get (procs_of player.net.stacks.entries) q ≡ Some y → Some b ≡ y.body) → b.node < main_nodes program
+    → IsBodyAt player.net.stacks n (Some b) → b.node < main_nodes program
 node_within program player live n b h of =
     let low = node_low program (stand_in program player) player.net.history player.used live.played.history live.played.able n h in
     let same = node_of_body program player live n b h of in
@@ -70,7 +70,7 @@ node_within program player live n b h of =
 
 -- the nodes of main's machine, before the first piece
 pub nodes_of_main : (program : Program) (player : Player Compiled) (live : IsLive program player) (b : Body) → player.net.history ≡ []
-    → ((q : Place) (y : CodeProc) → slice_get (order_of player.net.stacks.entries) 0 ≡ Some q → get (procs_of player.net.stacks.entries) q ≡ Some y → Some b ≡ y.body) → b.machine.count ≡ main_nodes program
+    → IsBodyAt player.net.stacks 0 (Some b) → b.machine.count ≡ main_nodes program
 nodes_of_main program player live b none of =
     let a = stand_in program player in
     let began : a ≡ stand_with program [] player.able.numbers.items = live.stand_is ∙ ap (λ (ts : List Turn). stand_with program ts player.able.numbers.items) none in

@@ -17,9 +17,7 @@ use Rattle.fm_run.specs.Runs.{steps_of}
 use Rattle.fm_run.specs.declared.player.Player.{Player}
 use Rattle.fm_run.proofs.Following.{entries_more, moved_is}
 use Rattle.fm_run.proofs.Numbers.{among_is, is_among_from}
-use Rattle.fm_outcome_code.specs.Sound.{IsSound}
-use Rattle.fm_outcome_code.specs.declared.compiled.Compiled.{Compiled}
-use Rattle.fm_table.specs.Inside.{HasEntered, HasMade, IsAsItWas, IsLive, IsStanding, MakesSo, stand_in, stand_kept}
+use Rattle.fm_table.specs.Inside.{Compiled, HasEntered, HasMade, IsAsItWas, IsLive, IsSound, IsStanding, MakesSo, stand_in, stand_kept}
 use Rattle.fm_table.specs.Told.{cost_by, has_some, led_by, stand_with}
 use Rattle.fm_table.specs.declared.making.Way.{Way}
 use Rattle.fm_table.specs.declared.standing.Standing.{Standing}
@@ -64,7 +62,7 @@ module _ (program : Program) (player : Player Compiled) (live : IsLive program p
   }
 
 -- an entry more in memory leads where the schedule does
-pub live_more : (program : Program) (t : Turn) (old new : Player Compiled) → IsLive program old → HasMade program t old new → IsSound program new.net.stacks new.net.history
+pub live_more : (program : Program) (t : Turn) (old new : Player Compiled) → IsLive program old → HasMade program t old new → IsSound program new.net
     → IsPlayed program (stand_in program new) new.net.stacks.channels new.net.history new.parents.items new.able.marks.items new.used → IsLive program new
 live_more program t old new was made sound now =
     let there : stand_in program new ≡ after_entry program (stand_with program old.net.history old.able.numbers.items) t =
@@ -139,7 +137,7 @@ module _ (program : Program) (old new : Player Compiled) (n : ℕ) where
   made_not_none (Err x) e h = cc e
 
   pub steps_live : (r : Result ℕ NoMemory) → IsLive program old → IfOk r (λ k. HasMade program (turn_of n k) old new)
-      → OnOk r (IsSound program new.net.stacks new.net.history) → OnOk r (IsPlayed program (stand_in program new) new.net.stacks.channels new.net.history new.parents.items new.able.marks.items new.used) → OnOk r (IsLive program new)
+      → OnOk r (IsSound program new.net) → OnOk r (IsPlayed program (stand_in program new) new.net.stacks.channels new.net.history new.parents.items new.able.marks.items new.used) → OnOk r (IsLive program new)
   steps_live (Ok k) was made sound now = live_more program (turn_of n k) old new was made sound now
   steps_live (Err x) was made sound now = tt
 
@@ -267,7 +265,7 @@ requeued program old new s net parents paid is_live paths used ready there back 
     }
 
 -- before the first piece they stand where no entry leads
-pub first_live : (program : Program) (player : Player Compiled) → IsSound program player.net.stacks player.net.history → IsPlayed program (stand_in program player) player.net.stacks.channels player.net.history player.parents.items player.able.marks.items player.used
+pub first_live : (program : Program) (player : Player Compiled) → IsSound program player.net → IsPlayed program (stand_in program player) player.net.stacks.channels player.net.history player.parents.items player.able.marks.items player.used
     → stand_in program player ≡ first_stand program → player.net.history ≡ [] → IsLive program player
 first_live program player sound played stand none = record {
   sound = sound;

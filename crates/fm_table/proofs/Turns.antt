@@ -13,9 +13,8 @@ use Rattle.fm_run.specs.Orders.{Among, AreMarked, EachOnce, chosen, others_in}
 use Rattle.fm_run.specs.Programs.{IsFrontWithin, can_at}
 use Rattle.fm_run.specs.declared.player.Player.{Player}
 use Rattle.fm_run.proofs.Numbers.{among_either, among_filter, among_get, among_is, among_left, among_right, filter_among, in_filter, is_among_from, not_own, once_append, once_filter}
-use Rattle.fm_outcome_code.specs.declared.compiled.Compiled.{Compiled}
 use Rattle.fm_table.specs.Giving.{GivesTo, taken, taken_for}
-use Rattle.fm_table.specs.Inside.{EntersTo, HasEntered, HasMade, IsAsItWas, IsGivenSo, IsStanding, IsTable, MakesSo, stand_kept, told_in}
+use Rattle.fm_table.specs.Inside.{Compiled, EntersTo, HasEntered, HasMade, IsAsItWas, IsGivenSo, IsStanding, IsTable, MakesSo, stand_kept, told_in}
 use Rattle.fm_table.specs.Told.{HaveStarts, IsBodyOf, IsKept, Out, Told, cost_of, is_out, led_by, numbers_out, ready_in, ready_of, stand_of, stand_with, start_in, with_entry, without}
 use Rattle.fm_table.specs.Turning.{TurnsFor, TurnsTo}
 use Rattle.fm_table.specs.declared.making.Way.{Way}

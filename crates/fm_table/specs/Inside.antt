@@ -12,30 +12,41 @@ use Rattle.fm_machine.specs.declared.done.Done.{Done}
 use Rattle.fm_procs.specs.Readings.{order_of}
 use Rattle.fm_run.specs.Entries.{turn_of}
 use Rattle.fm_run.specs.Orders.{Among, EachOnce, others_in, places_of}
-use Rattle.fm_run.specs.Programs.{AreAble, IsEntry, IsFrontWithin, IsFull, IsPlayed, IsPlayedBy, Stand, can_at, ready_after}
+use Rattle.fm_run.specs.Programs.{AreAble, IsEntry, IsFrontWithin, IsFull, IsPlayed, IsPlayedBy, Stand, can_at, play_of, ready_after}
 use Rattle.fm_run.specs.Runs.{place_of, stand_at, steps_of}
 use Rattle.fm_run.specs.declared.orders.Queue.{Queue}
 use Rattle.fm_run.specs.declared.player.Player.{Player}
-use Rattle.fm_outcome_code.specs.Played.{played}
-use Rattle.fm_outcome_code.specs.Sound.{IsSound}
-use Rattle.fm_outcome_code.specs.declared.compiled.Compiled.{Compiled}
+use Rattle.fm_run_code.specs.Played.{played}
+use Rattle.fm_run_code.specs.Sound as nets
+use Rattle.fm_run_code.specs.declared.net.CodeNet.{CodeNet}
+use Rattle.fm_outcome_code.specs.Corresponds as meaning
+use Rattle.fm_outcome_code.specs.Corresponds.{Corresponds}
 use Rattle.fm_table.specs.Planned.{mapped}
 use Rattle.fm_table.specs.Told.{HaveStarts, Out, Told, cost_by, cost_of, has_some, numbers_out, stand_of, stand_with, with_entry}
 use Rattle.fm_table.specs.declared.outside.Taken.{Taken}
+use Rattle.fm_table.specs.declared.programs.Programs.{Programs}
 use Rattle.fm_table.specs.declared.shares.Shares.{Shares}
 use Rattle.fm_table.specs.declared.standing.Standing.{Standing}
 use Rattle.fm_table.specs.declared.making.Way.{Way}
 use Rattle.fm_table.specs.declared.making.Way.TheVariants as way
 
+-- the processes and channels of a program's code, and the pieces that they made
+abbrev pub Compiled : Type 0
+Compiled = CodeNet Programs
+
+-- they stand for those of the state of the meaning to which the pieces lead
+abbrev pub IsSound : Program → Compiled → Type 0
+IsSound program net = nets.IsSound (play_of program) (Corresponds program) (meaning.IsLive program) net.stacks net.history
+
 -- where the processes in memory stand
 abbrev pub stand_in : Program → Player Compiled → Stand
 stand_in program player =
     let places = order_of player.net.stacks.entries in
-    stand_at (played program player.net.history places) places player.able.numbers.items
+    stand_at (played (play_of program) player.net.history places) places player.able.numbers.items
 
 -- they stand where the schedule leads
 pub record IsLive (program : Program) (player : Player Compiled) : Type 0 where
-  pub sound : IsSound program player.net.stacks player.net.history
+  pub sound : IsSound program player.net
   pub played : IsPlayed program (stand_in program player) player.net.stacks.channels player.net.history player.parents.items player.able.marks.items player.used
   pub stand_is : stand_in program player ≡ stand_with program player.net.history player.able.numbers.items
 

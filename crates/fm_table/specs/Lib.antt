@@ -1,3 +1,4 @@
+pub mod Coded
 pub mod Told
 pub mod Planned
 pub mod Turning

@@ -15,6 +15,7 @@ mod laws;
 mod making;
 mod outside;
 mod piece;
+mod programs;
 mod reviving;
 mod running;
 mod shared;

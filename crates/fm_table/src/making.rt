@@ -5,15 +5,15 @@ ghost use Rattle.fm_base.specs.declared.schedule.Turn.{Turn as Entry};
 ghost use Rattle.fm_mean.specs.Outcome.{outcome_of};
 ghost use Rattle.fm_net.specs.Machine.{Place};
 ghost use Rattle.fm_run.specs.Entries.{MayHaveEntry, turn_of};
-ghost use Rattle.fm_outcome_code.specs.Given.{IsOwn};
+ghost use Rattle.fm_run_code.specs.Given.{IsOwn};
 ghost use Rattle.fm_run.specs.Orders.{Among, KeepsFront, places_of};
 ghost use Rattle.fm_run.specs.Programs.{can_at};
 ghost use Rattle.fm_table.specs.Inside.{HasMade, IsAsked, IsGivenSo, IsLive, MakesSo, stand_in};
 
+use crate::programs::Compiled;
 use fm_base::{NoMemory, Path};
 use fm_machine::Done;
 use fm_mean::Outcome;
-use fm_outcome_code::Compiled;
 use fm_procs::no_procs;
 use fm_rules::Program;
 use fm_run::{Net, Player};

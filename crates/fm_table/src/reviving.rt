@@ -4,8 +4,8 @@ ghost use Rattle.std.specs.Prelude.{◌≡◌, ◌==◌, ◌++◌, ◌∷◌, []
 ghost use Rattle.fm_table.specs.Inside.{IsLive};
 
 use crate::making::{Way, make_steps};
+use crate::programs::Compiled;
 use fm_base::{NoMemory, Turn};
-use fm_outcome_code::Compiled;
 use fm_rules::Program;
 use fm_run::Player;
 use std::alloc::Global;

@@ -10,10 +10,10 @@ ghost use Rattle.fm_table.specs.Planned.{first_of, mapped, worker_at};
 ghost use Rattle.fm_table.specs.Told.{ready_in};
 
 use crate::outside::{Taken, choose_ready};
+use crate::programs::Compiled;
 use crate::standing::Standing;
 use fm_base::{NoMemory, Setup};
 use fm_map::worker_of;
-use fm_outcome_code::Compiled;
 use fm_run::{Player, Queue};
 use std::alloc::Global;
 use std::collections::VecDeque;

@@ -10,10 +10,10 @@ ghost use Rattle.fm_table.specs.Inside.{HasEntered, IsAsItWas, IsAsked, IsStandi
 ghost use Rattle.fm_table.specs.Told.{cost_by, has_some};
 
 use crate::making::{Way, let_go, make_steps, outcome_in, put_paths};
+use crate::programs::Compiled;
 use crate::reviving::play_again;
 use fm_base::{NoMemory, Path};
 use fm_mean::Outcome;
-use fm_outcome_code::Compiled;
 use fm_rules::Program;
 use fm_run::{History, Net, Player, Queue};
 use std::alloc::Global;

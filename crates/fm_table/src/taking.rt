@@ -1,15 +1,13 @@
 //! The body of a process, copied, so that its piece can be made outside.
 
 ghost use Rattle.std.specs.Prelude.{◌≡◌, Some, slice_get, IfOk};
-ghost use Rattle.std.specs.FinMap.{get};
-ghost use Rattle.fm_net.specs.Machine.{Place};
-ghost use Rattle.fm_proc_language.specs.Processes.{CodeProc};
-ghost use Rattle.fm_procs.specs.Readings.{order_of, procs_of};
+ghost use Rattle.fm_procs.specs.Readings.{order_of};
 ghost use Rattle.fm_run.specs.Orders.{place_in};
+ghost use Rattle.fm_run_code.specs.Given.{IsBodyAt};
 
+use crate::programs::Compiled;
 use fm_base::{NoMemory, Path};
 use fm_code::{Body, copy_body};
-use fm_outcome_code::Compiled;
 use std::alloc::Global;
 use std::sync::Arc;
 
@@ -28,7 +26,7 @@ pub(crate) struct Start {
 /// as want of memory costs nothing.
 pub(crate) fn start_of(alloc: Global, net: &Compiled, number: u32) -> Result<Start, NoMemory>
     ensures kept { IfOk result (λ s. s.kept.value ≡ s.start.value) }
-    ensures body { IfOk result (λ s. (q : Place) (y : CodeProc) → slice_get (order_of net.now.stacks.entries) number ≡ Some q → get (procs_of net.now.stacks.entries) q ≡ Some y → Some s.start.value ≡ y.body) }
+    ensures body { IfOk result (λ s. IsBodyAt net.now.stacks number (Some s.start.value)) }
     ensures path { IfOk result (λ s. slice_get (order_of net.now.stacks.entries) number ≡ Some (place_in s.path)) }
 {
     let Some(body) = net.body_of(number) else {

@@ -76,10 +76,11 @@ use Rattle.fm_net_procs.specs.contracts.entries.Entry as kept
 use Rattle.fm_net_procs.specs.contracts.processes.Processes as processes
 use Rattle.fm_procs.specs.contracts.process.CodeProcess as code_process
 use Rattle.fm_run.proofs.history.History.TheSendSync as history
-use Rattle.fm_outcome_code.specs.contracts.compiled.Compiled as compiled
+use Rattle.fm_run_code.specs.contracts.net.CodeNet as net
 use Rattle.fm_table.proofs.outside.Taken.TheSendSync as taken
 use Rattle.fm_table.proofs.shares.Shares.TheSendSync as shares
 use Rattle.fm_table.specs.contracts.piece.Piece as piece
+use Rattle.fm_table.specs.contracts.programs.Programs as programs
 use Rattle.fm_table.specs.contracts.standing.Standing as standing
 use Rattle.fm_table.specs.contracts.table.Table as table
 use Rattle.fm_table.specs.contracts.table.Table.TheInside as inside_table
@@ -318,13 +319,13 @@ entries_send = search (sendable, crosses, path_send, path_sync, kept_send) depth
 code_procs_send : IsSend (processes.the_row code_process.the_row looked.the_row worked.the_row)
 code_procs_send = declared_send (processes.the_type code_process.the_row looked.the_row worked.the_row) (search (may_send, entries_send, channels_send, work.the_send) depth 12)
 
-compiled_send : IsSend compiled.the_row
-compiled_send = declared_send compiled.the_type (search (may_send, code_procs_send, history.the_send) depth 12)
+net_send : IsSend (net.the_row programs.the_row)
+net_send = declared_send (net.the_type programs.the_row) (search (may_send, code_procs_send, history.the_send) depth 12)
 
 -- ---- the table, and its pieces
 
 standing_send : IsSend standing.the_row
-standing_send = search (sendable, crosses, compiled_send, path_send, path_sync) depth 20
+standing_send = search (sendable, crosses, net_send, path_send, path_sync) depth 20
 
 inside_table_send : IsSend inside_table.the_row
 inside_table_send = declared_send inside_table.the_type (search (may_send, program_send, program_sync, setup.the_send, standing_send, taken.the_send, shares.the_send) depth 12)

@@ -4,7 +4,7 @@ use Rattle.fm_net.specs.Owned.{main_alone}
 use Rattle.fm_procs.specs.Readings.{state_of}
 use Rattle.fm_outcome_code.specs.Shown.{first_process}
 use Rattle.fm_outcome_code.proofs.FirstProcess.{stacks_made}
-use Rattle.fm_outcome_code.proofs.first.first_stacks.Goals as goal
+use Rattle.fm_outcome_code.proofs.first.program_stacks.Goals as goal
 
 pub returns-clause-state : goal.returns-clause-state
 returns-clause-state c =
