@@ -1,6 +1,3 @@
-pub mod Counts
-pub mod Fairness
-pub mod SamePlaces
 pub mod Fewness
 pub mod Paths
 pub mod Outs

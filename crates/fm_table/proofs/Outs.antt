@@ -18,7 +18,7 @@ use Rattle.fm_table.specs.Inside.{out_of, outs_of}
 use Rattle.fm_table.specs.Outs.{IsPlaceOut, behind}
 use Rattle.fm_table.specs.Told.{Out, is_out, numbers_out, ready_in, start_in, without}
 use Rattle.fm_table.specs.declared.outside.Taken.{Taken}
-use Rattle.fm_table.proofs.Counts.{filter_all}
+use Rattle.fm_run_law.proofs.Counts.{filter_all}
 use native.Mathlib.Decide.{ℕ_discrete}
 
 -- ---- where a process stands among them

@@ -5,4 +5,3 @@ pub mod Turning
 pub mod Giving
 pub mod Outs
 pub mod Inside
-pub mod Fair
