@@ -1,7 +1,8 @@
 -- What is compiled is the text of an image that makes sense, with the program's code.
-use Rattle.std.proofs.Common.{ℕ, List, sym, subst, ◌∙◌}
+use Rattle.std.proofs.Common.{ℕ, ◌≤◌, List, length, sym, subst, ◌∙◌}
 use Rattle.fm_base.specs.declared.schedule.Turn.{Turn}
 use Rattle.fm_net.specs.Machine.{Place}
+use Rattle.fm_rules.specs.declared.program.Program.{Program}
 use Rattle.fm_verdict.specs.Program.{IsCheckedOf}
 use Rattle.fm_gen.specs.Bodies.{KeepsProgram}
 use Rattle.fm_gen.specs.Programs.{code_of}
@@ -10,21 +11,46 @@ use Rattle.fm_image.specs.ImageOf.{image_of}
 use Rattle.fm_image_names.proofs.Variables.{checked_named}
 use Rattle.fm_verify.proofs.Codes.{same_code}
 use Rattle.fm_verify.proofs.Makes.{makes_sense}
+use Rattle.fm_execute_law.specs.Compiled.{IsTextOf}
+use Rattle.fm_execute_law.proofs.SameTexts.{same_object}
 use Rattle.fm_words.specs.declared.command.Command.TheVariants as command
 use Rattle.fmc.specs.declared.answer.Exit.TheVariants.{Done}
 use Rattle.fmc.specs.Answer.{Says}
 use Rattle.fmc.specs.Compiled.{IsCompiledOf}
+use Rattle.fmc.specs.Outcomes.{source_limit}
+use Rattle.fmc.proofs.ExecSaid.{typed_or_bad}
 
-pub compiled : (b : List ℕ) (h : List Turn) (ps : List Place) (t : List ℕ) → Says command.Compile b Done h ps t → IsCompiledOf b t
-compiled b h ps t k =
+-- the text is that of the source's program
+pub record IsTextOfSource (source text : List ℕ) : Type 0 where
+  pub within : length source ≤ source_limit
+  pub program : Program
+  pub lawful : IsCheckedOf source program
+  pub is_text : IsTextOf program text
+
+pub compiled_text : (b : List ℕ) (h : List Turn) (ps : List Place) (t : List ℕ) → Says command.Compile b Done h ps t → IsTextOfSource b t
+compiled_text b h ps t k =
     let p = k.tells.program in
     let lawful : IsCheckedOf b p = record { statements = k.statements; read = k.read; clean = k.clean; checked = k.tells.checked } in
     record {
+      within = k.within;
       program = p;
       lawful = lawful;
-      image = image_of p (code_of p);
-      object = k.unplayed.text_is ∙ k.tells.object;
-      sense = makes_sense p (checked_named b p lawful);
+      is_text = record { named = checked_named b p lawful; object = k.unplayed.text_is ∙ k.tells.object };
+    }
+
+pub compiled : (b : List ℕ) (h : List Turn) (ps : List Place) (t : List ℕ) → Says command.Compile b Done h ps t → IsCompiledOf b t
+compiled b h ps t k =
+    let c = compiled_text b h ps t k in
+    let p = c.program in
+    let own = image_of p (code_of p) in
+    let sense = makes_sense p c.is_text.named in
+    record {
+      program = p;
+      lawful = c.lawful;
+      image = own;
+      object = c.is_text.object;
+      sense = sense;
       code = same_code p;
       keeps = subst (KeepsProgram p) (sym (same_code p)) (keeps_program p);
+      verified = λ unit bad. typed_or_bad t own (same_object t own bad.image sense c.is_text.object bad.object) sense unit bad;
     }

@@ -11,22 +11,27 @@ use Rattle.fm_object.proofs.MalformedLaws.{no_line_of_an_object, one_first_line,
 use Rattle.fm_verify_law.specs.Typed.{IsBad, One, UnitIsTyped, Whole}
 use Rattle.fm_image_law.proofs.Laid.{one_of}
 use Rattle.fm_execute.specs.Executed.{IsExecuted, IsUnverified}
-use Rattle.fm_execute_law.proofs.Programs.{run_of_text, text_follows}
+use Rattle.fm_execute_law.proofs.Programs.{text_executes}
+use Rattle.fm_image_play.specs.Play.{image_play}
 use Rattle.fm_run.specs.Orders.{places_of}
 use Rattle.fm_run.specs.declared.run.Ending.{Ending}
 use Rattle.fm_run.specs.declared.run.Ending.TheVariants as ending
 use Rattle.fm_run.specs.declared.run.Run as run
+use Rattle.fm_run_law.specs.Fair.{IsRunInTurn}
+use Rattle.fm_run_law.proofs.OneRun.{one_run}
 use Rattle.fm_words.specs.declared.command.Command.TheVariants as command
 use Rattle.fmc.specs.declared.answer.Exit.{Exit}
 use Rattle.fmc.specs.declared.answer.Exit.TheVariants as exits
 use Rattle.fmc.specs.declared.answer.Reply.{Reply}
 use Rattle.fmc.specs.Answer.{IsPlayedExit, Says, SaysRun, report_asked}
 use Rattle.fmc.specs.Exits.{is_decided}
-use Rattle.fmc.specs.Executes.{IsExecutedSo, IsObjectOf, SaysExec, bad_object_text, object_limit, ran_text, unverified_text}
-use Rattle.fmc.specs.OneReplay.{IsOneAnswer}
-use Rattle.fmc.specs.Outcomes.{IsUnplayed, exit_in, source_limit}
+use Rattle.fmc.specs.Compiled.{ExecTellsRun}
+use Rattle.fmc.specs.Executes.{IsExecutedSo, SaysExec, bad_object_text, object_limit, ran_text, unverified_text}
+use Rattle.fmc.specs.OneAnswer.{HasOneAnswer, HaveOneCause, IsOneAnswer}
+use Rattle.fmc.specs.Outcomes.{IsUnplayed, exit_in}
 use Rattle.fmc.specs.Reply.{IsReply, bytes_of, text_in}
-use Rattle.fmc.proofs.AnswerLaws.{not_played, run_played, run_says, turned_fair}
+use Rattle.fmc.proofs.AnswerLaws.{not_played, run_played, run_says}
+use Rattle.fmc.proofs.Compiled.{IsTextOfSource, compiled_text}
 use Rattle.fmc.proofs.ExecSaid.{Finds, found, typed_or_bad}
 
 -- what is told of a run is its report, or that it was spent
@@ -82,21 +87,19 @@ ran_of turns vars b exit h ps t (inr (inr (inr (inr k)))) p = absurd (untold exi
     untold exit (inl e) p = not_played exits.NoMemory exit e (λ e. cc e, λ e. cc e, λ e. cc e, λ e. cc e) p
     untold exit (inr e) p = not_played exits.ReadFault exit e (λ e. cc e, λ e. cc e, λ e. cc e, λ e. cc e) p
 
-tells_run : (source bytes : List ℕ) → length source ≤ source_limit → (o : IsObjectOf source bytes) → (turns : ℕ) (vars : Bool) (exit : Exit) (h : List Turn) (ps : List Place) (t : List ℕ)
-    → IsExecutedSo turns vars exit bytes h ps t → SaysRun (report_asked turns vars []) source exit h ps t
-tells_run source bytes le o turns vars exit h ps t k =
-    let r = k.ran.run in
-    let runs = run_of_text o.program bytes o.object turns r k.ran.executed in
-    let follows = text_follows o.program bytes o.object turns r k.ran.executed in
-    let text : t ≡ text_in (report_asked turns vars []) r.history.items (places_of r.paths.items) r.ending =
-    k.text_is ∙ sym (same_text turns vars r.history.items (places_of r.paths.items) r.ending) in
-    rw (k.exit_is, k.ran.history_is, k.ran.places_are, text)
-    (run_says source (report_asked turns vars []) r le
-    (record { program = o.program; lawful = o.lawful; runs = runs; fair = λ none. turned_fair o.program turns 1000 r runs follows }))
+module _ (source bytes : List ℕ) (c : IsTextOfSource source bytes) where
+  tells_run : (turns : ℕ) (vars : Bool) (exit : Exit) (h : List Turn) (ps : List Place) (t : List ℕ) → IsExecutedSo turns vars exit bytes h ps t → SaysRun (report_asked turns vars []) source exit h ps t
+  tells_run turns vars exit h ps t k =
+      let r = k.ran.run in
+      let told = text_executes c.program bytes c.is_text turns r k.ran.executed in
+      let text : t ≡ text_in (report_asked turns vars []) r.history.items (places_of r.paths.items) r.ending =
+      k.text_is ∙ sym (same_text turns vars r.history.items (places_of r.paths.items) r.ending) in
+      rw (k.exit_is, k.ran.history_is, k.ran.places_are, text)
+      (run_says source (report_asked turns vars []) r c.within (record { program = c.program; lawful = c.lawful; runs = told.runs; fair = λ none spent free. told.fair }))
 
-pub tells_the_run : (source bytes : List ℕ) → length source ≤ source_limit → IsObjectOf source bytes → (turns : ℕ) (vars : Bool) (exit : Exit) (h : List Turn) (ps : List Place) (t : List ℕ)
-    → Says (command.Exec turns vars) bytes exit h ps t → IsPlayedExit exit → SaysRun (report_asked turns vars []) source exit h ps t
-tells_the_run source bytes le o turns vars exit h ps t k p = tells_run source bytes le o turns vars exit h ps t (ran_of turns vars bytes exit h ps t (found turns vars bytes exit h ps t k) p)
+pub tells_the_run : (source bytes : List ℕ) (h : List Turn) (ps : List Place) → Says command.Compile source exits.Done h ps bytes → ExecTellsRun source bytes
+tells_the_run source bytes h ps compiled = λ turns vars exit i qs t k played.
+    tells_run source bytes (compiled_text source h ps bytes compiled) turns vars exit i qs t (ran_of turns vars bytes exit i qs t (found turns vars bytes exit i qs t k) played)
 
 -- ---- one cause
 
@@ -185,5 +188,35 @@ module _ (b : List ℕ) (turns others : ℕ) (vars shown : Bool) (x y : Exit) (h
   one_finding (inr (inr (inl k))) (inr (inr (inr (inr l)))) = absurd (told_only y dy my l.0)
   one_finding (inr (inr (inr (inl k)))) (inr (inr (inr (inr l)))) = absurd (told_only y dy my l.0)
 
-  pub one_cause : Says (command.Exec turns vars) b x h ps t → Says (command.Exec others shown) b y i qs u → AreOne x y h i ps qs t u
+  one_cause : SaysExec turns vars b x h ps t → SaysExec others shown b y i qs u → AreOne x y h i ps qs t u
   one_cause k l = one_finding (found turns vars b x h ps t k) (found others shown b y i qs u l)
+
+pub exec_cause : (b : List ℕ) (turns others : ℕ) (vars shown : Bool) → HaveOneCause (Says (command.Exec turns vars) b) (Says (command.Exec others shown) b)
+exec_cause b turns others vars shown = λ x y h i ps qs t u dx dy k l. one_cause b turns others vars shown x y h i ps qs t u dx.0 dx.1 dy.0 dy.1 k l
+
+-- ---- one run
+
+module _ (b : List ℕ) (turns : ℕ) (vars : Bool) (x y : Exit) (h i : List Turn) (ps qs : List Place) (t u : List ℕ) where
+  -- of one image, under the same turns
+  one_played : IsExecutedSo turns vars x b h ps t → IsExecutedSo turns vars y b i qs u → IsOneAnswer x y h i ps qs t u
+  one_played k l =
+      let own = k.ran.executed in
+      let theirs = l.ran.executed in
+      let r = k.ran.run in
+      let s = l.ran.run in
+      let other : IsRunInTurn (image_play own.image) 1000 turns s =
+      subst (λ (m : Image). IsRunInTurn (image_play m) 1000 turns s) (one_object_text b theirs.image own.image theirs.object own.object) theirs.of_image in
+      let one = one_run (image_play own.image) 1000 [] turns r s own.of_image.runs other.runs own.of_image.in_turn other.in_turn in
+      record {
+        exits = k.exit_is ∙ ap exit_in one.endings ∙ sym l.exit_is;
+        histories = k.ran.history_is ∙ one.histories ∙ sym l.ran.history_is;
+        places = k.ran.places_are ∙ one.places ∙ sym l.ran.places_are;
+        texts = k.text_is ∙ ap (ran_text turns vars) one.endings ∙ sym l.text_is;
+      }
+
+  by_cause : SaysExec turns vars b x h ps t → SaysExec turns vars b y i qs u → AreOne x y h i ps qs t u → IsOneAnswer x y h i ps qs t u
+  by_cause k l (inl played) = one_played (ran_of turns vars b x h ps t (found turns vars b x h ps t k) played.0) (ran_of turns vars b y i qs u (found turns vars b y i qs u l) played.1)
+  by_cause k l (inr one) = one
+
+pub exec_answer : (b : List ℕ) (turns : ℕ) (vars : Bool) → HasOneAnswer (Says (command.Exec turns vars) b)
+exec_answer b turns vars = λ x y h i ps qs t u dx dy k l. by_cause b turns vars x y h i ps qs t u k l (one_cause b turns turns vars vars x y h i ps qs t u dx.0 dx.1 dy.0 dy.1 k l)

@@ -1,8 +1,10 @@
 pub mod ExecSaid
 pub mod AnswerLaws
+pub mod SaidLaws
+pub mod SourceLaws
 pub mod ReplayLaws
 pub mod OneReplay
 pub mod NodesLaws
+pub mod Compiled
 pub mod ExecLaws
 pub mod WordLaws
-pub mod Compiled

@@ -21,7 +21,8 @@ use Rattle.fmc.specs.Answer.{Says, SaysNodes, report_asked}
 use Rattle.fmc.specs.Outcomes.{IsRefusedFor, IsUnplayed, source_limit, exit_in}
 use Rattle.fmc.specs.Plain.{PlainOrNot, unplain_text}
 use Rattle.fmc.specs.Reply.{bytes_of, places_in, IsReply, text_in}
-use Rattle.fmc.proofs.AnswerLaws.{hosts_run, run_says, said_by_hosts}
+use Rattle.fmc.proofs.AnswerLaws.{hosts_run, run_says}
+use Rattle.fmc.proofs.SaidLaws.{said_by_hosts}
 
 -- of a program that hosts played
 pub nodes_say_run : (b : List ℕ) (turns : ℕ) (vars : Bool) (program : Program) (r : run.Run) → length b ≤ source_limit → IsCheckedOf b program → IsRun program turns r → ∥ IsPlainVerdict program None ∥₁

@@ -25,7 +25,7 @@ use Rattle.fm_trace.proofs.MalformedLaws.{no_line_of_a_trace, one_first_line, on
 use Rattle.fmc.specs.declared.answer.Exit.{Exit}
 use Rattle.fmc.specs.declared.answer.Exit.TheVariants.{Done, Faulted, Deadlocked, Refused, Spent, Usage, ReadFault, WriteFault, NoMemory, TooLong, Malformed, Illegal, Unfinished, BadObject, Unverified, NotPlain}
 use Rattle.fmc.specs.Exits.{is_decided}
-use Rattle.fmc.specs.OneReplay.{IsOneAnswer}
+use Rattle.fmc.specs.OneAnswer.{HasOneAnswer}
 use Rattle.fmc.specs.Outcomes.{IsRefusedFor, IsUnplayed, cost_of, exit_of, source_limit, state_after}
 use Rattle.fmc.specs.Replay.{AsksForMore, ComesTo, CostsMore, EndsBefore, EndsProgram, IsReplayed, IsTooLongTrace, LacksSteps, SaysReplay, trace_limit}
 
@@ -274,11 +274,10 @@ module _ (verdicts : OneVerdict) (programs : OneProgram) (either : ProgramOrRefu
   one_finding vars b x y t u (inr (inr k)) (inr (inl l)) = absurd (no_line_of_a_trace b k.trace k.read l.1 l.2)
   one_finding vars b x y t u (inr (inr k)) (inr (inr l)) = one_judged vars b x y t u k l
 
-  pub one_answer : (vars : Bool) (b : List ℕ) (x y : Exit) (h i : List Turn) (ps qs : List Place) (t u : List ℕ) → is_decided x ≡ true → x ≢ NoMemory → is_decided y ≡ true → y ≢ NoMemory
-      → SaysReplay vars b x h ps t → SaysReplay vars b y i qs u → IsOneAnswer x y h i ps qs t u
-  one_answer vars b x y h i ps qs t u dx mx dy my k l =
-      let f = found vars b x h ps t dx mx k in
-      let g = found vars b y i qs u dy my l in
+  pub one_answer : (vars : Bool) (b : List ℕ) → HasOneAnswer (SaysReplay vars b)
+  one_answer vars b = λ x y h i ps qs t u dx dy k l.
+      let f = found vars b x h ps t dx.0 dx.1 k in
+      let g = found vars b y i qs u dy.0 dy.1 l in
       let r = one_finding vars b x y f.told g.told f.finds g.finds in
       record {
         exits = r.0;

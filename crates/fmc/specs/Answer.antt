@@ -34,8 +34,8 @@ use Rattle.fm_flow_law.specs.Flow.{IsFlowSafe, IsFlowVerdict}
 use Rattle.fm_verdict.specs.Verdict.{IsBroken, AreStatementsOf}
 use Rattle.fm_verdict.specs.Program.{IsCheckedOf}
 use Rattle.fm_run.specs.Runs.{HaveSteps}
-use Rattle.fm_run.specs.Programs.{Follows, IsFrontWithin}
-use Rattle.fm_table.specs.Fair.{IsFair}
+use Rattle.fm_run.specs.Programs.{Follows, IsFrontWithin, play_of}
+use Rattle.fm_run_law.specs.Fair.{IsFair}
 use Rattle.fm_trace.specs.Texts.{IsFirstMalformed, IsTraceText, trace_of_history, trace_text}
 use Rattle.fm_make.specs.Made.{made_text}
 use Rattle.fm_words.specs.Words.{command_of}
@@ -95,7 +95,7 @@ pub record IsSpent (source : List ℕ) (asked : Asked) (history : List Turn) (pl
   pub text_is : text ≡ asked.tells_spent history
   -- where nobody chose, and the program isn't deterministic, each process that could step came before as many entries as there are
   -- processes
-  pub fair : asked.chosen ≡ [] → (IsDeterministic program → ⊥) → IsFair program history places
+  pub fair : asked.chosen ≡ [] → (IsDeterministic program → ⊥) → IsFair (play_of program) history places
   -- where the program is deterministic, so does every schedule that ends
   pub spent_for_all : IsDeterministic program → (others : List Place) → IsEnding (step program) (first program) others → asked.turns < cost_of program others
 

@@ -4,10 +4,6 @@ use Rattle.std.specs.Prelude.{◌≡◌, ℕ, ◌<◌, ◌≤◌, Bool, List, []
 use Rattle.std.specs.Fmt.{decimal}
 use Rattle.fm_base.specs.declared.schedule.Turn.{Turn}
 use Rattle.fm_net.specs.Machine.{Place}
-use Rattle.fm_rules.specs.declared.program.Program.{Program}
-use Rattle.fm_verdict.specs.Program.{IsCheckedOf}
-use Rattle.fm_gen.specs.Programs.{code_of}
-use Rattle.fm_image.specs.ImageOf.{image_of}
 use Rattle.fm_object.specs.declared.image.Image.{Image}
 use Rattle.fm_object.specs.Texts.{IsFirstMalformed, IsObjectText}
 use Rattle.fm_verify_law.specs.Typed.{Typed}
@@ -31,7 +27,7 @@ ran_text turns vars (ending.Ended o) = report_text vars o
 ran_text turns vars ending.Spent = spent_text turns
 
 -- the bytes are the text of an image that makes sense, and the schedule is one of its own machine, from its PROGRAM alone on, under these
--- turns, with its processes in the order of starting; those that can step were served in turn
+-- turns, with its processes in the order of starting; those that can step were served in turn, and so it is fair
 pub record IsObjectHistory (b : List ℕ) (turns : ℕ) (history : List Turn) (places : List Place) : Type 0 where
   pub run : Run
   pub executed : IsExecuted b turns run
@@ -98,9 +94,3 @@ HasBadLine b = (length b ≤ object_limit) × (line : ℕ) × IsFirstMalformed b
 -- the text of an image that makes no sense
 abbrev pub HasBadUnit : List ℕ → Type 0
 HasBadUnit b = (length b ≤ object_limit) × (unit : ℕ) × IsUnverified b unit
-
--- the text of the image of a source's program and its code
-pub record IsObjectOf (source bytes : List ℕ) : Type 0 where
-  pub program : Program
-  pub lawful : IsCheckedOf source program
-  pub object : IsObjectText bytes (image_of program (code_of program))

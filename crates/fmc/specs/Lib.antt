@@ -4,8 +4,8 @@ pub mod Listing
 pub mod Plain
 pub mod Executes
 pub mod Replay
-pub mod OneReplay
 pub mod Answer
+pub mod OneAnswer
 pub mod Calling
 pub mod Reply
 pub mod Compiled

@@ -13,11 +13,11 @@ use Rattle.fm_gen.specs.Programs.{code_of}
 use Rattle.fm_image.specs.ImageOf.{image_of}
 use Rattle.fm_object.specs.Texts.{object_text}
 use Rattle.fm_verdict.specs.Program.{IsCheckedOf}
-use Rattle.fm_run.specs.Programs.{Follows, IsRun}
+use Rattle.fm_run.specs.Programs.{Follows, IsRun, play_of}
 use Rattle.fm_run.specs.declared.run.Run as run
 use Rattle.fm_run.specs.declared.run.Ending.{Ending}
 use Rattle.fm_run.specs.declared.run.Ending.TheVariants.{Ended, Spent}
-use Rattle.fm_table.specs.Fair.{IsFair}
+use Rattle.fm_run_law.specs.Fair.{IsFair}
 use Rattle.fm_table.specs.Told.{Told}
 use Rattle.fm_words.specs.declared.command.Command.{Command}
 use Rattle.fmc.specs.declared.answer.Ran.{Ran}
@@ -63,7 +63,7 @@ is_spent_by Spent = true
 
 -- where it was spent, and the program isn't deterministic, its schedule is fair
 abbrev pub IsFairlySpent : Program → run.Run → Type 0
-IsFairlySpent program r = r.ending ≡ Spent → (IsDeterministic program → ⊥) → IsFair program r.history.items (places_of r.paths.items)
+IsFairlySpent program r = r.ending ≡ Spent → (IsDeterministic program → ⊥) → IsFair (play_of program) r.history.items (places_of r.paths.items)
 
 -- a run of the checked program of a source, which is fair where nobody chose
 pub record IsRunOf (source : List ℕ) (turns : ℕ) (chosen : List ℕ) (r : run.Run) : Type 0 where

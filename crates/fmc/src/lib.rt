@@ -18,6 +18,7 @@ mod top;
 pub use answer::{Exit, Ran};
 pub use call::{exit_of_call, words};
 pub use laws::{
-    compiled_makes_sense, exec_has_one_cause, exec_tells_the_run, replay_has_one_answer,
+    compiled_makes_sense, exec_has_one_answer, exec_has_one_cause, exec_tells_the_run,
+    replay_has_one_answer,
 };
 pub use top::{flow_excludes_deadlock, fmc, one_verdict, play_choices, replay_tells_the_run};

@@ -1,4 +1,4 @@
-use Rattle.fmc.proofs.AnswerLaws.{excludes_deadlock}
+use Rattle.fmc.proofs.SaidLaws.{excludes_deadlock}
 use Rattle.fmc.proofs.top.flow_excludes_deadlock.Goals as goal
 
 pub returns : goal.returns

@@ -4,7 +4,8 @@ use Rattle.fm_words.specs.Words.{command_of}
 use Rattle.fm_words.specs.declared.command.Command.TheVariants as command
 use Rattle.fmc.specs.Answer.{IsBadObjectExit, IsCompleted, IsRefusedExit, IsMalformedExit, IsTooLongExit, IsUnplainExit, IsUnverifiedExit, are_reading}
 use Rattle.fmc.specs.Reply.{bytes_of, places_in}
-use Rattle.fmc.proofs.AnswerLaws.{when_told, said_of, says_history, answered, completed, refused_of, too_long_by, malformed_by, no_read_fault, unplain_by}
+use Rattle.fmc.proofs.SaidLaws.{says_history, completed, refused_of, too_long_by, malformed_by, no_read_fault, unplain_by}
+use Rattle.fmc.proofs.SourceLaws.{when_told, said_of, answered}
 use Rattle.fmc.proofs.ExecSaid.{exec_malformed, exec_unverified, found}
 use Rattle.fmc.proofs.top.fmc.Goals as goal
 

@@ -1,7 +1,7 @@
 use Rattle.std.proofs.Common.{[], map, sym, ap, ◌∙◌}
 use Rattle.fm_words.specs.Fails.{is_usage}
 use Rattle.fm_words.specs.Words.{command_of}
-use Rattle.fmc.proofs.AnswerLaws.{no_memory_says, usage_says, reply_to_any, unread_words}
+use Rattle.fmc.proofs.SourceLaws.{no_memory_says, usage_says, reply_to_any, unread_words}
 use Rattle.fmc.proofs.top.respond.Goals as goal
 
 pub returns-in-Err-NoMemory-clause-reply : goal.returns-in-Err-NoMemory-clause-reply

@@ -1,6 +1,6 @@
 use Rattle.std.proofs.Common.{ℕ, ◌<◌, length, ap, refl, subst}
 use Rattle.std.specs.Prelude.{Some, Err, IfSome}
-use Rattle.fmc.proofs.AnswerLaws.{no_memory_says, reply_to_any, reply_to_read, reply_to_fault, reply_to_long}
+use Rattle.fmc.proofs.SourceLaws.{no_memory_says, reply_to_any, reply_to_read, reply_to_fault, reply_to_long}
 use Rattle.fmc.proofs.top.respond_to.Goals as goal
 
 pub returns-in-Ok-clause-reply : goal.returns-in-Ok-clause-reply
