@@ -24,6 +24,8 @@ mod language;
 #[cfg(test)]
 mod made;
 #[cfg(test)]
+mod nodes;
+#[cfg(test)]
 mod pieces;
 #[cfg(test)]
 mod placement;

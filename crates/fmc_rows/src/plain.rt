@@ -7,7 +7,7 @@ use std::alloc::Global;
 use std::test::Fail;
 
 /// Words travel from one process to another one.
-const WORDS: &[u8] = b"      program example
+pub(crate) const WORDS: &[u8] = b"      program example
       inport (integer) pi
       outport (integer) po
       channel(in=pi, out=po)
@@ -38,7 +38,7 @@ const WORDS: &[u8] = b"      program example
 ";
 
 /// A port is sent to another process.
-const PORT: &[u8] = b"      PROGRAM MOVE
+pub(crate) const PORT: &[u8] = b"      PROGRAM MOVE
       INPORT (INTEGER) P
       OUTPORT (INTEGER) Q
       INPORT (OUTPORT (INTEGER)) R
@@ -71,7 +71,7 @@ const PORT: &[u8] = b"      PROGRAM MOVE
 ";
 
 /// Two processes send to one.
-const MERGER: &[u8] = b"      PROGRAM MERGE
+pub(crate) const MERGER: &[u8] = b"      PROGRAM MERGE
       INPORT (INTEGER) P
       OUTPORT (INTEGER) Q(2)
       MERGER(IN=P,OUT=Q)
