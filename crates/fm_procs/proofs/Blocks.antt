@@ -11,12 +11,12 @@ use Rattle.fm_net.proofs.Children.{first_gathered, not_own_child, off_children}
 use Rattle.fm_net.proofs.Keys.{path_order}
 use Rattle.fm_proc_language.specs.Processes.{CodeProc, emptied, has_ended}
 use Rattle.fm_proc_language.specs.Slots.{Slots}
-use Rattle.fm_proc.specs.declared.joining.OpenJoin.{OpenJoin}
-use Rattle.fm_proc.specs.Joinings.{HasRoomToJoin}
-use Rattle.fm_proc.specs.declared.joining.Left.{Left}
-use Rattle.fm_proc.specs.Lefts.{left_by, left_of}
-use Rattle.fm_proc.specs.Rooms.{left_room, lefts_room}
-use Rattle.fm_proc.proofs.Joinings.{less_room}
+use Rattle.fm_procs.specs.declared.joining.OpenJoin.{OpenJoin}
+use Rattle.fm_procs.specs.Joinings.{HasRoomToJoin}
+use Rattle.fm_procs.specs.declared.joining.Left.{Left}
+use Rattle.fm_procs.specs.Lefts.{left_by, left_of}
+use Rattle.fm_procs.specs.Rooms.{left_room, lefts_room}
+use Rattle.fm_procs.proofs.Joinings.{less_room}
 use Rattle.fm_net.specs.declared.kids.Family.{Family}
 use Rattle.fm_procs.specs.Blocks.{HasRoomFrom}
 use Rattle.fm_procs.specs.Kept.{AreChildren}

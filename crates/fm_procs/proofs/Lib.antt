@@ -1,3 +1,9 @@
+pub mod Beginnings
+pub mod Endings
+pub mod Joinings
+pub mod FrameRooms
+pub mod Droppings
+pub mod PutEnd
 pub mod Awaited
 pub mod Letting
 pub mod Served

@@ -4,8 +4,8 @@ use Rattle.std.specs.Prelude.{IfOk}
 use Rattle.fm_net.specs.Machine.{Place}
 use Rattle.fm_proc_language.specs.Needs.{is_local}
 use Rattle.fm_proc_language.specs.Processes.{CodeProc, Phase, Running, Joining, Ended, Faulted, emptied}
-use Rattle.fm_proc.specs.declared.advancing.Advanced.{Advanced}
-use Rattle.fm_proc.specs.Runs.{Runs}
+use Rattle.fm_procs.specs.declared.advancing.Advanced.{Advanced}
+use Rattle.fm_procs.specs.Runs.{Runs}
 use Rattle.fm_machine_calls.specs.declared.looking.Look.TheVariants.{Stuck}
 use Rattle.fm_proc_events.specs.Told.{look_by, look_of}
 use Rattle.fm_procs.specs.Readings.{code_of, Entries, Entry, proc_in, procs_of}

@@ -11,8 +11,8 @@ use Rattle.fm_net.specs.Starts.{child_places, starts_at}
 use Rattle.fm_proc_language.specs.Needs.{is_local}
 use Rattle.fm_proc_language.specs.Processes.{CodeProc, Phase, code_language}
 use Rattle.fm_machine_calls.specs.declared.looking.Look.TheVariants as look
-use Rattle.fm_proc.specs.declared.advancing.Advanced.{Advanced}
-use Rattle.fm_proc.specs.Runs.{with_ran}
+use Rattle.fm_procs.specs.declared.advancing.Advanced.{Advanced}
+use Rattle.fm_procs.specs.Runs.{with_ran}
 use Rattle.fm_proc_events.specs.Told.{is_running, look_of, runs_by}
 use Rattle.fm_net_procs.specs.declared.piece.Piece.{Piece as CodePiece}
 use Rattle.fm_procs.specs.Pieces.{Finishes, IsFull, IsNewAlong, IsNewAt, IsPiece, Makes, StepsOrWaits, after_steps, is_local_at, is_local_in, is_used_up, most_steps}

@@ -19,7 +19,7 @@ use Rattle.fm_code.specs.Statements as code
 use Rattle.fm_code.specs.Statements.{Action, Own, Ran, action_of, grown, not_moved, one_more, own_alone, ran, run}
 use Rattle.fm_proc_language.specs.Needs.{is_local, is_local_action, is_local_by}
 use Rattle.fm_proc_language.specs.Processes.{CodeProc, Running, asks, asks_by, code_language, onward, running_by}
-use Rattle.fm_proc.specs.Runs.{with_ran}
+use Rattle.fm_procs.specs.Runs.{with_ran}
 use Rattle.fm_procs.specs.Pieces.{Makes, after_steps, is_local_at, is_local_in}
 use Rattle.fm_procs.specs.Readings.{code_step}
 

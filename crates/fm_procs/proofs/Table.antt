@@ -17,8 +17,8 @@ use Rattle.fm_machine_calls.specs.declared.looking.Look.{Look}
 use Rattle.fm_machine_calls.specs.declared.looking.Look.TheVariants as look
 use Rattle.fm_proc_language.specs.Needs.{is_local, need_in, need_of}
 use Rattle.fm_proc_language.specs.Processes.{CodeProc, Phase, Running, Joining, Ended, Faulted, asks, asks_by, code_language, joined, joining_by}
-use Rattle.fm_proc.specs.declared.advancing.Advanced.{Advanced}
-use Rattle.fm_proc.specs.Runs.{Runs}
+use Rattle.fm_procs.specs.declared.advancing.Advanced.{Advanced}
+use Rattle.fm_procs.specs.Runs.{Runs}
 use Rattle.fm_proc_events.specs.Performs.{MakesNew, Performs}
 use Rattle.fm_proc_events.specs.Told.{is_joining, joins_by, look_by, look_of}
 use Rattle.fm_procs.specs.Pieces.{IsNewAlong, IsNewAt, is_used_up}

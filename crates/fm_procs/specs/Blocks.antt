@@ -4,10 +4,10 @@ use Rattle.std.specs.Prelude.{◌≡◌, ℕ, ◌+◌, Some, List, [], map}
 use Rattle.std.specs.FinMap.{get, insert}
 use Rattle.fm_net.specs.Machine.{Place, Procs, gathered}
 use Rattle.fm_proc_language.specs.Processes.{CodeProc, has_ended}
-use Rattle.fm_proc.specs.declared.joining.OpenJoin.{OpenJoin}
-use Rattle.fm_proc.specs.Joinings.{HasJoined, HasRoomToJoin}
-use Rattle.fm_proc.specs.Lefts.{left_by}
-use Rattle.fm_proc.specs.Rooms.{lefts_room}
+use Rattle.fm_procs.specs.declared.joining.OpenJoin.{OpenJoin}
+use Rattle.fm_procs.specs.Joinings.{HasJoined, HasRoomToJoin}
+use Rattle.fm_procs.specs.Lefts.{left_by}
+use Rattle.fm_procs.specs.Rooms.{lefts_room}
 use Rattle.fm_net.specs.declared.kids.Family.{Family}
 use Rattle.fm_procs.specs.Kept.{AreChildren}
 use Rattle.fm_procs.specs.Readings.{Entries, order_of, procs_of}

@@ -1,3 +1,9 @@
+pub mod Lefts
+pub mod Runs
+pub mod Gains
+pub mod Joinings
+pub mod Rooms
+pub mod Drafts
 pub mod Readings
 pub mod Kept
 pub mod Blocks

@@ -8,13 +8,13 @@ use Rattle.fm_code.specs.declared.ask.Ask.{Ask}
 use Rattle.fm_code.specs.declared.ask.Ask.TheVariants as ask
 use Rattle.fm_proc_language.specs.Needs.{is_local}
 use Rattle.fm_proc_language.specs.Processes.{CodeProc}
-use Rattle.fm_proc.specs.declared.advancing.Advanced.{Advanced}
+use Rattle.fm_procs.specs.declared.advancing.Advanced.{Advanced}
 use Rattle.fm_machine_calls.specs.declared.looking.Look.{Look}
 use Rattle.fm_machine_calls.specs.declared.looking.Look.TheVariants as look
 use Rattle.fm_net_procs.specs.declared.piece.Stop as table
 use Rattle.fm_net_procs.specs.declared.piece.Stop.TheVariants as stop
 use Rattle.fm_proc_events.specs.Performs.{Joins}
-use Rattle.fm_proc.specs.Runs.{Runs}
+use Rattle.fm_procs.specs.Runs.{Runs}
 use Rattle.fm_proc_events.specs.Told.{look_of}
 
 -- the statement behind a join

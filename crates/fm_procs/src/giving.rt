@@ -19,7 +19,8 @@ use fm_machine::Done;
 use fm_machine_calls::Look;
 use fm_machine_instr::Work;
 use fm_net_procs::{Actor, Piece, local_piece};
-use fm_proc::{Advanced, put_end};
+use crate::advancing::Advanced;
+use crate::putting::put_end;
 use std::alloc::Global;
 
 // A process gets the end of a slice that was made from a copy of it.

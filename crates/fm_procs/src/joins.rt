@@ -11,9 +11,9 @@ ghost use Rattle.fm_net.specs.Starts.{starts_at};
 ghost use Rattle.fm_proc_language.specs.Processes.{CodeProc, code_language, emptied, has_ended as is_done};
 ghost use Rattle.fm_code.specs.declared.ask.Ask.TheVariants as ask;
 ghost use Rattle.fm_machine_calls.specs.declared.looking.Look.TheVariants as look;
-ghost use Rattle.fm_proc.specs.Joinings.{HasJoined, HasRoomToJoin};
-ghost use Rattle.fm_proc.specs.Lefts.{left_by};
-ghost use Rattle.fm_proc.specs.Rooms.{left_room, lefts_room};
+ghost use Rattle.fm_procs.specs.Joinings.{HasJoined, HasRoomToJoin};
+ghost use Rattle.fm_procs.specs.Lefts.{left_by};
+ghost use Rattle.fm_procs.specs.Rooms.{left_room, lefts_room};
 ghost use Rattle.fm_proc_events.specs.Told.{is_joining, look_of};
 ghost use Rattle.fm_procs.specs.Blocks.{HasRoomFrom, HaveEnded, OpensAt};
 ghost use Rattle.fm_procs.specs.Kept.{AreChildren, AreFamilies, AreFamiliesBut, AreToldBut};
@@ -26,7 +26,8 @@ use fm_chan::Channels;
 use fm_code::Ask;
 use fm_net::{Family, number_behind};
 use fm_net_procs::Actor;
-use fm_proc::{OpenJoin, left_room, open_join};
+use crate::joining::{OpenJoin, open_join};
+use crate::measuring::left_room;
 use std::alloc::Global;
 
 /// The statement behind a join.

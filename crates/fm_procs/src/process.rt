@@ -16,7 +16,10 @@ use fm_code::Ask;
 use fm_machine_calls::Look;
 use fm_machine_instr::Work;
 use fm_net_procs::{Actor, Advanced, Done, JoiningProc, Proc, Stop};
-use fm_proc::{Advanced as Made, Left, StepEnd, advance, next_look, perform, release};
+use crate::advancing::{Advanced as Made, advance};
+use crate::joining::{Left, release};
+use crate::performing::{StepEnd, perform};
+use crate::telling::next_look;
 use fm_proc_events::{Phase, Process};
 use std::alloc::Global;
 
@@ -99,7 +102,7 @@ impl Proc for CodeProcess {
     ghost use Rattle.fm_code.specs.declared.body.Body as bodies;
     ghost use Rattle.fm_proc_language.specs.Processes as code;
     ghost use Rattle.fm_proc_language.specs.Slots as slots;
-    ghost use Rattle.fm_proc.specs.Lefts.{left_by, left_of};
+    ghost use Rattle.fm_procs.specs.Lefts.{left_by, left_of};
     ghost use Rattle.fm_proc_events.specs.Told.{look_of};
     ghost use Rattle.fm_procs.specs.Readings.{awaits, code_of};
     ghost use Rattle.fm_proc_language.specs.Needs.{is_local};

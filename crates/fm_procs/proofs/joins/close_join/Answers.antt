@@ -4,9 +4,9 @@ use Rattle.std.specs.Box.{with_value}
 use Rattle.fm_finmap.proofs.Rows.{there as stands_there}
 use Rattle.fm_proc_language.specs.Processes.{CodeProc}
 use Rattle.fm_proc_events.specs.declared.process.Process.{Process}
-use Rattle.fm_proc.specs.Joinings.{HasJoined}
+use Rattle.fm_procs.specs.Joinings.{HasJoined}
 use Rattle.fm_proc_events.specs.Phases.{proc_of}
-use Rattle.fm_proc.specs.Lefts.{left_by}
+use Rattle.fm_procs.specs.Lefts.{left_by}
 use Rattle.fm_procs.specs.Readings.{actor_place, awaits, code_of, proc_in}
 use Rattle.fm_net_procs.proofs.Maps.{found, puts_one, there, told_put}
 use Rattle.fm_procs.specs.Kept.{IsNext}

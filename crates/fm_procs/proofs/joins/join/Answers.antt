@@ -3,7 +3,7 @@ use Rattle.std.specs.FinMap.{insert}
 use Rattle.fm_finmap.specs.Changes.{alters}
 use Rattle.fm_net.specs.Machine.{Place, Procs, child_changes, gathered}
 use Rattle.fm_proc_language.specs.Processes.{CodeProc, emptied, has_ended}
-use Rattle.fm_proc.specs.Joinings.{HasRoomToJoin}
+use Rattle.fm_procs.specs.Joinings.{HasRoomToJoin}
 use Rattle.fm_procs.specs.Kept.{AreChildren}
 use Rattle.fm_procs.specs.Readings.{actor_place, awaits, code_of, procs_of}
 use Rattle.fm_procs.proofs.Blocks.{gathered_past, meanwhile, stands_meanwhile}

@@ -2,7 +2,7 @@ use Rattle.std.proofs.Common.{◌≡◌, ap, sym, ◌∙◌}
 use Rattle.std.specs.Prelude.{option_map}
 use Rattle.std.specs.Option.{option_copied}
 use Rattle.std.proofs.lemmas.Result.{IfOk-weaker}
-use Rattle.fm_proc.specs.Rooms.{left_room}
+use Rattle.fm_procs.specs.Rooms.{left_room}
 use Rattle.fm_proc_events.specs.declared.process.Process.{Process}
 use Rattle.fm_proc_events.specs.Phases.{proc_of}
 use Rattle.fm_proc_language.specs.Processes.{CodeProc}

@@ -1,8 +1,8 @@
 use Rattle.std.proofs.Common.{◌≡◌, ◌+◌, ◌<◌, ℕ, suc, List, map, refl, sym, ap, ap₂, ◌∙◌, arith, rules}
 use Rattle.fm_net.specs.Machine.{child, gathered}
 use Rattle.fm_proc_language.specs.Processes.{CodeProc, has_ended}
-use Rattle.fm_proc.specs.Lefts.{left_by}
-use Rattle.fm_proc.specs.Rooms.{lefts_room}
+use Rattle.fm_procs.specs.Lefts.{left_by}
+use Rattle.fm_procs.specs.Rooms.{lefts_room}
 use Rattle.fm_procs.specs.Readings.{order_of, procs_of}
 use Rattle.fm_procs.proofs.Blocks.{room_more}
 use Rattle.fm_net_procs.proofs.Families.{child_number}

@@ -2,8 +2,8 @@ use Rattle.std.proofs.Common.{◌≡◌, ℕ, List, map}
 use Rattle.std.specs.Prelude.{Some}
 use Rattle.fm_net.specs.Machine.{Place, gathered}
 use Rattle.fm_proc_language.specs.Processes.{CodeProc, has_ended}
-use Rattle.fm_proc.specs.Lefts.{left_by}
-use Rattle.fm_proc.specs.Rooms.{lefts_room}
+use Rattle.fm_procs.specs.Lefts.{left_by}
+use Rattle.fm_procs.specs.Rooms.{lefts_room}
 use Rattle.fm_procs.specs.Kept.{AreChildren}
 use Rattle.fm_procs.specs.Readings.{order_of, procs_of}
 use Rattle.fm_procs.proofs.joins.lefts_room.Given as goal

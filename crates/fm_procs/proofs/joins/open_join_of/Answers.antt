@@ -5,7 +5,7 @@ use Rattle.std.proofs.lemmas.Result.{IfOk-weaker}
 use Rattle.fm_finmap.proofs.Rows.{there as stands_there}
 use Rattle.fm_proc_language.specs.Processes.{CodeProc}
 use Rattle.fm_proc_events.specs.declared.process.Process.{Process}
-use Rattle.fm_proc.specs.Joinings.{HasJoined}
+use Rattle.fm_procs.specs.Joinings.{HasJoined}
 use Rattle.fm_proc_events.specs.Phases.{proc_of}
 use Rattle.fm_procs.specs.Readings.{actor_place, awaited_in, awaits, code_of, Entries, order_of, proc_in}
 use Rattle.fm_procs.proofs.Blocks.{either_way, when_err}

@@ -6,9 +6,9 @@ use Rattle.fm_finmap.specs.Changes.{alter, alters}
 use Rattle.fm_net.specs.Machine.{child, child_changes, gathered}
 use Rattle.fm_proc_language.specs.Processes.{emptied, has_ended}
 use Rattle.fm_proc_language.specs.Slots.{Slots}
-use Rattle.fm_proc.specs.Joinings.{HasJoined, HasRoomToJoin}
-use Rattle.fm_proc.specs.Lefts.{left_by, left_of}
-use Rattle.fm_proc.specs.Rooms.{left_room}
+use Rattle.fm_procs.specs.Joinings.{HasJoined, HasRoomToJoin}
+use Rattle.fm_procs.specs.Lefts.{left_by, left_of}
+use Rattle.fm_procs.specs.Rooms.{left_room}
 use Rattle.fm_procs.specs.Readings.{order_of, procs_of}
 use Rattle.fm_procs.specs.Waiting.{ended_at}
 use Rattle.fm_procs.proofs.Blocks.{body_left, next_child, next_left}

@@ -3,8 +3,8 @@ use Rattle.std.specs.Prelude.{Some}
 use Rattle.fm_finmap.specs.Changes.{alters}
 use Rattle.fm_net.specs.Machine.{Place, child_changes, gathered}
 use Rattle.fm_proc_language.specs.Processes.{CodeProc, emptied, has_ended}
-use Rattle.fm_proc.specs.Joinings.{HasJoined}
-use Rattle.fm_proc.specs.Lefts.{left_by}
+use Rattle.fm_procs.specs.Joinings.{HasJoined}
+use Rattle.fm_procs.specs.Lefts.{left_by}
 use Rattle.fm_procs.specs.Blocks.{HasRoomFrom}
 use Rattle.fm_procs.specs.Kept.{AreChildren, AreFamilies, AreToldBut}
 use Rattle.fm_procs.specs.Readings.{order_of, procs_of}

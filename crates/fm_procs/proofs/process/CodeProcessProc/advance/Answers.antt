@@ -6,7 +6,7 @@ use Rattle.fm_machine_calls.specs.declared.looking.Look.{Look}
 use Rattle.fm_machine_calls.specs.declared.looking.Look.TheVariants as look
 use Rattle.fm_net_procs.specs.declared.piece.Stop.{Stop}
 use Rattle.fm_net_procs.specs.Stepping.{Advances}
-use Rattle.fm_proc.specs.Runs.{Runs}
+use Rattle.fm_procs.specs.Runs.{Runs}
 use Rattle.fm_proc_language.specs.Needs.{is_local}
 use Rattle.fm_proc_language.specs.Processes.{CodeProc, code_language}
 use Rattle.fm_proc_events.specs.Phases.{proc_of}

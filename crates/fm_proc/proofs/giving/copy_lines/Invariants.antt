@@ -1,5 +1,0 @@
-use Rattle.std.proofs.Common.{◌≡◌, ◌++◌, take}
-use Rattle.fm_proc.proofs.giving.copy_lines.Given as goal
-
-abbrev pub invariant-copies : goal.invariant-copies
-invariant-copies l = l.lines ≡ l.initial.lines ++ take l.line-index l.more

@@ -1,6 +1,0 @@
-use Rattle.std.proofs.Common.{◌≡◌, ◌+◌, drop}
-use Rattle.fm_proc.specs.Rooms.{frames_room}
-use Rattle.fm_proc.proofs.measuring.frames_room.Given as goal
-
-abbrev pub invariant-frames : goal.invariant-frames
-invariant-frames l = l.room + frames_room l.code (drop l.frame-index l.frames) ≡ frames_room l.code l.frames

@@ -1,6 +1,0 @@
-pub mod Lefts
-pub mod Runs
-pub mod Gains
-pub mod Joinings
-pub mod Rooms
-pub mod Drafts
