@@ -40,7 +40,7 @@ use Rattle.fm_gen_relation.proofs.PortWords.{empty_alike, close_alike, move_alik
 use Rattle.fm_gen.specs.Entries.{address_of, statement_address, join_address, unit_code}
 use Rattle.fm_gen.specs.Units.{unit_of_code}
 use Rattle.fm_gen.specs.Programs.{code_of}
-use Rattle.fm_gen_statements.specs.Steps.{LeavesFrame, LeavesCode, Site, Passes, ClosesAlike, MovesAlike, Agree, AsksAlike}
+use Rattle.fm_gen.specs.Steps.{LeavesFrame, LeavesCode, Site, Passes, ClosesAlike, MovesAlike, Agree, AsksAlike}
 use Rattle.fm_gen.specs.Kept.{site_at}
 use Rattle.fm_gen.specs.Bodies.{next_address, IsAlive, StandsFor, StepsAlike, MeetsAlike, DoesAlike, DoesNext, KeepsProgram}
 use Rattle.fm_gen_relation.proofs.Units.{sound_unit}

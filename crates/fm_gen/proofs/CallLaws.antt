@@ -38,7 +38,7 @@ use Rattle.fm_gen_relation.specs.Laws.{passed_words, OpensAlike}
 use Rattle.fm_gen.specs.Entries.{address_of, statement_address}
 use Rattle.fm_gen.specs.Units.{unit_of_code}
 use Rattle.fm_gen.specs.Programs.{code_of}
-use Rattle.fm_gen_statements.specs.Steps.{Site, Passes, CallsAlike, RefersAlike, StartsAlike, seat_by}
+use Rattle.fm_gen.specs.Steps.{Site, Passes, CallsAlike, RefersAlike, StartsAlike, seat_by}
 use Rattle.fm_gen.specs.Kept.{site_at}
 use Rattle.fm_gen.specs.Bodies.{StandsFor, StepsAlike, DoesAlike}
 use Rattle.fm_gen.proofs.StandLaws.{statement_begins, unit_found, no_results, evaluates_by, backs_by, same_below, none_begun, begun, one_more, stands_after}

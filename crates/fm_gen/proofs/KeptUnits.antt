@@ -21,19 +21,19 @@ use Rattle.fm_gen_relation.specs.Frames.{Stands, AreResults}
 use Rattle.fm_gen_relation.proofs.Done.{all_done}
 use Rattle.fm_gen_operands.specs.Places.{arguments_code}
 use Rattle.fm_gen_operands.specs.Keeps.{KeepsActuals}
-use Rattle.fm_gen_statements.specs.Statements.{statement_code, reference_operands, reference_end}
+use Rattle.fm_gen.specs.Statements.{statement_code, reference_operands, reference_end}
 use Rattle.fm_gen.specs.Entries.{reference_code, references_code, address_of, statement_in, statement_address, join_in, join_address, unit_code}
-use Rattle.fm_gen_statements.specs.Steps.{Site, Agree}
+use Rattle.fm_gen.specs.Steps.{Site, Agree}
 use Rattle.fm_gen.specs.Kept.{site_at, KeepsUnit}
 use Rattle.fm_gen.proofs.Ends.{whole_alone}
 use Rattle.fm_gen_relation.proofs.Units.{sound_unit}
 use Rattle.fm_gen_relation.proofs.Entries.{sound_entry}
 use Rattle.fm_gen_operands.proofs.ActualLaws.{keeps_actuals}
-use Rattle.fm_gen_statements.proofs.CallStatements.{reference_follows}
+use Rattle.fm_gen.proofs.CallStatements.{reference_follows}
 use Rattle.fm_gen.proofs.ReferenceLaws.{reference_ended}
 use Rattle.fm_gen.proofs.UnitLaws.{entry_there, statement_ended}
 use Rattle.fm_gen.proofs.Standings.{reference_stands, reference_next, statement_stands}
-use Rattle.fm_gen_statements.proofs.StatementLaws.{statement_follows}
+use Rattle.fm_gen.proofs.StatementLaws.{statement_follows}
 
 -- Places of references.
 

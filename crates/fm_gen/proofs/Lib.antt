@@ -1,3 +1,14 @@
+pub mod Assigned
+pub mod StoreLaws
+pub mod PrintLaws
+pub mod LoopLaws
+pub mod LoopWords
+pub mod PortPlaces
+pub mod CutLaws
+pub mod PortLaws
+pub mod CallStatements
+pub mod StatementLaws
+pub mod NumberLaws
 pub mod Ends
 pub mod FormalRows
 pub mod ReferenceLaws

@@ -14,7 +14,7 @@ use Rattle.fm_mean.specs.Names.{ProgramUnit, Point, point_at, line_of}
 use Rattle.fm_code.specs.declared.code.Entry.{Entry}
 use Rattle.fm_code.specs.declared.instr.Instr.{Instr}
 use Rattle.fm_code.specs.Statements.{line_in, line_at}
-use Rattle.fm_gen_statements.specs.Statements.{Addresses, statement_code}
+use Rattle.fm_gen.specs.Statements.{Addresses, statement_code}
 use Rattle.fm_gen.specs.Entries.{references_code, references_length, entry_code, entries_code, address_of, statement_address, join_address}
 use Rattle.fm_gen.specs.Units.{entries_at, TellsLines, AddressesRise}
 use Rattle.fm_gen.proofs.Ends.{IsEnded}

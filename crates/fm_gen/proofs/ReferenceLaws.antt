@@ -11,7 +11,7 @@ use Rattle.fm_mean.specs.Names.{ProgramUnit, Point}
 use Rattle.fm_mean.specs.Evaluate.{Reference, Element, Call, Built, Unknown, reference_of}
 use Rattle.fm_mean.specs.Referring.{names_in}
 use Rattle.fm_code.specs.declared.instr.Instr.{Instr}
-use Rattle.fm_gen_statements.specs.Statements.{Addresses, refer, reference_operands, reference_end, statement_code}
+use Rattle.fm_gen.specs.Statements.{Addresses, refer, reference_operands, reference_end, statement_code}
 use Rattle.fm_gen.specs.Entries.{reference_code, references_code, references_length, entry_code}
 use Rattle.fm_gen.proofs.Ends.{IsEnd, IsEnded, Stores, Refers, closing}
 

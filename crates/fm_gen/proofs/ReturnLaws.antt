@@ -35,7 +35,7 @@ use Rattle.fm_gen_relation.proofs.Held.{held_alike, started_alike}
 use Rattle.fm_gen.specs.Entries.{statement_address}
 use Rattle.fm_gen.specs.Units.{unit_of_code}
 use Rattle.fm_gen.specs.Programs.{code_of}
-use Rattle.fm_gen_statements.specs.Steps.{ReturnsAlike, ResultsAlike}
+use Rattle.fm_gen.specs.Steps.{ReturnsAlike, ResultsAlike}
 use Rattle.fm_gen.specs.Kept.{site_at}
 use Rattle.fm_gen.specs.Bodies.{StandsFor, DoesAlike}
 use Rattle.fm_gen.proofs.StandLaws.{unit_found, evaluates_by, backs_of_units, same_below, stands_after}

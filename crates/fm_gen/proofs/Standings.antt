@@ -13,7 +13,7 @@ use Rattle.fm_mean.specs.Names.{ProgramUnit, Point, point_at}
 use Rattle.fm_code.specs.declared.instr.Instr.{Instr}
 use Rattle.fm_code.specs.declared.instr.Instr.TheVariants as instr
 use Rattle.fm_code.specs.declared.instr.Meet.TheVariants as meet
-use Rattle.fm_gen_statements.specs.Statements.{Addresses, reference_operands, statement_code}
+use Rattle.fm_gen.specs.Statements.{Addresses, reference_operands, statement_code}
 use Rattle.fm_gen.specs.Entries.{reference_code, references_code, references_length, entry_code, entries_code, address_of, statement_in, statement_address, join_in, join_address, unit_code}
 use Rattle.fm_gen.proofs.ReferenceLaws.{reference_long, references_same, references_at, references_next, all_references}
 use Rattle.fm_gen.proofs.UnitLaws.{entry_there, entries_length, standing}

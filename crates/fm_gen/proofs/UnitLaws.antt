@@ -33,10 +33,10 @@ use Rattle.fm_code.specs.declared.instr.Meet.TheVariants as meet
 use Rattle.fm_gen_operands.specs.Code.{place_code, trees_count, expression_code, expressions_code}
 use Rattle.fm_gen_operands.specs.Places.{arguments_code, seat_code, targets_code, var_code}
 use Rattle.fm_mean.specs.Referring.{names_in}
-use Rattle.fm_gen_statements.specs.Statements.{Addresses, goto, holds_word, variable_meant, first_store, locate_code, element_store, assigned_code, items_code, bounds_code, do_code, loop_code, again_code, end_code, loop_end_code, jump_code, call_by, result_word, return_code, start_by, block_code, cuts_code, send_code, extras_code, refs_behind, receive_end, receive_code, channel_code, merger_code, two_code, simple_code, statement_code}
+use Rattle.fm_gen.specs.Statements.{Addresses, goto, holds_word, variable_meant, first_store, locate_code, element_store, assigned_code, items_code, bounds_code, do_code, loop_code, again_code, end_code, loop_end_code, jump_code, call_by, result_word, return_code, start_by, block_code, cuts_code, send_code, extras_code, refs_behind, receive_end, receive_code, channel_code, merger_code, two_code, simple_code, statement_code}
 use Rattle.fm_gen.specs.Entries.{references_code, references_length, entry_code, entries_code, address_of, unit_code, starts_of}
 use Rattle.fm_gen_relation.specs.Frames.{loop_number}
-use Rattle.fm_gen_statements.specs.Tables.{address_in}
+use Rattle.fm_gen.specs.Tables.{address_in}
 use Rattle.fm_gen.proofs.Ends.{IsEnd, IsEnded, Goes, Tests, Stores, StoresAt, Enters, EndsTrip, Prints, Calls, Returns, ReturnsValue, Starts, Meets, alone, behind, closing}
 use Rattle.fm_gen.proofs.ReferenceLaws.{references_same}
 

@@ -21,7 +21,7 @@ use Rattle.fm_code.specs.Statements as code_actions
 use Rattle.fm_gen_relation.specs.Standing.{Slots}
 use Rattle.fm_gen_relation.specs.Frames.{FrameStands, BelowStand}
 use Rattle.fm_gen.specs.Entries.{address_of, statement_address, join_address}
-use Rattle.fm_gen_statements.specs.Steps.{AsksAlike}
+use Rattle.fm_gen.specs.Steps.{AsksAlike}
 use Rattle.fm_gen.specs.Kept.{site_at}
 
 -- where the next statement of a process is: at its entry, or at the join of its block

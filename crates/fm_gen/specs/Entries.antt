@@ -7,7 +7,7 @@ use Rattle.fm_tree.specs.declared.statement.Stmt.{Stmt}
 use Rattle.fm_rules.specs.declared.program.Program.{Program}
 use Rattle.fm_mean.specs.Names.{ProgramUnit, Point, point_at}
 use Rattle.fm_code.specs.declared.instr.Instr.{Instr}
-use Rattle.fm_gen_statements.specs.Statements.{Addresses, statement_code, reference_operands, reference_end}
+use Rattle.fm_gen.specs.Statements.{Addresses, statement_code, reference_operands, reference_end}
 
 -- References.
 

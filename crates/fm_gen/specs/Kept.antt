@@ -11,7 +11,7 @@ use Rattle.fm_code.specs.declared.instr.Instr.{Instr}
 use Rattle.fm_code.specs.Acts.{statement}
 use Rattle.fm_gen_relation.specs.Standing.{Slots, IsFrame}
 use Rattle.fm_gen_relation.specs.Frames.{Stands, ResultsFit}
-use Rattle.fm_gen_statements.specs.Steps.{Site, Agree}
+use Rattle.fm_gen.specs.Steps.{Site, Agree}
 use Rattle.fm_gen.specs.Entries.{address_of, statement_address, join_address}
 
 -- a site at an entry of a unit, in the code of a program

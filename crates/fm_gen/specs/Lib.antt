@@ -1,3 +1,7 @@
+pub mod Statements
+pub mod Steps
+pub mod Asking
+pub mod Tables
 pub mod Entries
 pub mod Kept
 pub mod Units

@@ -8,7 +8,7 @@ use Rattle.fm_mean.specs.Names.{ProgramUnit, Point, point_at, line_of}
 use Rattle.fm_code.specs.declared.code.Entry.{Entry}
 use Rattle.fm_code.specs.declared.code.Unit as code
 use Rattle.fm_code.specs.Statements.{line_at}
-use Rattle.fm_gen_statements.specs.Statements.{Addresses}
+use Rattle.fm_gen.specs.Statements.{Addresses}
 use Rattle.fm_gen.specs.Entries.{address_of, join_address, statement_address, unit_code}
 use Rattle.fm_gen_relation.specs.Frames.{loop_number}
 use Rattle.fm_gen_relation.specs.Formals.{ports_of, formals_of}

@@ -5,13 +5,14 @@ ghost use Rattle.std.specs.Option.{option_copied};
 ghost use Rattle.fm_mean.specs.Calls.{is_formal};
 ghost use Rattle.fm_mean.specs.Names.{formal_from};
 ghost use Rattle.fm_gen_relation.specs.Sound.{formals_among};
-ghost use Rattle.fm_gen_statements.specs.Tables.{address_by};
+ghost use Rattle.fm_gen.specs.Tables.{address_by};
 ghost use Rattle.fm_gen.specs.Units.{entries_at};
 ghost use Rattle.fm_gen_relation.specs.Formals.{formal_if, formal_of, formals_of, ports_of, span_of};
 
+use crate::addresses::Addresses;
+use crate::storing::is_word;
 use fm_base::{NoMemory, Seq};
 use fm_code::{Formal, Span};
-use fm_gen_statements::{Addresses, is_word};
 use fm_plain_frame::formal_place;
 use fm_symbols::Variable;
 use fm_tree::Entry;

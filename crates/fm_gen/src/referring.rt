@@ -5,7 +5,7 @@ ghost use Rattle.std.specs.Option.{option_copied};
 ghost use Rattle.fm_tree.specs.References.{reference_at};
 ghost use Rattle.fm_plain_frame.specs.Units.{unit_of};
 ghost use Rattle.fm_plain_frame.specs.References.{reference_by};
-ghost use Rattle.fm_gen_statements.specs.Statements.{refer, reference_end, reference_operands};
+ghost use Rattle.fm_gen.specs.Statements.{refer, reference_end, reference_operands};
 ghost use Rattle.fm_gen.specs.Entries.{reference_code, references_code};
 
 use fm_base::{NoMemory, Seq};

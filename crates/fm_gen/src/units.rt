@@ -3,18 +3,19 @@
 ghost use Rattle.std.specs.Prelude.{◌≡◌, ◌<◌, ◌++◌, [], length, IfOk, OnOk};
 ghost use Rattle.fm_mean.specs.Names.{point_at};
 ghost use Rattle.fm_plain_frame.specs.Units.{unit_of};
-ghost use Rattle.fm_gen_statements.specs.Statements.{loop_numbers};
+ghost use Rattle.fm_gen.specs.Statements.{loop_numbers};
 ghost use Rattle.fm_gen.specs.Entries.{address_of, entries_code, entry_code, starts_of, unit_code};
 ghost use Rattle.fm_gen_relation.specs.Frames.{opens_counted};
-ghost use Rattle.fm_gen_statements.specs.Tables.{address_by, address_in};
+ghost use Rattle.fm_gen.specs.Tables.{address_by, address_in};
 ghost use Rattle.fm_gen.specs.Units.{entries_at, loop_count, unit_of_code};
 
+use crate::addresses::Addresses;
 use crate::describing::{entries_at, formals_of, ports_of};
 use crate::referring::references;
+use crate::statements::{Site, statement};
 use fm_base::{NoMemory, Seq};
 use fm_code::{Instr, Unit};
 use fm_gen_operands::operand;
-use fm_gen_statements::{Addresses, Site, statement};
 use fm_plain_frame::UnitView;
 use fm_tree::{Entry, Stmt};
 use std::alloc::Global;

@@ -31,7 +31,7 @@ use Rattle.fm_code_kinds.specs.Effects.{Effect, Over, Ill, Taken, only_results, 
 use Rattle.fm_gen_relation.specs.Sound.{IsSoundUnit, IsVariable}
 use Rattle.fm_gen_relation.specs.Targets.{target_words}
 use Rattle.fm_gen_operands.specs.Places.{var_code, targets_code}
-use Rattle.fm_gen_statements.specs.Statements.{channel_code, merger_code, close_code, two_code}
+use Rattle.fm_gen.specs.Statements.{channel_code, merger_code, close_code, two_code}
 use Rattle.fm_object.specs.declared.image.FieldImage.{FieldImage}
 use Rattle.fm_gen_kinds.specs.Along.{LeavesPlace}
 use Rattle.fm_gen_kinds.specs.Counted.{AreCounted, VarFits}

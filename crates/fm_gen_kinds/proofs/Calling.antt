@@ -33,7 +33,7 @@ use Rattle.fm_gen_relation.specs.Sound.{IsSoundUnit, IsFull, formals_among}
 use Rattle.fm_gen_relation.proofs.Numbered.{formals_numbered}
 use Rattle.fm_gen_operands.specs.Code.{trees_count}
 use Rattle.fm_gen_operands.specs.Places.{arguments_code, seat_code}
-use Rattle.fm_gen_statements.specs.Statements.{call_by, start_by}
+use Rattle.fm_gen.specs.Statements.{call_by, start_by}
 use Rattle.fm_object.specs.declared.image.FieldImage.{FieldImage}
 use Rattle.fm_gen_kinds.specs.Counted.{AreCounted}
 use Rattle.fm_gen_kinds.specs.Passed.{AreArguments}

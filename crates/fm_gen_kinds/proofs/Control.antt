@@ -42,7 +42,7 @@ use Rattle.fm_gen_relation.specs.Sound.{IsSoundUnit, HasResult, is_word}
 use Rattle.fm_gen_operands.specs.Code.{place_code, trees_count, expression_code, expressions_code}
 use Rattle.fm_gen_operands.specs.Places.{locate, whole_span}
 use Rattle.fm_gen_operands.proofs.Follows.{IsAt, named_at}
-use Rattle.fm_gen_statements.specs.Statements.{goto, holds_word, variable_meant, first_store, locate_code, element_store, assigned_code, letters, show, words_shown, variable_shown, named_shown, value_shown, tree_shown, item_code, refs_in_item, items_code, print_code, is_logical_constant, is_logical, step_code, bounds_code, first_in, loop_word, loop_code, do_code, test_code, result_word, return_code, block_code}
+use Rattle.fm_gen.specs.Statements.{goto, holds_word, variable_meant, first_store, locate_code, element_store, assigned_code, letters, show, words_shown, variable_shown, named_shown, value_shown, tree_shown, item_code, refs_in_item, items_code, print_code, is_logical_constant, is_logical, step_code, bounds_code, first_in, loop_word, loop_code, do_code, test_code, result_word, return_code, block_code}
 use Rattle.fm_object.specs.declared.image.FieldImage.{FieldImage}
 use Rattle.fm_gen_kinds.specs.Along.{then_on, straight, along, LeavesWord}
 use Rattle.fm_gen_kinds.specs.Counted.{IsCounted, AreCounted, VariableFits}

@@ -29,7 +29,7 @@ use Rattle.fm_code_kinds.specs.Kinded.{IsAt, Kinded, results}
 use Rattle.fm_code_kinds.specs.Leading.{is_join, JoinsStand}
 use Rattle.fm_gen_relation.specs.Sound.{IsSoundUnit, IsFull}
 use Rattle.fm_gen_operands.specs.Places.{arguments_code}
-use Rattle.fm_gen_statements.specs.Statements.{statement_code, reference_operands, reference_end, refer}
+use Rattle.fm_gen.specs.Statements.{statement_code, reference_operands, reference_end, refer}
 use Rattle.fm_gen.specs.Entries.{reference_code, references_code, references_length, entry_code, entries_code, address_of, unit_code}
 use Rattle.fm_gen.specs.Units.{entries_at, loop_count, unit_of_code}
 use Rattle.fm_gen.proofs.LineLaws.{addresses_rise}

@@ -27,7 +27,7 @@ use Rattle.fm_gen_relation.proofs.Done.{count_both, refs_exprs_count, refs_extra
 use Rattle.fm_gen_relation.proofs.Entries.{sound_entry}
 use Rattle.fm_gen_relation.proofs.Targets.{targets_fit}
 use Rattle.fm_gen_relation.proofs.Units.{sound_unit}
-use Rattle.fm_gen_statements.specs.Statements.{simple_code}
+use Rattle.fm_gen.specs.Statements.{simple_code}
 use Rattle.fm_gen.specs.Entries.{address_of, entry_code}
 use Rattle.fm_gen.specs.Units.{loop_count, unit_of_code}
 use Rattle.fm_gen.proofs.UnitLaws.{entry_there}

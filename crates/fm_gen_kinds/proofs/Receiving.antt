@@ -42,7 +42,7 @@ use Rattle.fm_gen_relation.specs.Calls.{refs_in_extras}
 use Rattle.fm_gen_relation.specs.Sound.{IsSoundUnit, IsVariable}
 use Rattle.fm_gen_relation.specs.Targets.{target_words, HasWords, TargetsFit}
 use Rattle.fm_gen_operands.specs.Places.{var_code, targets_code}
-use Rattle.fm_gen_statements.specs.Statements.{extras_code, refs_behind, receive_end, receive_code}
+use Rattle.fm_gen.specs.Statements.{extras_code, refs_behind, receive_end, receive_code}
 use Rattle.fm_object.specs.declared.image.FieldImage.{FieldImage}
 use Rattle.fm_gen_kinds.specs.Along.{then_on, along}
 use Rattle.fm_gen_kinds.specs.Counted.{IsCounted, AreCounted, VarFits, ExtraFits}

@@ -36,7 +36,7 @@ use Rattle.fm_code_kinds.specs.Shapes.{is_word, is_port, are_words, sort_at, fie
 use Rattle.fm_code_kinds.specs.Effects.{Over, Ill, Taken, only_results, results_in, operands_over, are_any_ports, is_port_sort, over_port, is_cut, is_size, may_cut, cut_over, sized, fits_room, is_sized, fits_sent, fit_fields, at_port, if_out, effect}
 use Rattle.fm_gen_relation.specs.Sound.{IsSoundUnit}
 use Rattle.fm_gen_operands.specs.Places.{var_code, arguments_code}
-use Rattle.fm_gen_statements.specs.Statements.{cut_one, cuts_code, send_code}
+use Rattle.fm_gen.specs.Statements.{cut_one, cuts_code, send_code}
 use Rattle.fm_object.specs.declared.image.FieldImage.{FieldImage}
 use Rattle.fm_gen_kinds.specs.Along.{then_on, along}
 use Rattle.fm_gen_kinds.specs.Counted.{AreCounted, VarFits}

@@ -45,7 +45,7 @@ use Rattle.fm_gen_relation.proofs.Done.{count_both, refs_count, refs_exprs_count
 use Rattle.fm_gen_relation.proofs.Entries.{sound_entry}
 use Rattle.fm_gen_relation.proofs.Units.{sound_unit}
 use Rattle.fm_gen_operands.specs.Code.{expression_code}
-use Rattle.fm_gen_statements.specs.Statements.{do_code, test_code, jump_code, assigned_code, call_by, start_by, end_code, loop_end_code, again_code, simple_code, statement_code}
+use Rattle.fm_gen.specs.Statements.{do_code, test_code, jump_code, assigned_code, call_by, start_by, end_code, loop_end_code, again_code, simple_code, statement_code}
 use Rattle.fm_gen.specs.Entries.{address_of, entry_code}
 use Rattle.fm_gen.specs.Units.{loop_count}
 use Rattle.fm_gen.proofs.Ends.{IsEnded}

@@ -30,7 +30,7 @@ use Rattle.fm_code.specs.Statements.{start_ports}
 use Rattle.fm_gen_relation.proofs.Units.{sound_unit}
 use Rattle.fm_gen_relation.specs.Formals.{ports_of}
 use Rattle.fm_gen_relation.specs.Frames.{LoopsStand, StartStands, StartsStand}
-use Rattle.fm_gen_statements.specs.Steps.{BeginsAlike}
+use Rattle.fm_gen.specs.Steps.{BeginsAlike}
 use Rattle.fm_proc_language.specs.Slots.{Slots, no_slots, port_in}
 use Rattle.fm_proc_language.specs.Frames.{moved_over}
 use Rattle.fm_proc_language.specs.Processes as code

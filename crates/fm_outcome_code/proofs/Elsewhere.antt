@@ -24,7 +24,7 @@ use Rattle.fm_proc_language.specs.Slots as by_slots
 use Rattle.fm_proc_language.specs.Slots.{port_in, in_slot}
 use Rattle.fm_proc_language.specs.Processes.{CodeProc, frame_words, body_words}
 use Rattle.fm_gen_relation.specs.Standing.{Slots}
-use Rattle.fm_gen_statements.specs.Steps.{SendsAlike, ReceivesAlike, ProbesAlike}
+use Rattle.fm_gen.specs.Steps.{SendsAlike, ReceivesAlike, ProbesAlike}
 use Rattle.fm_gen.specs.Entries.{statement_address}
 use Rattle.fm_gen.specs.Kept.{site_at}
 use Rattle.fm_gen.specs.Programs.{code_of}

@@ -28,7 +28,7 @@ use Rattle.fm_proc_language.specs.Frames.{words_from, port_words, all_placed}
 use Rattle.fm_proc_language.specs.Processes as code
 use Rattle.fm_proc_language.specs.Processes.{CodeProc, holding, runs_by}
 use Rattle.fm_outcome_code.proofs.Exchange.{place_alike}
-use Rattle.fm_gen_statements.specs.Steps.{MakesChannel, MakesMerger}
+use Rattle.fm_gen.specs.Steps.{MakesChannel, MakesMerger}
 use Rattle.fm_gen.specs.Entries.{address_of}
 use Rattle.fm_gen.specs.Kept.{site_at}
 use Rattle.fm_outcome_code.specs.Corresponds.{Corresponds, BodyAlike}

@@ -43,8 +43,8 @@ use Rattle.fm_outcome_code.specs.SlotWords.{GoesTo}
 use Rattle.fm_outcome_code.specs.Matching.{ItemsMatch}
 use Rattle.fm_outcome_code.proofs.Exchange.{goes_on, goes_nowhere}
 use Rattle.fm_outcome_code.proofs.Stores.{all_store_alike, status_alike, message_matches}
-use Rattle.fm_gen_statements.specs.Steps.{Site, IsStatus, AreWhole, ReceivesAlike}
-use Rattle.fm_gen_statements.proofs.PortPlaces.{emptied_port}
+use Rattle.fm_gen.specs.Steps.{Site, IsStatus, AreWhole, ReceivesAlike}
+use Rattle.fm_gen.proofs.PortPlaces.{emptied_port}
 use Rattle.fm_gen.specs.Entries.{address_of}
 use Rattle.fm_gen.specs.Kept.{site_at}
 use Rattle.fm_outcome_code.specs.Corresponds.{Corresponds}

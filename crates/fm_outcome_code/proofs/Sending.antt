@@ -27,7 +27,7 @@ use Rattle.fm_proc_language.specs.Processes.{CodeProc, holding, runs_by, sends_b
 use Rattle.fm_outcome_code.specs.SlotWords.{GoesTo}
 use Rattle.fm_outcome_code.proofs.Messages.{message_alike}
 use Rattle.fm_outcome_code.proofs.Stores.{status_alike}
-use Rattle.fm_gen_statements.specs.Steps.{SendsAlike, ProbesAlike}
+use Rattle.fm_gen.specs.Steps.{SendsAlike, ProbesAlike}
 use Rattle.fm_gen.specs.Entries.{address_of}
 use Rattle.fm_gen.specs.Kept.{site_at}
 use Rattle.fm_outcome_code.specs.Corresponds.{Corresponds}

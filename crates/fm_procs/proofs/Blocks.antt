@@ -11,9 +11,9 @@ use Rattle.fm_net.proofs.Children.{first_gathered, not_own_child, off_children}
 use Rattle.fm_net.proofs.Keys.{path_order}
 use Rattle.fm_proc_language.specs.Processes.{CodeProc, emptied, has_ended}
 use Rattle.fm_proc_language.specs.Slots.{Slots}
-use Rattle.fm_procs.specs.declared.joining.OpenJoin.{OpenJoin}
+use Rattle.fm_procs.specs.declared.opening.OpenJoin.{OpenJoin}
 use Rattle.fm_procs.specs.Joinings.{HasRoomToJoin}
-use Rattle.fm_procs.specs.declared.joining.Left.{Left}
+use Rattle.fm_procs.specs.declared.opening.Left.{Left}
 use Rattle.fm_procs.specs.Lefts.{left_by, left_of}
 use Rattle.fm_procs.specs.Rooms.{left_room, lefts_room}
 use Rattle.fm_procs.proofs.Joinings.{less_room}

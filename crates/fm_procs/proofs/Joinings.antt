@@ -24,7 +24,7 @@ use Rattle.fm_proc_slots.specs.Rooms.{slots_in}
 use Rattle.fm_proc_slots.proofs.RoomLaws.{fewer}
 use Rattle.fm_proc_slots.proofs.Roomy.{room_within}
 use Rattle.fm_proc_slots.proofs.Vacated.{same_vacated}
-use Rattle.fm_procs.specs.declared.joining.OpenJoin.{OpenJoin}
+use Rattle.fm_procs.specs.declared.opening.OpenJoin.{OpenJoin}
 use Rattle.fm_procs.specs.Lefts.{left_by}
 use Rattle.fm_proc_events.specs.Performs.{Joins}
 use Rattle.fm_procs.specs.Gains.{alone, gained, mine_of, first_kid, other_kids, lefts_back}

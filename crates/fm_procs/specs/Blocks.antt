@@ -4,7 +4,7 @@ use Rattle.std.specs.Prelude.{◌≡◌, ℕ, ◌+◌, Some, List, [], map}
 use Rattle.std.specs.FinMap.{get, insert}
 use Rattle.fm_net.specs.Machine.{Place, Procs, gathered}
 use Rattle.fm_proc_language.specs.Processes.{CodeProc, has_ended}
-use Rattle.fm_procs.specs.declared.joining.OpenJoin.{OpenJoin}
+use Rattle.fm_procs.specs.declared.opening.OpenJoin.{OpenJoin}
 use Rattle.fm_procs.specs.Joinings.{HasJoined, HasRoomToJoin}
 use Rattle.fm_procs.specs.Lefts.{left_by}
 use Rattle.fm_procs.specs.Rooms.{lefts_room}

@@ -8,7 +8,7 @@ use Rattle.fm_proc_language.specs.Slots.{Slots}
 use Rattle.fm_proc_language.specs.Frames.{Held}
 use Rattle.fm_proc_language.specs.Processes.{CodeProc, Kid, Running, Joining, joining_words}
 use Rattle.fm_proc_slots.specs.Joins.{HasRoomFor}
-use Rattle.fm_procs.specs.declared.joining.OpenJoin.{OpenJoin}
+use Rattle.fm_procs.specs.declared.opening.OpenJoin.{OpenJoin}
 use Rattle.fm_procs.specs.Gains.{gained, joined_by, mine_of}
 use Rattle.fm_proc_events.specs.Phases.{kid_of}
 use Rattle.fm_proc_events.specs.Told.{look_of}

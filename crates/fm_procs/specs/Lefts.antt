@@ -4,7 +4,7 @@ use Rattle.std.specs.Prelude.{Option}
 use Rattle.fm_code.specs.declared.body.Body.{Body}
 use Rattle.fm_proc_language.specs.Slots.{Slots}
 use Rattle.fm_proc_language.specs.Processes.{CodeProc}
-use Rattle.fm_procs.specs.declared.joining.Left.{Left}
+use Rattle.fm_procs.specs.declared.opening.Left.{Left}
 
 -- what a process leaves to its parent: its body, and its slots
 abbrev pub left_by : CodeProc → Option Body × Slots

@@ -12,15 +12,15 @@ ghost use Rattle.fm_procs.specs.Pieces.{Finishes, IsNewAlong, IsNewAt, IsPiece, 
 ghost use Rattle.fm_procs.specs.Readings.{IsActor, actor_place, code_step, order_of, procs_of, state_of};
 ghost use Rattle.fm_procs.specs.Stepping.{AdvancesAt};
 
+use crate::advancing::Advanced;
 use crate::code_procs::CodeProcs;
 use crate::process::Entries;
+use crate::putting::put_end;
 use fm_base::NoMemory;
 use fm_machine::Done;
 use fm_machine_calls::Look;
 use fm_machine_instr::Work;
 use fm_net_procs::{Actor, Piece, local_piece};
-use crate::advancing::Advanced;
-use crate::putting::put_end;
 use std::alloc::Global;
 
 // A process gets the end of a slice that was made from a copy of it.

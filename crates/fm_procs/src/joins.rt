@@ -20,14 +20,14 @@ ghost use Rattle.fm_procs.specs.Kept.{AreChildren, AreFamilies, AreFamiliesBut, 
 ghost use Rattle.fm_procs.specs.Readings.{IsActor, actor_place, code_step, order_of, procs_of};
 ghost use Rattle.fm_procs.specs.Stepping.{JoinsAt, joined_next};
 
+use crate::measuring::left_room;
+use crate::opening::{OpenJoin, open_join};
 use crate::process::Entries;
 use fm_base::NoMemory;
 use fm_chan::Channels;
 use fm_code::Ask;
 use fm_net::{Family, number_behind};
 use fm_net_procs::Actor;
-use crate::joining::{OpenJoin, open_join};
-use crate::measuring::left_room;
 use std::alloc::Global;
 
 /// The statement behind a join.

@@ -10,7 +10,7 @@ ghost use Rattle.fm_proc_events.specs.Told.{look_of};
 
 use crate::beginning::begin;
 use crate::ending::end;
-use crate::letting::let_go;
+use crate::letting_go::let_go;
 use fm_base::{NoMemory, Path};
 use fm_chan::Channels;
 use fm_code::Ask;

@@ -8,18 +8,18 @@ ghost use Rattle.fm_procs.specs.Readings.{code_of};
 ghost use Rattle.fm_procs.specs.Stepping.{stop_of};
 ghost use Rattle.fm_procs.specs.Waiting.{kids_in};
 
+use crate::advancing::{Advanced as Made, advance};
 use crate::joins::{join_block, joined_next};
+use crate::opening::{Left, release};
+use crate::performing::{StepEnd, perform};
 use crate::ready::{is_join, is_running, served, waited_channel};
+use crate::telling::next_look;
 use fm_base::{ChanName, NoMemory, Path};
 use fm_chan::Channels;
 use fm_code::Ask;
 use fm_machine_calls::Look;
 use fm_machine_instr::Work;
 use fm_net_procs::{Actor, Advanced, Done, JoiningProc, Proc, Stop};
-use crate::advancing::{Advanced as Made, advance};
-use crate::joining::{Left, release};
-use crate::performing::{StepEnd, perform};
-use crate::telling::next_look;
 use fm_proc_events::{Phase, Process};
 use std::alloc::Global;
 

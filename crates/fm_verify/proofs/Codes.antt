@@ -28,7 +28,7 @@ use Rattle.fm_gen_relation.specs.Formals as own
 use Rattle.fm_gen_relation.specs.Frames.{counts_trips, loop_number, opens_counted}
 use Rattle.fm_gen_relation.specs.Sound as sound
 use Rattle.fm_gen_relation.proofs.Units.{sound_unit}
-use Rattle.fm_gen_statements.specs.Statements.{bounds_code, do_code, loop_code, statement_code}
+use Rattle.fm_gen.specs.Statements.{bounds_code, do_code, loop_code, statement_code}
 use Rattle.fm_gen.specs.Entries.{address_of, entries_code, entry_code, references_code, references_length, unit_code}
 use Rattle.fm_gen.specs.Programs.{code_of}
 use Rattle.fm_gen.specs.Units.{loop_count, unit_of_code}

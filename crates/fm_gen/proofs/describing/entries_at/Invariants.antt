@@ -1,5 +1,5 @@
 use Rattle.std.proofs.Common.{◌≡◌, ◌++◌, drop}
-use Rattle.fm_gen_statements.specs.Tables.{address_by}
+use Rattle.fm_gen.specs.Tables.{address_by}
 use Rattle.fm_gen.specs.Units.{entries_at}
 use Rattle.fm_gen.proofs.describing.entries_at.Given as goal
 

@@ -1,6 +1,6 @@
 use Rattle.std.proofs.lemmas.Result.{on_ok_weaker}
 use Rattle.fm_plain_frame.specs.Units.{unit_of}
-use Rattle.fm_gen_statements.specs.Tables.{address_by}
+use Rattle.fm_gen.specs.Tables.{address_by}
 use Rattle.fm_gen.proofs.ReferenceLaws.{entry_added}
 use Rattle.fm_mean.specs.Names.{point_at}
 use Rattle.fm_gen.proofs.units.entry.Goals as goal

@@ -1,9 +1,9 @@
 use Rattle.std.proofs.Common.{ap, ◌∙◌, length}
 use Rattle.fm_plain_frame.specs.Units.{unit_of}
 use Rattle.fm_tree.specs.declared.program_unit.Unit as tree
-use Rattle.fm_gen_statements.specs.Statements.{Addresses}
+use Rattle.fm_gen.specs.Statements.{Addresses}
 use Rattle.fm_gen.specs.Entries.{entries_code}
-use Rattle.fm_gen_statements.specs.Tables.{address_by}
+use Rattle.fm_gen.specs.Tables.{address_by}
 use Rattle.fm_gen.specs.Units.{entries_at}
 use Rattle.fm_gen.proofs.UnitLaws.{second_pass}
 use Rattle.fm_gen.proofs.units.instructions.Goals as goal

@@ -1,5 +1,5 @@
 use Rattle.std.proofs.Common.{◌≡◌, ◌++◌, drop}
-use Rattle.fm_gen_statements.specs.Statements.{loop_numbers}
+use Rattle.fm_gen.specs.Statements.{loop_numbers}
 use Rattle.fm_gen.proofs.units.loop_numbers.Given as goal
 
 abbrev pub invariant-entries : goal.invariant-entries

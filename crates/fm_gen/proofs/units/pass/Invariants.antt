@@ -1,7 +1,7 @@
 use Rattle.std.proofs.Common.{◌≡◌}
 use Rattle.fm_plain_frame.specs.Units.{unit_of}
 use Rattle.fm_gen.specs.Entries.{entries_code, starts_of}
-use Rattle.fm_gen_statements.specs.Tables.{address_by}
+use Rattle.fm_gen.specs.Tables.{address_by}
 use Rattle.fm_gen.proofs.units.pass.Given as goal
 
 abbrev pub invariant-entries : goal.invariant-entries

@@ -1,4 +1,0 @@
-pub mod Statements
-pub mod Steps
-pub mod Asking
-pub mod Tables
