@@ -7,7 +7,7 @@ use Rattle.fm_verify_law.specs.Typed.{IsBad, One, Typed, UnitIsTyped, Whole}
 use Rattle.fm_image_law.proofs.Laid.{one_of}
 use Rattle.fm_execute.specs.declared.fail.ExecuteFail.{ExecuteFail}
 use Rattle.fm_execute.specs.declared.fail.ExecuteFail.TheVariants as fails
-use Rattle.fm_execute.specs.Executed.{IsRefused}
+use Rattle.fm_execute.specs.Causes.{IsRefused}
 
 never_bad : (i : Image) → Typed i → (n : ℕ) → IsBad i n → ⊥
 never_bad i t zero (Whole none) = none t.whole

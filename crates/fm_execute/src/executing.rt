@@ -5,7 +5,7 @@ ghost use Rattle.fm_image_play.specs.Play.{image_play};
 ghost use Rattle.fm_run.specs.Orders.{places_of};
 ghost use Rattle.fm_run.specs.Runs.{Follows, IsRun};
 ghost use Rattle.fm_run_law.specs.Fair.{IsFair};
-ghost use Rattle.fm_execute.specs.Executed.{IsNeverStuck};
+ghost use Rattle.fm_image_play.specs.Executed.{IsNeverStuck};
 
 use crate::images::Images;
 use fm_base::NoMemory;

@@ -5,7 +5,8 @@ ghost use Rattle.fm_object.specs.declared.image.Image as declared_image;
 ghost use Rattle.fm_object.specs.Texts.{IsObjectText};
 ghost use Rattle.fm_verify_law.specs.Typed.{Typed};
 ghost use Rattle.fm_execute.specs.declared.fail.ExecuteFail.TheVariants as fails;
-ghost use Rattle.fm_execute.specs.Executed.{IsCause, IsExecuted, IsRefused, RunsIt};
+ghost use Rattle.fm_image_play.specs.Executed.{IsExecuted};
+ghost use Rattle.fm_execute.specs.Causes.{IsCause, IsRefused, RunsIt};
 
 use crate::executing::execute;
 use crate::fail::ExecuteFail;

@@ -11,7 +11,7 @@ use Rattle.fm_object.specs.Texts.{object_text}
 use Rattle.fm_object.specs.declared.image.Image.{Image}
 use Rattle.fm_verify_law.specs.Codes as image_code
 use Rattle.fm_verify_law.specs.Typed.{Typed}
-use Rattle.fm_execute.specs.Executed.{IsUnverified}
+use Rattle.fm_image_play.specs.Executed.{IsUnverified}
 use Rattle.fmc.specs.declared.answer.Exit.{Exit}
 use Rattle.fmc.specs.Answer.{IsPlayedExit, SaysRun, report_asked}
 use Rattle.fmc.specs.Executes.{SaysExec}

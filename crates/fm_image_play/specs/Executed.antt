@@ -1,21 +1,19 @@
--- What comes of bytes that are executed.
+-- What it means that an image, or the image whose object text some bytes are, is executed.
 -- Source: this profile.
-use Rattle.std.specs.Prelude.{◌≡◌, ℕ, false, Some, List, Result, Ok, Err}
+use Rattle.std.specs.Prelude.{◌≡◌, ℕ, false, Some, List}
 use Rattle.std.specs.FinMap.{get}
 use Rattle.fm_sched.specs.Schedule.{IsLegal, play}
 use Rattle.fm_code.specs.Statements.{is_stuck}
 use Rattle.fm_code.specs.declared.body.Body.{Body}
 use Rattle.fm_net.specs.Machine.{Place}
 use Rattle.fm_object.specs.declared.image.Image.{Image}
-use Rattle.fm_object.specs.Texts.{IsFirstMalformed, IsObjectText}
+use Rattle.fm_object.specs.Texts.{IsObjectText}
 use Rattle.fm_verify_law.specs.Typed.{IsBad, Typed}
 use Rattle.fm_proc_language.specs.Processes.{CodeProc}
 use Rattle.fm_image_law.specs.Image.{GoesOn, first, step}
 use Rattle.fm_run.specs.declared.run.Run.{Run}
 use Rattle.fm_run_law.specs.Fair.{IsRunInTurn}
 use Rattle.fm_image_play.specs.Play.{image_play}
-use Rattle.fm_execute.specs.declared.fail.ExecuteFail.{ExecuteFail}
-use Rattle.fm_execute.specs.declared.fail.ExecuteFail.TheVariants as fails
 
 -- the run is one of the image's own machine under these turns, in which those that can step are served in turn, and which is fair
 abbrev pub IsRunOf : Image → (turns : ℕ) → Run → Type 0
@@ -38,20 +36,3 @@ pub record IsUnverified (bytes : List ℕ) (unit : ℕ) : Type 0 where
   pub image : Image
   pub object : IsObjectText bytes image
   pub bad : IsBad image unit
-
--- why they were not executed
-abbrev pub IsCause : List ℕ → ExecuteFail → Type 0
-IsCause bytes (fails.Malformed line) = IsFirstMalformed bytes line.0
-IsCause bytes (fails.Unverified unit) = IsUnverified bytes unit
-IsCause bytes fails.NoMemory = Unit {0}
-
--- why an image was refused
-abbrev pub IsRefused : Image → ExecuteFail → Type 0
-IsRefused i (fails.Malformed line) = ⊥
-IsRefused i (fails.Unverified unit) = IsBad i unit
-IsRefused i fails.NoMemory = Unit {0}
-
--- this image was executed, unless memory ran out
-abbrev pub RunsIt : Image → (turns : ℕ) → Result Run ExecuteFail → Type 0
-RunsIt i turns (Ok run) = IsRunOf i turns run
-RunsIt i turns (Err e) = e ≡ fails.NoMemory
