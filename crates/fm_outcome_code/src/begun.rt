@@ -16,10 +16,9 @@ use fm_machine_fused::share_code;
 use fm_machine_instr::Work;
 use fm_net_procs::Entry as TableEntry;
 use fm_plain_frame::nodes_of;
-use fm_procs::{next_look, no_loops};
 use fm_proc_events::{Phase, Process};
 use fm_proc_slots::Slots;
-use fm_procs::{CodeProcess, CodeProcs, Entry, no_procs};
+use fm_procs::{CodeProcess, CodeProcs, Entry, next_look, no_loops, no_procs};
 use std::alloc::Global;
 use std::sync::Arc;
 
