@@ -25,7 +25,9 @@ import check
 TOP = os.path.dirname(os.path.dirname(os.path.abspath(__file__)))
 PROGRAMS = "loop", "sieve", "matrix", "calls"
 MOST_OF_RUN, MOST_GROWTH = 1.05, 13
-READS, VERIFIES = "fm_object::reading::read", "fm_verified::verifying::verify"
+# Where these are put into their caller, the dearest function of theirs that isn't: the loop over an object's units, which
+# is less than all of the reading, and that over an image's.
+READS, VERIFIES = "fm_object::", "fm_verified::"
 
 
 def counted(binary, words, text, functions=()):
@@ -39,7 +41,7 @@ def counted(binary, words, text, functions=()):
 
 
 def within(out, name):
-    """The instructions of a function with all that it calls, of what callgrind has written."""
+    """The instructions of the dearest function of this name, with all that it calls, of what callgrind has written."""
     told = subprocess.run(["callgrind_annotate", "--inclusive=yes", "--threshold=100", out], stdout=subprocess.PIPE, check=True)
     counts = re.findall(r"^\s*([\d,]+) .*\?\?\?:(\S+)", told.stdout.decode(), re.MULTILINE)
     return max(int(count.replace(",", "")) for count, function in counts if name in function)
