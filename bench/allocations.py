@@ -22,7 +22,9 @@ TOP = os.path.dirname(os.path.dirname(os.path.abspath(__file__)))
 NO_MEMORY = (8, b"no memory\n", b"")
 EARLY, MANY, TRIED = 40, 5000, 1000
 
-# The words of a call, and its source: an example, the text itself, or nothing. That of `replay` is the trace of it.
+# The words of a call, and its source: an example, the text itself, or nothing. That of `replay` is the trace of it, and that of
+# `exec` its object.
+MADE_BY = {"replay": "trace", "exec": "compile"}
 CALLS = [
     ("run", "arithmetic"),
     ("run --vars --slice 1", "producer"),
@@ -38,6 +40,10 @@ CALLS = [
     ("check", "merger"),
     ("list", "checked"),
     ("compile", "slices"),
+    ("exec --vars", "producer"),
+    ("exec", "merger"),
+    ("exec", b"fmc object 1\ntypes 0\nunits 0\n"),
+    ("exec", b"fmc object 2\n"),
     ("nodes 0", "producer"),
     ("nodes 5 --vars", "merger"),
     ("make 7", b""),
@@ -59,8 +65,9 @@ def source_of(binary, words, source):
         return source
     with open(f"{TOP}/examples/{source}.f", "rb") as file:
         text = file.read()
-    if words.startswith("replay"):
-        return subprocess.run([binary, "trace"], input=text, stdout=subprocess.PIPE, check=False).stdout
+    maker = MADE_BY.get(words.split()[0])
+    if maker:
+        return subprocess.run([binary, maker], input=text, stdout=subprocess.PIPE, check=False).stdout
     return text
 
 
