@@ -9,8 +9,8 @@ repeat to the digit on one machine. Two things are measured, and the status is 1
 
 - The programs of bench/speed take at most 1.05 times as many in `exec` of their object as in `run` with one worker.
 - `compile` of texts of 1,000,000 bytes, and `exec` of what it writes, take at most 13 times what a tenth of the text
-  takes (10 for work that grows as the length does). And an image is verified with at most as many as its text is read
-  with.
+  takes (10 for work that grows as the length does). And an image is verified with at most as many as it takes to read
+  its text, which is what `exec` takes where a line too many stands at the end.
 
 The texts are those of bench/check.py that are lawful.
 """
@@ -25,19 +25,17 @@ import check
 TOP = os.path.dirname(os.path.dirname(os.path.abspath(__file__)))
 PROGRAMS = "loop", "sieve", "matrix", "calls"
 MOST_OF_RUN, MOST_GROWTH = 1.05, 13
-# Where these are put into their caller, the dearest function of theirs that isn't: the loop over an object's units, which
-# is less than all of the reading, and that over an image's.
-READS, VERIFIES = "fm_object::", "fm_verified::"
+VERIFIES = "fm_verified::"
 
 
-def counted(binary, words, text, functions=()):
-    """What a call writes, its instructions, and those of these functions with all that they call."""
+def counted(binary, words, text, name=None):
+    """What a call writes, its instructions, and those of the dearest function of this name with all that it calls."""
     with tempfile.TemporaryDirectory() as folder:
         out = os.path.join(folder, "out")
         tool = ["valgrind", "--tool=callgrind", "--callgrind-out-file=" + out]
         done = subprocess.run([*tool, binary, *words], input=text, stdout=subprocess.PIPE, stderr=subprocess.PIPE)
         whole = int(re.search(rb"Collected : (\d+)", done.stderr).group(1))
-        return done.stdout, whole, [within(out, name) for name in functions]
+        return done.stdout, whole, within(out, name) if name else 0
 
 
 def within(out, name):
@@ -67,8 +65,10 @@ def growing(binary, name):
         source = check.source(check.TEXTS[name][0], size)
         text, count, _ = counted(binary, ["compile"], source)
         compiled.append(count)
-        _, count, (read, verified) = counted(binary, ["exec", "--turns", "1000"], text, (READS, VERIFIES))
+        _, count, verified = counted(binary, ["exec", "--turns", "1000"], text, VERIFIES)
         executed.append(count)
+    # a line too many is found when all is read, and nothing is verified then
+    _, read, _ = counted(binary, ["exec"], text + b"more\n")
     ratios = compiled[1] / compiled[0], executed[1] / executed[0]
     good = max(ratios) <= MOST_GROWTH and verified <= read
     row = f"{name:12} {len(text):11,} {compiled[1]:14,} {ratios[0]:6.2f} {executed[1]:14,} {ratios[1]:6.2f} {read:14,} {verified:14,}"
