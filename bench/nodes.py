@@ -3,12 +3,13 @@
 
     bench/nodes.py [BINARY]
 
-BINARY is the built program, by default crates/fmc_cli/out/fmc_cli; valgrind counts its instructions. Three things are
+BINARY is the built program, by default crates/fmc_cli/out/fmc_cli; valgrind counts its instructions. Four things are
 measured, and the status is 1 where one of them isn't so:
 
 - `nodes 1` of the program of `make 7` takes at most 20 times what `run` takes with one worker, both without what an empty
   program takes.
 - Twice as many messages take at most 2.3 times as much: a sender and a receiver of 500, 1,000 and 2,000 numbers.
+- Twice as many processes take at most 2.3 times as much: 500, 1,000 and 2,000 children, each of which starts one.
 - A lost packet costs one sending more: where each sending comes at once, and where each packet is lost twice, the same
   messages take at most three times as much.
 """
@@ -45,6 +46,26 @@ PAIR = """      PROGRAM PAIR
    20 PRINT *, K
       END
 """
+WIDE = """      PROGRAM WIDE
+      PROCESSES
+      PROCESSDO I = 1, {}
+      PROCESSCALL CHILD(I)
+      ENDPROCESSDO
+      ENDPROCESSES
+      END
+
+      PROCESS CHILD(K)
+      INTENT (IN) K
+      PROCESSES
+      PROCESSCALL LEAF(K)
+      ENDPROCESSES
+      END
+
+      PROCESS LEAF(K)
+      INTENT (IN) K
+      I = K
+      END
+"""
 
 
 def counted(binary, words, source):
@@ -72,12 +93,13 @@ def main():
     times = (hosted - start) / (once - start)
     told(f"make 7: run {once - start:,}, nodes 1 {hosted - start:,}: {times:.1f} times", times <= 20 and report == other)
 
-    last = None
-    for count in (500, 1000, 2000):
-        own, _ = counted(binary, ["nodes", "0", *turns], PAIR.format(count))
-        own -= start
-        told(f"{count} messages: {own:,}, {own // count:,} each", last is None or own <= 2.3 * last)
-        last = own
+    for what, program in (("messages", PAIR), ("children", WIDE)):
+        last = None
+        for count in (500, 1000, 2000):
+            own, _ = counted(binary, ["nodes", "0", *turns], program.format(count))
+            own -= start
+            told(f"{count} {what}: {own:,}, {own // count:,} each", last is None or own <= 2.3 * last)
+            last = own
 
     few, _ = counted(binary, ["nodes", "0", *turns], PAIR.format(1))
     costs = []
