@@ -16,8 +16,10 @@ const MOST_LOOKS: u32 = 100;
 pub struct Room<T> {
     pub desk: Mutex<Desk<T>>,
     pub changed: Condvar,
-    /// How many workers wait for the lock with what their pieces came to.
-    pub bringing: AtomicU64,
+    /// How many workers wait for the lock to come in.
+    pub coming: AtomicU64,
+    /// How many workers wait for something to change, or for another one that makes pieces under the lock.
+    pub idle: AtomicU64,
 }
 
 impl<T: SharedTable> Room<T> {
@@ -26,7 +28,8 @@ impl<T: SharedTable> Room<T> {
         Room {
             desk: Mutex::new(Desk { table, working: 0 }),
             changed: Condvar::new(),
-            bringing: AtomicU64::new(0),
+            coming: AtomicU64::new(0),
+            idle: AtomicU64::new(0),
         }
     }
 
@@ -39,7 +42,7 @@ impl<T: SharedTable> Room<T> {
         worker: u32,
         light: bool,
     ) -> Option<T::Piece> {
-        let desk = self.desk.lock(rt);
+        let desk = self.come_in(rt);
         self.next_at(rt, alloc, worker, light, desk)
     }
 
@@ -53,9 +56,7 @@ impl<T: SharedTable> Room<T> {
         light: bool,
         done: Result<T::Done, NoMemory>,
     ) -> Option<T::Piece> {
-        self.bringing.fetch_add(1, Ordering::SeqCst);
-        let mut desk = self.desk.lock(rt);
-        self.bringing.fetch_sub(1, Ordering::SeqCst);
+        let mut desk = self.come_in(rt);
         if desk.bring(alloc, done) {
             return self.next_at(rt, alloc, worker, light, desk);
         }
@@ -64,8 +65,16 @@ impl<T: SharedTable> Room<T> {
         None
     }
 
+    // Takes the lock, and is let in by who keeps it.
+    fn come_in<'b, R: Wait>(&'b self, rt: &R) -> MutexGuard<'b, Desk<T>> {
+        self.coming.fetch_add(1, Ordering::SeqCst);
+        let desk = self.desk.lock(rt);
+        self.coming.fetch_sub(1, Ordering::SeqCst);
+        desk
+    }
+
     // The next piece for a worker who has the lock. It keeps the lock while the table makes pieces by itself, which would only
-    // go from one processor to another; but it lets in who brings what a piece came to. Who leaves with a piece wakes one that
+    // go from one processor to another; but it lets in who begins or brings what a piece came to. Who leaves with a piece wakes one that
     // waits, who may find another piece and wakes the next one then; who stops wakes all.
     fn next_at<'b, R: Wait>(
         &'b self,
@@ -83,8 +92,8 @@ impl<T: SharedTable> Room<T> {
                     self.changed.notify_one();
                     return Some(piece);
                 }
-                Next::Goes => desk = self.let_in(rt, desk),
-                Next::Waits => desk = self.changed.wait(rt, desk),
+                Next::Goes => desk = self.let_in(rt, worker, desk),
+                Next::Waits => desk = self.wait_for_change(rt, desk),
                 Next::Stops => {
                     drop(desk);
                     self.changed.notify_all();
@@ -95,23 +104,49 @@ impl<T: SharedTable> Room<T> {
         unreachable!()
     }
 
-    // Leaves the lock for a moment to those that bring what their pieces came to, if there are any.
-    fn let_in<'b, R: Wait>(
+    fn wait_for_change<'b, R: Wait>(
         &'b self,
         rt: &R,
         held: MutexGuard<'b, Desk<T>>,
     ) -> MutexGuard<'b, Desk<T>> {
-        if self.bringing.load(Ordering::SeqCst) == 0 {
+        self.idle.fetch_add(1, Ordering::SeqCst);
+        let desk = self.changed.wait(rt, held);
+        self.idle.fetch_sub(1, Ordering::SeqCst);
+        desk
+    }
+
+    // Leaves the lock for a moment to those that come in, if there are any; and where the table goes on with a process for this worker
+    // while another one is ready, also to one that is idle, which it wakes.
+    fn let_in<'b, R: Wait>(
+        &'b self,
+        rt: &R,
+        worker: u32,
+        held: MutexGuard<'b, Desk<T>>,
+    ) -> MutexGuard<'b, Desk<T>> {
+        let comes = self.coming.load(Ordering::SeqCst) != 0;
+        let serves = self.idle.load(Ordering::SeqCst) != 0 && held.table.offers(worker);
+        if !comes && !serves {
             return held;
         }
         drop(held);
+        if serves {
+            self.changed.notify_one();
+        }
+        self.lock_again(rt)
+    }
+
+    // Takes the lock again as soon as those are in that come, or after some looks.
+    fn lock_again<'b, R: Wait>(&'b self, rt: &R) -> MutexGuard<'b, Desk<T>> {
+        self.idle.fetch_add(1, Ordering::SeqCst);
         'looks: for _ in 0..MOST_LOOKS {
-            if self.bringing.load(Ordering::SeqCst) == 0 {
+            if self.coming.load(Ordering::SeqCst) == 0 {
                 break;
             }
             spin_loop();
         }
-        self.desk.lock(rt)
+        let desk = self.desk.lock(rt);
+        self.idle.fetch_sub(1, Ordering::SeqCst);
+        desk
     }
 
     /// Gives what a piece came to, or leaves the piece where there was no memory to compute it, and wakes the others. False
@@ -129,7 +164,8 @@ impl<T: SharedTable> Room<T> {
         let Room {
             desk,
             changed: _,
-            bringing: _,
+            coming: _,
+            idle: _,
         } = self;
         let Desk { table, working: _ } = desk.into_inner();
         table

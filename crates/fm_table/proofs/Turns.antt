@@ -1,22 +1,27 @@
 -- What an entry, a turn and a piece that is given come to.
-use Rattle.std.proofs.Common.{◌≡◌, ◌⊎◌, inl, inr, ℕ, zero, suc, ◌<◌, ◌≤◌, Bool, true, false, cond, not, ◌==◌, List, [], ◌∷◌, ◌++◌, refl, sym, ap, ◌∙◌, subst, arith, eqb-true}
-use Rattle.std.specs.Prelude.{None, Some}
+use Rattle.std.proofs.Common.{◌≡◌, ◌⊎◌, inl, inr, ℕ, zero, suc, ◌<◌, ◌≤◌, Bool, true, false, cond, not, ◌==◌, List, [], ◌∷◌, ◌++◌, replicate, refl, sym, ap, ◌∙◌, subst, arith, eqb-true}
+use Rattle.std.specs.Prelude.{Option, None, Some, is_some, slice_get}
 use Rattle.std.proofs.lemmas.Bool.{ne_eqb}
 use Rattle.std.proofs.lemmas.List.{map-append}
+use Rattle.std.proofs.lemmas.Option.{get_or_from_slice_get}
 use Rattle.fm_base.specs.declared.schedule.Setup.{Setup}
 use Rattle.fm_base.specs.declared.schedule.Turn.{Turn}
+use Rattle.fm_sched.specs.Schedule.{IsLegal}
+use Rattle.fm_net.specs.Machine.{Place}
 use Rattle.fm_code.specs.declared.body.Body.{Body}
 use Rattle.fm_machine.specs.declared.done.Done.{Done}
 use Rattle.fm_rules.specs.declared.program.Program.{Program}
+use Rattle.fm_mean.specs.Steps.{step}
 use Rattle.fm_run.specs.Entries.{turn_of}
 use Rattle.fm_run.specs.Orders.{Among, AreMarked, EachOnce, chosen, others_in}
-use Rattle.fm_run.specs.Programs.{IsFrontWithin, can_at}
+use Rattle.fm_run.specs.Programs.{IsFrontWithin, can_at, can_in}
+use Rattle.fm_run.specs.Runs.{place_of}
 use Rattle.fm_run.specs.declared.player.Player.{Player}
 use Rattle.fm_run.proofs.Numbers.{among_either, among_filter, among_get, among_is, among_left, among_right, filter_among, in_filter, is_among_from, not_own, once_append, once_filter}
-use Rattle.fm_table.specs.Giving.{GivesTo, taken, taken_for}
+use Rattle.fm_table.specs.Giving.{GivesTo, taken}
 use Rattle.fm_table.specs.Inside.{Compiled, EntersTo, HasEntered, HasMade, IsAsItWas, IsGivenSo, IsStanding, IsTable, MakesSo, stand_kept, told_in}
 use Rattle.fm_table.specs.Told.{HaveStarts, IsBodyOf, IsKept, Out, Told, cost_of, is_out, led_by, numbers_out, ready_in, ready_of, stand_of, stand_with, start_in, with_entry, without}
-use Rattle.fm_table.specs.Turning.{TurnsFor, TurnsTo}
+use Rattle.fm_table.specs.Turning.{TurnsInside, TurnsTo}
 use Rattle.fm_table.specs.declared.making.Way.{Way}
 use Rattle.fm_table.specs.declared.making.Way.TheVariants as way
 use Rattle.fm_table.specs.declared.shares.Shares.{Shares}
@@ -58,12 +63,32 @@ turn_made a b choice n k w going who is h = record {
   told = h.told;
 }
 
-pub turn_made_for : (a b : Told) (worker n k : ℕ) (w : Way) → cost_of a ≤ a.setup.turns → taken_for worker a ≡ Some n → w ≡ way.Slice a.setup.slice → EntersTo w n k a b → TurnsFor worker a b
-turn_made_for a b worker n k w going who is h = record {
+-- who makes steps could step
+pub queued_made : (a b : Told) → IsKept a → (n k : ℕ) (w : Way) → 1 ≤ k → EntersTo w n k a b → Among n a.queue
+queued_made a b kept n k w some h = kept.able.whole n (go (slice_get (stand_of a).places n) refl h.known)
+  where
+    first : (q : Place) (m : ℕ) → 1 ≤ m → IsLegal (step a.program) (stand_of a).state (replicate m q) → is_some (step a.program (stand_of a).state q) ≡ true
+    first q zero some legal = absurd (omega (arith, some))
+    first q (suc m) some legal = ap is_some legal.0.1
+
+    go : (o : Option Place) → slice_get (stand_of a).places n ≡ o → is_some o ≡ true → can_at a.program (stand_of a).state (stand_of a).places n ≡ true
+    go None e known = absurd (cc known)
+    go (Some q) e known =
+        let own : place_of (stand_of a).places (turn_of n k) ≡ q = get_or_from_slice_get (stand_of a).places n q [] e in
+        ap (can_in a.program (stand_of a).state) e ∙ first q k some (subst (λ (p : Place). IsLegal (step a.program) (stand_of a).state (replicate k p)) own h.can)
+
+-- and was ready, if it wasn't out
+pub ready_made : (a b : Told) → IsKept a → (n k : ℕ) (w : Way) → is_out a.out n ≡ false → 1 ≤ k → EntersTo w n k a b → Among n (ready_of a)
+ready_made a b kept n k w inside some h = among_filter (λ m. not (is_out a.out m)) a.queue n (queued_made a b kept n k w some h) (ap not inside)
+
+pub turn_inside : (a b : Told) (n k slice : ℕ) → cost_of a ≤ a.setup.turns → Among n (ready_of a) → a.setup.slice ≤ slice → EntersTo (way.Slice slice) n k a b → TurnsInside a b
+turn_inside a b n k slice going who long h = record {
   going = going;
   entry = turn_of n k;
   who = who;
-  full = subst (λ (v : Way). MakesSo v a.program (stand_of a) (stand_of b) n k) is h.so;
+  slice = slice;
+  long = long;
+  full = h.so;
   told = h.told;
 }
 

@@ -6,10 +6,9 @@ use Rattle.fm_sched.specs.Schedule.{IsLegal}
 use Rattle.fm_net.specs.Machine.{Place}
 use Rattle.fm_mean.specs.Steps.{step}
 use Rattle.fm_run.specs.Entries.{turn_of}
-use Rattle.fm_run.specs.Orders.{chosen}
+use Rattle.fm_run.specs.Orders.{Among, chosen}
 use Rattle.fm_run.specs.Programs.{IsFull, after_steps}
 use Rattle.fm_run.specs.Runs.{place_of, steps_of}
-use Rattle.fm_table.specs.Giving.{taken_for}
 use Rattle.fm_table.specs.Told.{Told, cost_of, ready_of, stand_of, with_entry}
 
 -- the process that the choice tells among those that are ready makes a full piece, which is an entry more
@@ -20,12 +19,14 @@ pub record TurnsTo (choice : ℕ) (a b : Told) : Type 0 where
   pub full : IsFull a.program a.setup.slice true (stand_of a).state (place_of (stand_of a).places entry) entry.steps
   pub told : b ≡ with_entry a entry
 
--- the process that is taken for a worker makes a full piece, which is an entry more
-pub record TurnsFor (worker : ℕ) (a b : Told) : Type 0 where
+-- a process that is ready makes a full piece of a slice of the setup's length or more, which is an entry more
+pub record TurnsInside (a b : Told) : Type 0 where
   pub going : cost_of a ≤ a.setup.turns
   pub entry : Turn
-  pub who : taken_for worker a ≡ Some entry.number
-  pub full : IsFull a.program a.setup.slice true (stand_of a).state (place_of (stand_of a).places entry) entry.steps
+  pub who : Among entry.number (ready_of a)
+  pub slice : ℕ
+  pub long : a.setup.slice ≤ slice
+  pub full : IsFull a.program slice true (stand_of a).state (place_of (stand_of a).places entry) entry.steps
   pub told : b ≡ with_entry a entry
 
 -- with so many steps of the process of a number, which are no entry where there are none

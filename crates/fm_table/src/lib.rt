@@ -7,10 +7,11 @@
 //!
 //! `turn` makes a piece of a process that is ready, chosen by its place among these; `play` makes the steps of an entry that is handed in;
 //! `take` hands a process out for a worker, by the plan, so that its piece can be made outside, `give` plays what came of it, and `recall`
-//! makes ready again who is out; `turn_light` makes the piece in place where it isn't worth handing out; `run_table` turns until nobody can
-//! step or the turns are spent.
+//! makes ready again who is out; `turn_light` makes the piece in place where it isn't worth handing out, or where copies of its body would
+//! take much memory; `run_table` turns until nobody can step or the turns are spent.
 #![tactic(auto)]
 
+mod home;
 mod laws;
 mod making;
 mod outside;

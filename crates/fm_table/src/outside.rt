@@ -23,8 +23,8 @@ pub(crate) struct Taken {
     pub start: Arc<Body>,
 }
 
-// Whether a process is out.
-fn is_out(out: &[Taken], number: u32) -> bool
+/// Whether a process is out.
+pub(crate) fn is_out(out: &[Taken], number: u32) -> bool
     ensures { result ≡ is_out (outs_of out.now) number }
 {
     place_out(out, number).is_some()
@@ -152,4 +152,14 @@ pub(crate) fn choose_ready(queue: &VecDeque<u32>, out: &[Taken], choice: u64) ->
         return None;
     }
     ready_at(queue, out, (choice % count as u64) as usize)
+}
+
+/// The first one of a queue that is ready, beside this one.
+pub(crate) fn ready_beside(queue: &VecDeque<u32>, out: &[Taken], number: u32) -> Option<u32> {
+    'queue: for at in 0..queue.len() {
+        if queue[at] != number && !is_out(out, queue[at]) {
+            return Some(queue[at]);
+        }
+    }
+    None
 }

@@ -39,6 +39,10 @@ impl SharedTable for Table {
         Table::turn_light(self, alloc, worker)
     }
 
+    fn offers(&self, worker: u32) -> bool {
+        Table::offers(self, worker)
+    }
+
     fn recall(&mut self) {
         Table::recall(self);
     }

@@ -9,16 +9,19 @@ ghost use Rattle.fm_run.specs.Programs.{can_at};
 ghost use Rattle.fm_table.specs.Giving.{CallsBack, GivenTo, TakesTo, taken, taken_for};
 ghost use Rattle.fm_table.specs.Inside.{EntersTo, IsAsked};
 ghost use Rattle.fm_table.specs.Told.{IsBodyOf, IsIdle, IsKept, cost_of, first_told, phase_by, phase_of, ready_of, stand_of};
-ghost use Rattle.fm_table.specs.Turning.{PlaysTo, TurnsFor, TurnsTo};
+ghost use Rattle.fm_table.specs.Turning.{PlaysTo, TurnsInside, TurnsTo};
 
+use crate::home::{HOME_SLICE, Home, body_words, home_behind, home_for, home_of};
 use crate::making::Way;
-use crate::outside::{Taken, call_back, choose_ready, forget, is_taken, put_back};
+use crate::outside::{
+    Taken, call_back, choose_ready, forget, is_out, is_taken, put_back, ready_beside,
+};
 use crate::piece::{Piece, slice_for};
 use crate::reviving::is_empty;
 use crate::shares::Shares;
 use crate::standing::Standing;
 use crate::taking::{Start, start_of};
-use crate::weights::{is_worth, weigh};
+use crate::weights::{is_heavy, is_worth, weigh};
 use fm_base::{NoMemory, Path, Setup, Turn};
 use fm_machine::Done;
 use fm_mean::Outcome;
@@ -39,6 +42,7 @@ pub struct Table {
     out: Vec<Taken>,
     shares: Shares,
     heavy: Vec<bool>,
+    home: Option<Home>,
 }
 
 impl Drop for Table {
@@ -50,6 +54,7 @@ impl Drop for Table {
             out: _out,
             shares: _shares,
             heavy: _heavy,
+            home: _home,
         } = self;
     }
 }
@@ -113,6 +118,7 @@ impl Table {
             out: Vec::new(alloc),
             shares,
             heavy: Vec::new(alloc),
+            home: None,
         })
     }
 
@@ -252,7 +258,7 @@ impl Table {
         let Start { start, kept, path } = start_of(alloc, &self.standing.player.net, number)?;
         let ready = self.standing.player.able.numbers.len();
         let heavy = is_worth(self.setup.workers, ready, self.heavy.as_slice(), number);
-        let slice = slice_for(self.setup.slice, start.frame.words.len(), heavy);
+        let slice = slice_for(self.setup.slice, body_words(&start), heavy);
         self.out.push(Taken {
             number,
             start: kept,
@@ -265,24 +271,59 @@ impl Table {
         })
     }
 
-    /// Makes a piece in place of the process that would be taken for a worker, where nothing is gained outside: it is light (its last
-    /// piece didn't use up its slice, or it hasn't made one), or no other worker could play another process meanwhile. False where it
-    /// goes out, or where no piece can be made; then nothing changes.
+    /// Makes a piece in place for a worker, where nothing is gained outside: of the process that stays at home with it, or of the one that
+    /// would be taken for it, where this is light (its last piece didn't use up its slice, or it hasn't made one), no other worker could
+    /// play another process meanwhile, or its body is so large that it stays at home. False where that one goes out, or where no piece
+    /// can be made; then nothing changes. A slice at home is as long as the setup says, or longer.
     ///
     /// # Errors
     /// `NoMemory` is want of memory, and changes nothing.
     pub fn turn_light(&mut self, alloc: Global, worker: u32) -> Result<bool, NoMemory>
-        ensures turned { IfOk result (λ r. r ≡ true → TurnsFor worker self.old self.new) }
+        ensures turned { IfOk result (λ r. r ≡ true → TurnsInside self.old self.new) }
         ensures none { IfOk result (λ r. r ≡ false → self.new ≡ self.old) }
         ensures stays { OnErr result (self.new ≡ self.old) }
     {
         if is_over(self.standing.used, self.setup.turns) {
             return Ok(false);
         }
+        if self.turn_home(alloc, worker)? {
+            return Ok(true);
+        }
+        self.turn_here(alloc, worker)
+    }
+
+    // Makes a piece of the process that stays at home with a worker. False where none does any more.
+    fn turn_home(&mut self, alloc: Global, worker: u32) -> Result<bool, NoMemory>
+        requires { cost_of self.old ≤ self.old.setup.turns }
+        ensures turned { IfOk result (λ r. r ≡ true → TurnsInside self.old self.new) }
+        ensures none { IfOk result (λ r. r ≡ false → self.new ≡ self.old) }
+        ensures stays { OnErr result (self.new ≡ self.old) }
+    {
+        let Some(home) = home_of(self.home, worker) else {
+            return Ok(false);
+        };
+        self.home = None;
+        if is_out(self.out.as_slice(), home.number) || self.is_crowded(home.number) {
+            return Ok(false);
+        }
+        self.promise();
+        let slice = self.setup.slice.max(HOME_SLICE);
+        let steps = self.enter(alloc, home.number, Way::Slice(slice))?;
+        self.home = home_behind(home, steps, slice);
+        Ok(steps != 0)
+    }
+
+    // Makes a piece of the process that would be taken for a worker, where it doesn't go out.
+    fn turn_here(&mut self, alloc: Global, worker: u32) -> Result<bool, NoMemory>
+        requires { cost_of self.old ≤ self.old.setup.turns }
+        ensures turned { IfOk result (λ r. r ≡ true → TurnsInside self.old self.new) }
+        ensures none { IfOk result (λ r. r ≡ false → self.new ≡ self.old) }
+        ensures stays { OnErr result (self.new ≡ self.old) }
+    {
         match self.choose_for(alloc, worker)? {
             None => Ok(false),
             Some(number) => {
-                if self.goes_out(number) {
+                if !self.stays_inside(worker, number) {
                     return Ok(false);
                 }
                 let slice = Way::Slice(self.setup.slice);
@@ -297,6 +338,48 @@ impl Table {
     fn goes_out(&self, number: u32) -> bool {
         let ready = self.standing.player.able.numbers.len();
         is_worth(self.setup.workers, ready, self.heavy.as_slice(), number)
+    }
+
+    // The first one that is ready beside this one.
+    fn ready_beside(&self, number: u32) -> Option<u32> {
+        let queue = &self.standing.player.able.numbers;
+        ready_beside(queue, self.out.as_slice(), number)
+    }
+
+    // Whether the first one that is ready beside this one is light, and so is to be played in place.
+    fn is_crowded(&self, number: u32) -> bool {
+        match self.ready_beside(number) {
+            Some(other) => !is_heavy(self.heavy.as_slice(), other),
+            None => false,
+        }
+    }
+
+    // Whether the piece of a process is made in place: nothing is gained outside, and then nobody else stays at home; or it is at home; or
+    // it comes home to this worker, as nobody else is there, its body is large, and no light one waits.
+    fn stays_inside(&mut self, worker: u32, number: u32) -> bool
+        ensures { self.new ≡ self.old }
+    {
+        if !self.goes_out(number) {
+            self.home = None;
+            return true;
+        }
+        if let Some(home) = self.home {
+            return home.number == number;
+        }
+        if self.is_crowded(number) {
+            return false;
+        }
+        let net = &self.standing.player.net;
+        self.home = home_for(net, worker, number, self.setup.slice);
+        self.home.is_some()
+    }
+
+    /// Whether a process stays at home with a worker, while another one is ready.
+    pub(crate) fn offers(&self, worker: u32) -> bool {
+        match home_of(self.home, worker) {
+            Some(home) => self.ready_beside(home.number).is_some(),
+            None => false,
+        }
     }
 
     /// Plays what came of a piece that was made outside, as one entry: its statements, and one step more where that concerns others and
@@ -409,6 +492,7 @@ impl Table {
             out: _out,
             shares: _shares,
             heavy: _heavy,
+            home: _home,
         } = self;
         standing.into_parts()
     }

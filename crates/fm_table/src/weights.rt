@@ -1,7 +1,7 @@
 //! Which processes are worth giving out.
 
-// Whether the last piece of a process used up its slice. Who hasn't made one yet is light.
-fn is_heavy(heavy: &[bool], number: u32) -> bool {
+/// Whether the last piece of a process used up its slice. Who hasn't made one yet is light.
+pub(crate) fn is_heavy(heavy: &[bool], number: u32) -> bool {
     match heavy.get(number as usize) {
         Some(heavy) => *heavy,
         None => false,

@@ -70,6 +70,11 @@ pub trait SharedTable: KeepsHistory {
         ensures none { IfOk result (λ r. r ≡ false → Self.history_of self.new ≡ Self.history_of self.old) }
         ensures unchanged { OnErr result (Self.history_of self.new ≡ Self.history_of self.old) };
 
+    /// Whether it goes on by itself with a process for this worker while another one is ready, so that others are to come in.
+    fn offers(&self, _worker: u32) -> bool {
+        false
+    }
+
     /// Makes every process ready that is out.
     fn recall(&mut self)
         ensures { Self.history_of self.new ≡ Self.history_of self.old };

@@ -18,6 +18,8 @@ mod faults;
 #[cfg(test)]
 mod flow;
 #[cfg(test)]
+mod homes;
+#[cfg(test)]
 mod io;
 #[cfg(test)]
 mod language;

@@ -201,8 +201,8 @@ const SETUPS: [[&str; 7]; 3] = [
     ],
 ];
 
-// A deterministic program is answered the same however it is set up.
-fn is_answered<W: Workers<Table>>(alloc: Global, row: &Row, workers: &W) -> Result<bool, Fail>
+/// A deterministic program is answered the same however it is set up.
+pub(crate) fn is_answered<W: Workers<Table>>(alloc: Global, row: &Row, workers: &W) -> Result<bool, Fail>
     requires { W.crosses }
 {
     let (_, verdict) = answer(alloc, &["check"], row.source)?;
