@@ -202,7 +202,11 @@ const SETUPS: [[&str; 7]; 3] = [
 ];
 
 /// A deterministic program is answered the same however it is set up.
-pub(crate) fn is_answered<W: Workers<Table>>(alloc: Global, row: &Row, workers: &W) -> Result<bool, Fail>
+pub(crate) fn is_answered<W: Workers<Table>>(
+    alloc: Global,
+    row: &Row,
+    workers: &W,
+) -> Result<bool, Fail>
     requires { W.crosses }
 {
     let (_, verdict) = answer(alloc, &["check"], row.source)?;

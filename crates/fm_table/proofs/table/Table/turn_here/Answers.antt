@@ -1,5 +1,4 @@
-use Rattle.std.proofs.Common.{◌≤◌, ap, sym, subst, ◌∙◌, arith}
-use Rattle.std.specs.Prelude.{ℕ}
+use Rattle.std.proofs.Common.{ap, sym, subst, ◌∙◌, arith}
 use Rattle.fm_table.specs.Inside.{EntersTo}
 use Rattle.fm_table.specs.Told.{Told}
 use Rattle.fm_table.specs.declared.making.Way.TheVariants as way
@@ -13,6 +12,7 @@ returns-in_ok-steps-in-Some-clause-turned c = λ e.
     let n = c.in-Some.number in
     let k = c.in_ok-steps-in-Some.steps in
     let who = ready_for c.args.worker a n (sym c.in_ok-choose_for.ensures.chosen ∙ c.in-Some.is) in
-    let slice = c.self-in-Some.inside.setup.slice in
-    let same = ap (λ (x : Told). x.setup.slice) c.self-in-Some.view_is in
-    turn_inside a c.enter.new.self n k slice c.requires who (omega (arith, same)) (c.in_ok-steps-in-Some.ensures.made (some_of k e))
+    let slice = c.self.inside.setup.slice in
+    let same = c.stays_inside.ensures ∙ c.choose_for.ensures.same in
+    let long = ap (λ (x : Told). x.setup.slice) (c.self.view_is ∙ same) in
+    turn_inside a c.enter.new.self n k slice c.requires who (omega (arith, long)) (subst (λ (x : Told). EntersTo (way.Slice slice) n k x c.enter.new.self) same (c.in_ok-steps-in-Some.ensures.made (some_of k e)))
