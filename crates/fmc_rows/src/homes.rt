@@ -42,6 +42,16 @@ const LARGE: &[u8] = b"      PROGRAM LARGE
       END
 ";
 
+const ROWS: [Row; 1] = [Row {
+    source: LARGE,
+    exit: Exit::Done,
+    text: b" 3230 999921 999921\n",
+}];
+
+fn rows() -> &'static [Row] {
+    &ROWS
+}
+
 #[test]
 fn large_bodies_are_answered_alike(rt: HostRuntime) -> Result<(), Fail> {
     let alloc = rt.alloc();
@@ -52,12 +62,9 @@ fn large_bodies_are_answered_alike(rt: HostRuntime) -> Result<(), Fail> {
             alloc,
         },
     };
-    let row = Row {
-        source: LARGE,
-        exit: Exit::Done,
-        text: b" 3230 999921 999921\n",
-    };
-    assert!(team.pool.rt; is_answered(alloc, &row, &team)?);
+    'rows: for row in rows() {
+        assert!(team.pool.rt; is_answered(alloc, row, &team)?);
+    }
     Ok(())
 }
 
