@@ -16,8 +16,6 @@ use std::alloc::Global;
 /// one more step, its event, if it can do it. With a step to `spare` there is room for it behind a whole slice too.
 ///
 /// After want of memory these aren't to be used any more.
-// Two nets call it, and as a call it takes 1 to 2 in 100 of a run of short pieces.
-#[inline(always)]
 pub fn make_piece(
     procs: &mut CodeProcs,
     alloc: Global,
