@@ -5,7 +5,8 @@
 
 Each program is run with some processes and with ten times as many: a block of children that do little, one in
 which all children but the first wait for the last one, a chain of processes each of which starts the next one, and
-a pipeline of stages. Valgrind's callgrind counts the instructions, which repeat to the digit on one machine. It
+a pipeline of stages. One worker plays them, since with several the counts depend on who comes when. Valgrind's
+callgrind counts the instructions, which repeat to the digit on one machine. It
 prints both counts and their ratio (10 for work that grows as the number of processes does), and tells in the
 status whether one is over its bound. BINARY is the built program, by default crates/fmc_cli/out/fmc_cli; PROGRAM is
 a name of PROGRAMS below, by default all.
@@ -158,7 +159,7 @@ def instructions(binary, text):
     """What `run` writes, and its instructions."""
     with tempfile.TemporaryDirectory() as folder:
         out = os.path.join(folder, "out")
-        command = ["valgrind", "--tool=callgrind", "--callgrind-out-file=" + out, binary, "run", "--turns", TURNS]
+        command = ["valgrind", "--tool=callgrind", "--callgrind-out-file=" + out, binary, "run", "--turns", TURNS, "--workers", "1"]
         done = subprocess.run(command, input=text.encode(), stdout=subprocess.PIPE, stderr=subprocess.PIPE)
     return done.stdout, int(re.search(rb"Collected : (\d+)", done.stderr).group(1))
 
