@@ -30,7 +30,8 @@ use std::sync::Arc;
 /// Why a program doesn't run on hosts.
 #[derive(Drop)]
 pub enum NodesFail {
-    /// It isn't plain: the least line of a MERGER or PROBE that main reaches, or of a declaration of ports over which ports go.
+    /// It isn't plain: the least line of a PROBE or of a MERGER with several writers that main reaches, or of a declaration of ports
+    /// over which ports go.
     NotPlain(Line),
     /// Memory was wanting.
     NoMemory,

@@ -7,7 +7,7 @@ use Rattle.fm_rules.specs.declared.program.Program.{Program}
 use Rattle.fm_mean.specs.Names.{context}
 use Rattle.fm_nodes_plain.specs.Carriers.{IsCarrier}
 
--- of a MERGER or PROBE, or of a declaration of ports over which ports go, in a unit that the PROGRAM reaches
+-- of a PROBE or of a MERGER with several writers, or of a declaration of ports over which ports go, in a unit that the PROGRAM reaches
 abbrev pub IsUnplainAt : Program → ℕ → Type 0
 IsUnplainAt p line = IsRace p.units.units (context p) line ⊎ IsCarrier p.units.units (context p) line
 

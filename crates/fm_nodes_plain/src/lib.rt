@@ -1,5 +1,5 @@
-//! Which programs can run on hosts: a MERGER or PROBE that main reaches keeps a program from being plain, and so does a
-//! declaration of ports over which ports go; the least line of one is told.
+//! Which programs can run on hosts. Three things keep a program from being plain: a PROBE that main reaches, a MERGER
+//! with several writers that main reaches, and a declaration of ports over which ports go. The least such line is returned.
 #![tactic(auto)]
 
 mod carriers;
