@@ -23,7 +23,7 @@ import tempfile
 import check
 
 TOP = os.path.dirname(os.path.dirname(os.path.abspath(__file__)))
-PROGRAMS = "loop", "sieve", "matrix", "calls"
+PROGRAMS = "loop", "cross", "matrix", "calls"
 MOST_OF_RUN, MOST_GROWTH = 1.05, 13
 VERIFIES = "fm_verified::"
 

@@ -131,7 +131,7 @@ def main():
     shared(pools, "compute, slice 10", ["run", "--slice", "10"], compute, [1, 2, 4, 8], told.runs)
     shared(pools, "demo 899", ["demo", "899"], b"", [1, 4], told.runs)
     if told.before:
-        for name in ["loop", "sieve", "matrix", "calls"]:
+        for name in ["loop", "cross", "matrix", "calls"]:
             alone(told.binary, told.before, name, text("speed", name + ".f"), told.runs)
 
 

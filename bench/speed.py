@@ -17,7 +17,7 @@ import time
 
 HERE = os.path.dirname(os.path.abspath(__file__))
 PROGRAMS = os.path.join(HERE, "speed")
-NAMES = ["loop", "sieve", "matrix", "calls"]
+NAMES = ["loop", "cross", "matrix", "calls"]
 RUNS = 3
 
 

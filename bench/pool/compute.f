@@ -1,13 +1,14 @@
       PROGRAM COMPUTE
 C     Eight processes that compute by themselves, each about as long as
-C     any other: loops, sieves and products of matrices. One has a frame
-C     of 60,000 words.
+C     any other: loops, products of matrices, and counts of the numbers
+C     that are no product of two numbers above 9. One has a frame of
+C     60,000 words.
       INTEGER R(8)
       PROCESSES
         PROCESSCALL LOOPS(1, R(1))
         PROCESSCALL LOOPS(2, R(2))
-        PROCESSCALL SIEVES(3, R(3))
-        PROCESSCALL SIEVES(4, R(4))
+        PROCESSCALL CROSS(3, R(3))
+        PROCESSCALL CROSS(4, R(4))
         PROCESSCALL PRODUCTS(5, R(5))
         PROCESSCALL PRODUCTS(6, R(6))
         PROCESSCALL LOOPS(7, R(7))
@@ -25,19 +26,19 @@ C     of 60,000 words.
       ENDDO
       END
 
-      PROCESS SIEVES(N, S)
+      PROCESS CROSS(N, S)
       INTENT(IN) N
       INTEGER S
       LOGICAL OUT(3000)
-      DO K = 1, 400
-        DO I = 2, 3000
+      DO K = 1, 350
+        DO I = 10, 3000
           OUT(I) = .FALSE.
         ENDDO
         S = N
-        DO I = 2, 3000
+        DO I = 10, 3000
           IF (.NOT. OUT(I)) THEN
             S = S + 1
-            DO J = I + I, 3000, I
+            DO J = 10*I, 3000, I
               OUT(J) = .TRUE.
             ENDDO
           ENDIF
@@ -73,15 +74,15 @@ C     of 60,000 words.
       INTENT(IN) N
       INTEGER S
       LOGICAL OUT(60000)
-      DO K = 1, 18
-        DO I = 2, 60000
+      DO K = 1, 13
+        DO I = 10, 60000
           OUT(I) = .FALSE.
         ENDDO
         S = N
-        DO I = 2, 60000
+        DO I = 10, 60000
           IF (.NOT. OUT(I)) THEN
             S = S + 1
-            DO J = I + I, 60000, I
+            DO J = 10*I, 60000, I
               OUT(J) = .TRUE.
             ENDDO
           ENDIF

@@ -13,21 +13,31 @@ pub(crate) struct Row {
 
 const ROWS: [Row; 13] = [
     Row {
-        source: b"C     The primes up to 60, by the sieve of Eratosthenes.
-      PROGRAM SIEVE
+        source: b"C     The lucky numbers up to 60. The even numbers are crossed out. The
+C     next number that is left is 3, so every third of those that are
+C     left is crossed out; then every seventh, since 7 is the next; and
+C     so on.
+      PROGRAM LUCKY
       PARAMETER (N = 60)
-      LOGICAL OUT(2:N)
-      INTEGER I, J
-      DO 20 I = 2, N
-        IF (OUT(I)) GOTO 20
+      LOGICAL OUT(N)
+      INTEGER I, J, LEFT
+      DO 10 J = 2, N, 2
+10    OUT(J) = .TRUE.
+      PRINT *, 1
+      DO 30 I = 3, N
+        IF (OUT(I)) GOTO 30
         PRINT *, I
-        DO 10 J = I*I, N, I
-10      OUT(J) = .TRUE.
-20    CONTINUE
+        LEFT = 0
+        DO 20 J = 1, N
+          IF (OUT(J)) GOTO 20
+          LEFT = LEFT + 1
+          OUT(J) = MOD(LEFT, I) .EQ. 0
+20      CONTINUE
+30    CONTINUE
       END
 ",
         exit: Exit::Done,
-        text: b" 2\n 3\n 5\n 7\n 11\n 13\n 17\n 19\n 23\n 29\n 31\n 37\n 41\n 43\n 47\n 53\n 59\n",
+        text: b" 1\n 3\n 7\n 9\n 13\n 15\n 21\n 25\n 31\n 33\n 37\n 43\n 49\n 51\n",
     },
     Row {
         source: b"C     Greatest common divisors, by a FUNCTION that other expressions
@@ -272,24 +282,24 @@ C     into which its result is copied back when all have ended.
         text: b" results 297 598 903 1198\n worker 1\n worker 2\n worker 3\n worker 4\n",
     },
     Row {
-        source: b"C     A sieve of processes. A filter keeps the first number that it
-C     gets, which is a prime, and sends on what this one doesn't
-C     divide; for the first such number it starts the next filter.
-      PROGRAM PRIMES
+        source: b"C     The last digits of squares, each printed once. A filter keeps the
+C     first number that it gets, and sends on those that differ from it;
+C     for the first such number it starts the next filter.
+      PROGRAM DISTINCT
       INPORT (INTEGER) GET
       OUTPORT (INTEGER) PUT
       CHANNEL(IN=GET, OUT=PUT)
       PROCESSES
-        PROCESSCALL NUMBERS(30, PUT)
+        PROCESSCALL SQUARES(30, PUT)
         PROCESSCALL FILTER(GET)
       ENDPROCESSES
       END
 
-      PROCESS NUMBERS(LAST, PUT)
+      PROCESS SQUARES(LAST, PUT)
       OUTPORT (INTEGER) PUT
       INTEGER LAST, I
-      DO I = 2, LAST
-        SEND(PUT) I
+      DO I = 1, LAST
+        SEND(PUT) MOD(I*I, 10)
       ENDDO
       ENDCHANNEL(PUT)
       END
@@ -297,29 +307,29 @@ C     divide; for the first such number it starts the next filter.
       PROCESS FILTER(GET)
       INPORT (INTEGER) GET, NEXT
       OUTPORT (INTEGER) PUT
-      INTEGER PRIME
-      RECEIVE(PORT=GET, END=10) PRIME
-      PRINT *, PRIME
+      INTEGER KEPT
+      RECEIVE(PORT=GET, END=10) KEPT
+      PRINT *, KEPT
       CHANNEL(IN=NEXT, OUT=PUT)
       PROCESSES
-        PROCESSCALL DIVIDE(PRIME, GET, PUT)
+        PROCESSCALL OTHERS(KEPT, GET, PUT)
         PROCESSCALL FILTER(NEXT)
       ENDPROCESSES
 10    CONTINUE
       END
 
-      PROCESS DIVIDE(PRIME, GET, PUT)
+      PROCESS OTHERS(KEPT, GET, PUT)
       INPORT (INTEGER) GET
       OUTPORT (INTEGER) PUT
-      INTEGER PRIME, N
+      INTEGER KEPT, N
 20    RECEIVE(PORT=GET, END=30) N
-      IF (MOD(N, PRIME) .NE. 0) SEND(PUT) N
+      IF (N .NE. KEPT) SEND(PUT) N
       GOTO 20
 30    ENDCHANNEL(PUT)
       END
 ",
         exit: Exit::Done,
-        text: b" 2\n 3\n 5\n 7\n 11\n 13\n 17\n 19\n 23\n 29\n",
+        text: b" 1\n 4\n 9\n 6\n 5\n 0\n",
     },
     Row {
         source: b"C     Two senders on one inport. Which of their numbers comes first is

@@ -1,21 +1,21 @@
-C     A sieve of processes. A filter keeps the first number that it
-C     gets, which is a prime, and sends on what this one doesn't
-C     divide; for the first such number it starts the next filter.
-      PROGRAM PRIMES
+C     The last digits of squares, each printed once. A filter keeps the
+C     first number that it gets, and sends on those that differ from it;
+C     for the first such number it starts the next filter.
+      PROGRAM DISTINCT
       INPORT (INTEGER) GET
       OUTPORT (INTEGER) PUT
       CHANNEL(IN=GET, OUT=PUT)
       PROCESSES
-        PROCESSCALL NUMBERS(30, PUT)
+        PROCESSCALL SQUARES(30, PUT)
         PROCESSCALL FILTER(GET)
       ENDPROCESSES
       END
 
-      PROCESS NUMBERS(LAST, PUT)
+      PROCESS SQUARES(LAST, PUT)
       OUTPORT (INTEGER) PUT
       INTEGER LAST, I
-      DO I = 2, LAST
-        SEND(PUT) I
+      DO I = 1, LAST
+        SEND(PUT) MOD(I*I, 10)
       ENDDO
       ENDCHANNEL(PUT)
       END
@@ -23,23 +23,23 @@ C     divide; for the first such number it starts the next filter.
       PROCESS FILTER(GET)
       INPORT (INTEGER) GET, NEXT
       OUTPORT (INTEGER) PUT
-      INTEGER PRIME
-      RECEIVE(PORT=GET, END=10) PRIME
-      PRINT *, PRIME
+      INTEGER KEPT
+      RECEIVE(PORT=GET, END=10) KEPT
+      PRINT *, KEPT
       CHANNEL(IN=NEXT, OUT=PUT)
       PROCESSES
-        PROCESSCALL DIVIDE(PRIME, GET, PUT)
+        PROCESSCALL OTHERS(KEPT, GET, PUT)
         PROCESSCALL FILTER(NEXT)
       ENDPROCESSES
 10    CONTINUE
       END
 
-      PROCESS DIVIDE(PRIME, GET, PUT)
+      PROCESS OTHERS(KEPT, GET, PUT)
       INPORT (INTEGER) GET
       OUTPORT (INTEGER) PUT
-      INTEGER PRIME, N
+      INTEGER KEPT, N
 20    RECEIVE(PORT=GET, END=30) N
-      IF (MOD(N, PRIME) .NE. 0) SEND(PUT) N
+      IF (N .NE. KEPT) SEND(PUT) N
       GOTO 20
 30    ENDCHANNEL(PUT)
       END

@@ -1,5 +1,5 @@
-C     A farm that counts primes: each worker has a range of its own and
-C     needs nothing from the others.
+C     A farm that counts the numbers that no square divides: each worker
+C     has a range of its own and needs nothing from the others.
       PROGRAM FARM
       PARAMETER (N = 4, LENGTH = 50)
       INTEGER COUNT(N)
@@ -10,23 +10,26 @@ C     needs nothing from the others.
       DO I = 1, N
         J = J + COUNT(I)
       ENDDO
-      PRINT *, 'primes up to', N*LENGTH, J, 'by worker', COUNT
+      PRINT *, 'squarefree up to', N*LENGTH, J, 'by worker', COUNT
       END
 
       PROCESS WORKER(LOW, IHIGH, NUMBER)
       PARAMETER (LENGTH = 50)
       LOGICAL OUT(0:LENGTH - 1)
+      INTEGER FIRST, SQUARE
       INTENT(IN) LOW, IHIGH
-      NUMBER = 0
       K = 2
       DO WHILE (K*K .LE. IHIGH)
-        M = MAX((LOW + K - 1)/K*K, K*K)
-        DO 10 J = M, IHIGH, K
-   10   OUT(J - LOW) = .TRUE.
+        SQUARE = K*K
+        FIRST = (LOW + SQUARE - 1)/SQUARE*SQUARE
+        DO J = FIRST, IHIGH, SQUARE
+          OUT(J - LOW) = .TRUE.
+        ENDDO
         K = K + 1
       ENDDO
+      NUMBER = 0
       DO J = LOW, IHIGH
-        IF (J .GT. 1 .AND. .NOT. OUT(J - LOW)) NUMBER = NUMBER + 1
+        IF (.NOT. OUT(J - LOW)) NUMBER = NUMBER + 1
       ENDDO
       PRINT *, LOW, IHIGH, NUMBER
       END

@@ -1,15 +1,18 @@
 local n = 60000
 local out = {}
+for i = 1, n do
+  out[i] = false
+end
 local count
-for k = 1, 20 do
-  for i = 2, n do
+for k = 1, 15 do
+  for i = 10, n do
     out[i] = false
   end
   count = 0
-  for i = 2, n do
+  for i = 10, n do
     if not out[i] then
       count = count + 1
-      for j = i + i, n, i do
+      for j = 10 * i, n, i do
         out[j] = true
       end
     end
