@@ -9,11 +9,13 @@ crates/fmc_cli/out/fmc_cli, and stands for ./fmc.
 - A block ```fortran units stands for a program too: its units, and behind them those units of the last program that
   have other names.
 - A block ```text right behind a block ```fortran is what `run`, `check` or `list` writes of that program; a block
-  ```text WORDS, also further on, is what these words write of the last program.
+  ```text WORDS, also further on, is what these words write of the last program. A word that begins with extras/ is
+  that script.
 - A whole program with no such block, and with no command on my.f behind it, breaks no rule. A part of a
   program isn't tried.
-- A block ```text right behind a block ```sh is what its lines write together. Lines that begin with ./fmc or
-  extras/why are run, and are no usage; a block with other commands isn't compared. The file my.f is the last program.
+- A block ```text right behind a block ```sh is what its lines write together. Lines that begin with ./fmc,
+  extras/why or extras/lint are run, and are no usage; a block with other commands isn't compared. The file my.f is the
+  last program.
 - A line that ends with > docs/NAME.svg writes that file as it is.
 """
 import os
@@ -24,7 +26,7 @@ import sys
 
 TOP = os.path.dirname(os.path.dirname(os.path.abspath(__file__)))
 PAGES = ["README.md", "docs/LANGUAGE.md", "docs/RULES.md", "docs/TOUR.md", "docs/LINKS.md", "docs/PROMISES.md",
-         "docs/OBJECT.md", "examples/gallery/README.md"]
+         "docs/OBJECT.md", "docs/LINT.md", "examples/gallery/README.md"]
 FENCE = re.compile(r"^```(\w*) ?([^\n]*)\n(.*?)^```$", re.M | re.S)
 HEADING = re.compile(r"^ +PROGRAM\b", re.M | re.I)
 UNIT = re.compile(r"(?:^[^\n]*\n)*?^[ \d]{6} *END\n", re.M)
@@ -43,6 +45,8 @@ def fences(page):
 
 def ran(binary, words, program):
     """What words write of a program, and the status."""
+    if words[0].startswith("extras/"):
+        return typed(binary, program, shlex.join(words) + " my.f")
     done = subprocess.run([binary, *words], input=program.encode(), stdout=subprocess.PIPE)
     return done.stdout.decode(errors="replace"), done.returncode
 
@@ -68,7 +72,7 @@ def shell(binary, program, text):
     lines = [line for line in DRAWN.sub("", text).splitlines() if line.strip() and not line.startswith("#")]
     written, statuses = "", [0]
     for line in lines:
-        if line.startswith(("./fmc ", "extras/why ")):
+        if line.startswith(("./fmc ", "extras/why ", "extras/lint ")):
             told, status = typed(binary, program, line)
             written += told
             statuses.append(status)
