@@ -1,0 +1,5 @@
+mod Sent
+mod Ends
+mod Steps
+mod Network
+pub mod Following
