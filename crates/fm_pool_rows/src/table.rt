@@ -1,6 +1,6 @@
 //! A table in small: each process has so many pieces to make, and computes nothing.
 
-ghost use Rattle.std.specs.Prelude.{◌<◌, ◌≤◌, length, IfSome};
+ghost use Rattle.std.specs.Prelude.{◌<◌, ◌≤◌, length, IfSome, ⊤};
 
 use fm_base::{NoMemory, Turn};
 use fm_workers::{Given, KeepsHistory, Phase, SharedTable};
@@ -129,6 +129,17 @@ impl SharedTable for Table {
     type Done = Done;
 
     ghost process_of = { λ d. d.process };
+
+    // Nothing more is told of what its calls do: the tests see it.
+    ghost take_does = { λ _ _ _ _. ⊤ };
+
+    ghost give_does = { λ _ _ _ _. ⊤ };
+
+    ghost turn_does = { λ _ _ _ _. ⊤ };
+
+    ghost recall_does = { λ _ _. ⊤ };
+
+    ghost phase_tells = { λ _ _. ⊤ };
 
     fn advance(_alloc: Global, piece: Piece) -> Result<Done, NoMemory> {
         Ok(Done {

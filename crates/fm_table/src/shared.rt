@@ -1,5 +1,11 @@
 //! The table as one whose pieces workers compute.
 
+ghost use Rattle.std.specs.Prelude.{◌≡◌, true, false, None, IfOk, IfErr, IfSome, OnErr};
+ghost use Rattle.fm_run.specs.Orders.{place_in};
+ghost use Rattle.fm_table.specs.Giving.{CallsBack, GivenTo, TakesTo};
+ghost use Rattle.fm_table.specs.Told.{IsIdle, phase_of};
+ghost use Rattle.fm_table.specs.Turning.{TurnsInside};
+
 use crate::piece::Piece;
 use crate::table::Table;
 use fm_base::NoMemory;
@@ -22,6 +28,22 @@ impl SharedTable for Table {
     type Done = Done;
 
     ghost process_of = { λ done. done.process };
+
+    // What the table's own call ensures, as of the four below.
+    ghost take_does = { λ worker a answer b.
+        IfOk answer (λ r. IfSome r (λ p. TakesTo worker p.process (place_in p.path) p.start.value a b))
+        × IfOk answer (λ r. r ≡ None → IsIdle a × (b ≡ a))
+        × OnErr answer (b ≡ a) };
+
+    ghost give_does = { λ done a answer b.
+        IfOk answer (λ g. GivenTo done a b g) × IfErr answer (λ e. e.0 ≡ done) × OnErr answer (b ≡ a) };
+
+    ghost turn_does = { λ worker a answer b.
+        IfOk answer (λ r. r ≡ true → TurnsInside a b) × IfOk answer (λ r. r ≡ false → b ≡ a) × OnErr answer (b ≡ a) };
+
+    ghost recall_does = { CallsBack };
+
+    ghost phase_tells = { λ a phase. phase ≡ phase_of a };
 
     fn advance(alloc: Global, piece: Piece) -> Result<Done, NoMemory> {
         piece.advance(alloc)

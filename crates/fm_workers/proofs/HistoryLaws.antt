@@ -1,5 +1,5 @@
 -- What a table's answer says of its history, whatever it was.
-use Rattle.std.proofs.Common.{◌≡◌, ◌⊎◌, ℕ, List, [], ◌∷◌, ◌++◌, inl, inr}
+use Rattle.std.proofs.Common.{◌≡◌, ℕ, List, [], ◌∷◌, ◌++◌, inl, inr}
 use Rattle.fm_base.specs.declared.schedule.Turn.{Turn}
 use Rattle.fm_workers.specs.declared.shared.Given.{Given}
 use Rattle.fm_workers.specs.declared.shared.Given.TheVariants.{Played, Stranger, Over}

@@ -1,7 +1,10 @@
 //! A table that gives pieces out, and takes back what they came to.
 
-ghost use Rattle.std.specs.Prelude.{◌≡◌, ◌≤◌, ℕ, List, length, false, IfOk, IfErr, OnErr};
+ghost use Rattle.std.specs.Prelude.{◌≡◌, ◌≤◌, ℕ, Bool, Option, Result, List, length, false, IfOk, IfErr, OnErr};
+ghost use Rattle.fm_base.specs.declared.memory.NoMemory as declared_memory;
 ghost use Rattle.fm_base.specs.declared.schedule.Turn as declared_turn;
+ghost use Rattle.fm_workers.specs.declared.shared.Given as declared_given;
+ghost use Rattle.fm_workers.specs.declared.shared.Phase as declared_phase;
 ghost use Rattle.fm_workers.specs.Histories.{HasGrown, IsGiven};
 
 use fm_base::NoMemory;
@@ -41,6 +44,10 @@ pub trait KeepsHistory {
 }
 
 /// Processes whose pieces are computed outside.
+///
+/// What a call does is told by a relation of the table's own, between the table before, the answer and the table after. It
+/// holds whatever the answer is, want of memory among them. So who passes a call on, and owes the same relation, has made
+/// that call once, and has neither lost nor made up an answer.
 pub trait SharedTable: KeepsHistory {
     /// A process that is out, with all that its piece needs.
     type Piece: Drop + Send;
@@ -51,21 +58,39 @@ pub trait SharedTable: KeepsHistory {
     /// The process that made the piece, by its place in the order of starting.
     ghost process_of: { Self.Done → ℕ };
 
+    /// What `take` does, for a worker.
+    ghost take_does: { ℕ → Self → Result (Option Self.Piece) declared_memory.NoMemory → Self → Type 0 };
+
+    /// What `give` does, with what a piece came to.
+    ghost give_does: { Self.Done → Self → Result declared_given.Given (Self.Done × declared_memory.NoMemory) → Self → Type 0 };
+
+    /// What `turn_light` does, for a worker.
+    ghost turn_does: { ℕ → Self → Result Bool declared_memory.NoMemory → Self → Type 0 };
+
+    /// What `recall` does.
+    ghost recall_does: { Self → Self → Type 0 };
+
+    /// What `phase` tells of a table.
+    ghost phase_tells: { Self → declared_phase.Phase → Type 0 };
+
     /// Computes a piece.
     fn advance(alloc: Global, piece: Self::Piece) -> Result<Self::Done, NoMemory>;
 
     /// Gives out a piece, for this worker if it can choose. None comes where none is ready.
     fn take(&mut self, alloc: Global, worker: u32) -> Result<Option<Self::Piece>, NoMemory>
-        ensures { Self.history_of self.new ≡ Self.history_of self.old };
+        ensures does { take_does worker self.old result self.new }
+        ensures history { Self.history_of self.new ≡ Self.history_of self.old };
 
     /// Plays what a piece came to, or doesn't know it.
     fn give(&mut self, alloc: Global, done: Self::Done) -> Result<Given, (Self::Done, NoMemory)>
+        ensures does { give_does done self.old result self.new }
         ensures given { IfOk result (λ g. IsGiven g (process_of done) (Self.history_of self.old) (Self.history_of self.new)) }
         ensures unchanged { OnErr result (Self.history_of self.new ≡ Self.history_of self.old) }
         ensures back { IfErr result (λ e. e.0 ≡ done) };
 
     /// Makes a piece by itself, of a process that isn't worth giving out. False where it made none.
     fn turn_light(&mut self, alloc: Global, worker: u32) -> Result<bool, NoMemory>
+        ensures does { turn_does worker self.old result self.new }
         ensures grown { IfOk result (λ _. HasGrown (Self.history_of self.old) (Self.history_of self.new)) }
         ensures none { IfOk result (λ r. r ≡ false → Self.history_of self.new ≡ Self.history_of self.old) }
         ensures unchanged { OnErr result (Self.history_of self.new ≡ Self.history_of self.old) };
@@ -77,8 +102,10 @@ pub trait SharedTable: KeepsHistory {
 
     /// Makes every process ready that is out.
     fn recall(&mut self)
-        ensures { Self.history_of self.new ≡ Self.history_of self.old };
+        ensures does { recall_does self.old self.new }
+        ensures history { Self.history_of self.new ≡ Self.history_of self.old };
 
     /// How far the table is.
-    fn phase(&self) -> Phase;
+    fn phase(&self) -> Phase
+        ensures { phase_tells self.now result };
 }
