@@ -27,11 +27,17 @@ class Word(str):
 
 
 def rows_of(source):
-    """The lines of a source, each without its line feed and the CR in front of that."""
+    """The lines of a source, each without its line feed and the CR at its end."""
     rows = source.decode("latin-1").split("\n")
     if rows[-1] == "":
         rows.pop()
     return [row[:-1] if row.endswith("\r") else row for row in rows]
+
+
+def row_of(label, text):
+    """The lines of a statement with a label and a text."""
+    pieces = [text[at : at + 66] for at in range(0, len(text), 66)]
+    return [f"{label:>5} {pieces[0]}"] + [f"     +{piece}" for piece in pieces[1:]]
 
 
 def is_comment(row):
@@ -168,9 +174,14 @@ class Statement(Part):
 
 
 def statements(source):
-    """The statements of a source; a continuation without a statement before it begins one."""
+    """The statements of a source."""
+    return statements_of(rows_of(source))
+
+
+def statements_of(rows):
+    """The statements of some lines; a continuation without a statement before it begins one."""
     kept = []
-    for number, row in enumerate(rows_of(source), 1):
+    for number, row in enumerate(rows, 1):
         if is_comment(row):
             continue
         if kept and is_continuation(row):
