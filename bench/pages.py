@@ -13,9 +13,9 @@ crates/fmc_cli/out/fmc_cli, and stands for ./fmc.
   that script.
 - A whole program with no such block, and with no command on my.f behind it, breaks no rule. A part of a
   program isn't tried.
-- A block ```text right behind a block ```sh is what its lines write together. Lines that begin with ./fmc,
-  extras/why or extras/lint are run, and are no usage; a block with other commands isn't compared. The file my.f is the
-  last program.
+- A block ```text right behind a block ```sh is what its lines write together. Lines that begin with ./fmc, extras/ or
+  sed are run, in a folder that has the repository's names, and are no usage; a block with other commands isn't
+  compared. The file my.f is the last program. Files that a line writes are there for the page's later lines.
 - A line that ends with > docs/NAME.svg writes that file as it is.
 """
 import os
@@ -23,6 +23,7 @@ import re
 import shlex
 import subprocess
 import sys
+import tempfile
 
 TOP = os.path.dirname(os.path.dirname(os.path.abspath(__file__)))
 PAGES = ["README.md", "docs/LANGUAGE.md", "docs/RULES.md", "docs/TOUR.md", "docs/LINKS.md", "docs/PROMISES.md",
@@ -31,6 +32,7 @@ FENCE = re.compile(r"^```(\w*) ?([^\n]*)\n(.*?)^```$", re.M | re.S)
 HEADING = re.compile(r"^ +PROGRAM\b", re.M | re.I)
 UNIT = re.compile(r"(?:^[^\n]*\n)*?^[ \d]{6} *END\n", re.M)
 DRAWN = re.compile(r"^(\./fmc .*) > (docs/\w+\.svg)$", re.M)
+COMMANDS = "./fmc ", "extras/", "sed "
 NAME = re.compile(r"^ +(?:(?:INTEGER|LOGICAL) )?(?:PROGRAM|PROCESS|SUBROUTINE|FUNCTION) (\w+)", re.M)
 
 
@@ -43,10 +45,10 @@ def fences(page):
         end = it.end()
 
 
-def ran(binary, words, program):
+def ran(binary, folder, words, program):
     """What words write of a program, and the status."""
     if words[0].startswith("extras/"):
-        return typed(binary, program, shlex.join(words) + " my.f")
+        return typed(binary, folder, program, shlex.join(words) + " my.f")
     done = subprocess.run([binary, *words], input=program.encode(), stdout=subprocess.PIPE)
     return done.stdout.decode(errors="replace"), done.returncode
 
@@ -59,35 +61,42 @@ def with_units(program, text):
     return "".join(units.values())
 
 
-def typed(binary, program, line):
-    """What a line of a block of commands writes, and the status."""
-    line = line.replace("./fmc", shlex.quote(binary)).replace(" my.f", " /dev/stdin")
-    done = subprocess.run(line, shell=True, cwd=TOP, env={**os.environ, "FMC": binary}, input=program.encode(),
-                          stdout=subprocess.PIPE)
+def fill(folder):
+    """Gives a folder the names of the repository."""
+    for name in os.listdir(TOP):
+        os.symlink(os.path.join(TOP, name), os.path.join(folder, name))
+
+
+def typed(binary, folder, program, line):
+    """What a line of a block of commands writes in this folder, and the status."""
+    with open(os.path.join(folder, "my.f"), "w", encoding="utf-8") as file:
+        file.write(program)
+    line = line.replace("./fmc", shlex.quote(binary))
+    done = subprocess.run(line, shell=True, cwd=folder, env={**os.environ, "FMC": binary}, stdout=subprocess.PIPE)
     return done.stdout.decode(errors="replace"), done.returncode
 
 
-def shell(binary, program, text):
+def shell(binary, folder, program, text):
     """What the lines of a block of commands write, the worst status, and whether each of them is one of ours."""
     lines = [line for line in DRAWN.sub("", text).splitlines() if line.strip() and not line.startswith("#")]
     written, statuses = "", [0]
     for line in lines:
-        if line.startswith(("./fmc ", "extras/why ", "extras/lint ")):
-            told, status = typed(binary, program, line)
+        if line.startswith(COMMANDS):
+            told, status = typed(binary, folder, program, line)
             written += told
             statuses.append(status)
     return written, 5 if 5 in statuses else 0, len(statuses) == len(lines) + 1
 
 
-def redrawn(binary, program, text):
+def redrawn(binary, folder, program, text):
     """Those drawings of a block of commands that its lines write otherwise than they are."""
     for command, name in DRAWN.findall(text):
         with open(os.path.join(TOP, name), encoding="utf-8") as file:
-            if typed(binary, program, command)[0] != file.read():
+            if typed(binary, folder, program, command)[0] != file.read():
                 yield name
 
 
-def tried(binary, page):
+def tried(binary, folder, page):
     """For each block of a page that can be tried its line, what is wrong, if anything, and how it was tried."""
     blocks = [*fences(page)]
     program = ""
@@ -98,16 +107,17 @@ def tried(binary, page):
             program = with_units(program, text) if words == ["units"] else text
             is_used = number + 1 < len(blocks) and "< my.f" in blocks[number + 1][2]
             if HEADING.search(program) and not is_answered and not is_used:
-                written, status = ran(binary, ["check"], program)
+                written, status = ran(binary, folder, ["check"], program)
                 yield line, "" if status == 0 else written, "checked"
         elif kind == "text" and (words or before[0] == "fortran"):
-            answers = [ran(binary, it, program)[0] for it in ([words] if words else [["run"], ["check"], ["list"]])]
+            asked = [words] if words else [["run"], ["check"], ["list"]]
+            answers = [ran(binary, folder, it, program)[0] for it in asked]
             yield line, "" if text in answers else answers[0] or "nothing", "compared"
         elif kind == "sh":
             if DRAWN.search(text):
-                others = ", ".join(redrawn(binary, program, text))
+                others = ", ".join(redrawn(binary, folder, program, text))
                 yield line, others and f"another drawing than {others}", "redrawn"
-            written, status, is_ours = shell(binary, program, text)
+            written, status, is_ours = shell(binary, folder, program, text)
             if is_answered and is_ours:
                 wanted = blocks[number + 1][2]
                 yield line, "" if written == wanted else written or "nothing", "compared"
@@ -121,11 +131,13 @@ def main():
     for name in sys.argv[2:] or PAGES:
         with open(os.path.join(TOP, name), encoding="utf-8") as file:
             page = file.read()
-        for line, found, how in tried(binary, page):
-            counts[how] = counts.get(how, 0) + 1
-            if found:
-                wrong += 1
-                print(f"{name}, line {line}: it writes\n{found}")
+        with tempfile.TemporaryDirectory() as folder:
+            fill(folder)
+            for line, found, how in tried(binary, folder, page):
+                counts[how] = counts.get(how, 0) + 1
+                if found:
+                    wrong += 1
+                    print(f"{name}, line {line}: it writes\n{found}")
     print(", ".join(f"{count} {how}" for how, count in sorted(counts.items())) + f"; {wrong} wrong")
     sys.exit(1 if wrong else 0)
 
