@@ -26,9 +26,9 @@ class Told:
 
 
 class Draft:
-    """A text that is mended: its rows, each with its line in the source. A row that is put in has that of the one before.
+    """A text that is mended: its rows, each with its line in the source, and what the last change was.
 
-    `how` says what the last change was.
+    A row that is put in has the line of a row beside it.
     """
 
     def __init__(self, rows, how=""):
@@ -100,10 +100,10 @@ def candidates(unit, one):
 
 def is_logical(unit, name):
     """Whether the statements of a unit use a name as a logical one."""
-    text = re.escape(name)
-    pattern = re.compile(rf"^{text}=(\.TRUE\.|\.FALSE\.|\.NOT\.|.*\.(LT|LE|GT|GE|EQ|NE|AND|OR)\.)|\.NOT\.{text}$|EMPTY={text}\)"
-                         rf"|(\.AND\.|\.OR\.){text}\b(?!\.(LT|LE|GT|GE|EQ|NE)\.)|IF\({text}\)|DOWHILE\({text}\)")
-    return any(pattern.search(one.text) for one in unit.statements)
+    text, relation = re.escape(name), r"\.(LT|LE|GT|GE|EQ|NE)\."
+    forms = (rf"^{text}=(\.TRUE\.|\.FALSE\.|\.NOT\.|.*\.(AND|OR)\.|.*{relation})", rf"\.NOT\.{text}$", rf"EMPTY={text}\)",
+             rf"(\.AND\.|\.OR\.){text}\b(?!{relation})", rf"(IF|DOWHILE)\({text}\)")
+    return any(re.search(form, one.text) for form in forms for one in unit.statements)
 
 
 def undeclared(draft, told):
@@ -174,8 +174,9 @@ def relations(text):
 
 def declaration(text):
     """A declaration of another Fortran as one of this language."""
-    found = re.match(r"(REAL|DOUBLEPRECISION|COMPLEX|CHARACTER|INTEGER|LOGICAL)(?:\*\d+|\*\(\*\)|\((?:KIND=|LEN=)?\w+\))?"
-                     r"((?:,[A-Z]+(?:\([^()]*\))?)*?)(?:::)?((?<=::)[A-Z].*|(?<=[A-Z0-9)])[A-Z].*)$", text)
+    found = re.match(r"(REAL|DOUBLEPRECISION|COMPLEX|CHARACTER|INTEGER|LOGICAL)"
+                     r"(?:\*\d+|\*\(\*\)|\((?:KIND=|LEN=)?\w+\))?((?:,[A-Z]+(?:\([^()]*\))?)*?)"
+                     r"(?:::)?((?<=::)[A-Z].*|(?<=[A-Z0-9)])[A-Z].*)$", text)
     if not found:
         return ""
     names = [part for part in parted(tokens(found.group(3), 0)) if part]
@@ -221,7 +222,8 @@ def grammar(draft, told):
         if is_form(text) and text != one.text:
             yield draft.instead(one, text)
     if ";" in one.text:
-        rows = [row for at, piece in enumerate(one.text.split(";")) if piece for row in row_of("" if at else one.label, piece)]
+        pieces = [*filter(None, one.text.split(";"))]
+        rows = [row for at, piece in enumerate(pieces) for row in row_of("" if at else one.label, piece)]
         yield draft.with_rows(one.rows[0][0] - 1, one.rows[-1][0], rows, "taken as several lines")
     if one.kind == "PROCESSCALL" or one.text.startswith("IF("):
         yield draft.instead(one, "")
@@ -259,12 +261,32 @@ def out_of_place(draft, told):
     yield draft.instead(one, "")
 
 
+def missing_ends(unit):
+    """The first statement in front of which ends of blocks are missing, and the rows of these ends; or none."""
+    opened = []
+    for one in unit.statements:
+        if one.kind in OPENERS:
+            label = re.match(r"(?:PROCESS)?DO(\d*)", one.text).group(1) if one.kind in ("DO", "PROCESSDO") else ""
+            opened.append((row_of(label, "CONTINUE")[0] if label else f"      {OPENERS[one.kind]}", one.kind, label))
+        elif one.kind in OPENERS.values():
+            depth = [at for at, (_, kind, label) in enumerate(opened) if OPENERS[kind] == one.kind and not label]
+            if depth and depth[-1] < len(opened) - 1:
+                return one, [row for row, _, _ in reversed(opened[depth[-1] + 1 :])]
+            del opened[depth[-1] if depth else len(opened) :]
+        elif one.kind == "END" and opened:
+            return one, [row for row, _, _ in reversed(opened)]
+        while one.label and opened and opened[-1][2] == one.label and one.kind not in OPENERS:
+            opened.pop()
+    return None
+
+
 def blocks(draft, told):
     unit, one, _ = unit_at(draft, told.at)
-    last = unit.statements[-1]
-    if one.kind in OPENERS:
-        end = OPENERS[one.kind]
-        yield draft.added(last, [f"      {end}"], f"{end} put in front of the unit's END")
+    missing = missing_ends(unit)
+    if missing:
+        before, rows = missing
+        line = draft.rows[before.rows[0][0] - 1][0]
+        yield draft.added(before, rows, f"{', '.join(row.strip() for row in rows)} put in front of line {line}")
     yield draft.instead(one, "")
 
 
@@ -353,26 +375,31 @@ MENDS = {"E01": plain_row, "E02": free_form, "E03": free_form, "E10": grammar, "
          "E33": declarations, "E34": declarations}
 
 
-def mended(draft, told):
-    """A draft in which the told statement is mended, with its refusal or none; none where nothing gets further."""
+def mended(draft, told, before):
+    """A draft in which the told statement is mended, with its refusal or none; none where nothing gets further.
+
+    `before` counts how often each place was told before; a place that was told twice is told no more.
+    """
     best = None
     for other in MENDS.get(told.rule, meaning)(draft, told):
         if [row for _, row in other.rows] != [row for _, row in draft.rows]:
             after = other.told()
             key = after.key if after else (9,)
-            if (best is None or key > best[0]) and key != told.key:
+            is_new = not after or before.get(key, 0) < 2
+            if is_new and key != told.key and (best is None or key > best[0]):
                 best = key, other, after
     return best and best[1:]
 
 
 def go_on(source):
-    """Each refusal of a source in turn with what was done to go on, and at the end None and whether it is lawful then."""
-    draft = Draft.of(source)
+    """Each refusal of a source in turn with what was done to go on; at the end None and whether it is lawful then."""
+    draft, before = Draft.of(source), {}
     told = draft.told()
     for _ in range(MOST):
         if told is None:
             break
-        found = mended(draft, told)
+        before[told.key] = before.get(told.key, 0) + 1
+        found = mended(draft, told, before)
         yield told, found[0].how if found else ""
         if not found:
             break
