@@ -57,10 +57,13 @@ class Playing:
                     self.progress.say(f"step {run.clock:,}, line {line + 1:,} of {self.trace.lines:,}")
             self.entry += times
 
-    def play(self, most=None):
-        """Plays the whole trace, or so many steps of it."""
+    def play(self, most=None, watch=None):
+        """Plays the whole trace, or so many steps of it; `watch` is told of each piece: its process, and from where to where."""
         for process, count in self.pieces(most):
+            before = self.run.clock
             made = self.run.play(process, count)
+            if watch:
+                watch(process, before, self.run.clock)
             if made < count:
                 self.illegal = self.first_illegal(made)
                 break

@@ -44,28 +44,38 @@ class Holding:
     def __init__(self, process, frame, name, is_start=False, channel=None):
         self.process, self.frame, self.name, self.is_start, self.channel = process, frame, name, is_start, channel
 
-    def text(self):
+    def rows(self, run, reader):
+        """Who has the port that a reader waits for, and what would close it."""
         if not self.process:
-            return f"whoever receives the message of {self.channel} that holds this outport"
-        unit = self.frame.unit.name
-        where = f"{self.name} of {self.process.name} {unit}"
+            return [f"whoever receives the message of {self.channel} that holds this outport"]
         if self.is_start:
-            return f"{self.name} of a process {unit} that {self.process.name} is about to start"
-        if len(self.process.frames) > 1 and self.frame is not self.process.frames[0]:
-            below = self.process.frames[self.process.frames.index(self.frame) - 1]
-            where = f"{self.name} of {unit}, called in line {below.called} by {self.process.name} {below.unit.name}"
-        return where + self.state()
+            return [f"{self.name} of a process {self.frame.unit.name} that {self.process.name} is about to start"]
+        return [self.place() + self.state(run, reader), *self.advice()]
 
-    def state(self):
+    def place(self):
+        frames = self.process.frames
+        if self.frame is frames[0]:
+            return f"{self.name} of {self.process.name} {self.frame.unit.name}"
+        below = frames[frames.index(self.frame) - 1]
+        return f"{self.name} of {self.frame.unit.name}, called in line {below.called} by {self.process.name} {below.unit.name}"
+
+    def state(self, run, reader):
         process = self.process
+        if process is reader:
+            return ", the very process that waits"
         if process.phase is ENDED:
-            return (f", which has ended and keeps it for {path_text(process.path[:-1])} until the join: "
-                    f"INTENT(IN) {self.name}, or ENDCHANNEL({self.name}) at its end, would close it")
+            return f", which has ended and keeps it for {path_text(process.path[:-1])} until the join"
         if process.phase is FAULTED:
             return ", which has faulted and keeps it"
         if process.phase is JOINS:
-            return f", which waits for its block: ENDCHANNEL({self.name}) before the block would close it"
-        return ""
+            return ", which waits for the end of its block"
+        channel = run.awaited_channel(process)
+        return f", which waits for a message of {channel.name}" if channel else ""
+
+    def advice(self):
+        if self.process.phase is ENDED:
+            return [f"    INTENT(IN) {self.name}, or ENDCHANNEL({self.name}) at its end, would close it"]
+        return [f"    ENDCHANNEL({self.name}) before the block would close it"] if self.process.phase is JOINS else []
 
 
 def names_in(frame):
@@ -133,7 +143,7 @@ def writer_rows(run, process, held):
     yield f"    {channel.name} can still be written by"
     writers = sorted(channel.writers)
     for writer in writers[:MANY]:
-        yield "        " + held[channel.name, writer].text()
+        yield from ("        " + row for row in held[channel.name, writer].rows(run, process))
     if len(writers) > MANY:
         yield f"        and {len(writers) - MANY:,} more"
 
