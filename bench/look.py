@@ -24,13 +24,12 @@ import subprocess
 import sys
 import tempfile
 
-sys.dont_write_bytecode = True
 TOP = os.path.dirname(os.path.dirname(os.path.abspath(__file__)))
 sys.path.insert(0, os.path.join(TOP, "extras"))
 
 from player import ends
 from player.playing import Playing, Progress
-from player.texts import Failed, Fmc, Program, Trace
+from player.texts import Failed, Program, Trace, answer
 
 PLAIN_STATES = 2_000
 RUNS = [("--workers", "1"), ("--workers", "1", "--slice", "1"), ("--workers", "1", "--slice", "7"), ()]
@@ -122,8 +121,8 @@ SMALL = {"closes": CLOSES, "polls": POLLS, "over": OVER}
 class Tries:
     """What was tried, and how many findings there were."""
 
-    def __init__(self, fmc):
-        self.fmc, self.counts, self.wrong = fmc, {}, 0
+    def __init__(self):
+        self.counts, self.wrong = {}, 0
 
     def note(self, what, is_well, told=""):
         """Counts something that was tried, and prints it where it isn't well."""
@@ -151,7 +150,7 @@ def bent(trace):
 def try_run(tries, name, program, text):
     """Plays a trace, and wants what `replay` says of it."""
     try:
-        trace = Trace(tries.fmc, text)
+        trace = Trace(text)
     except Failed as why:
         tries.note("runs", False, f"{name}: {why}")
         return
@@ -164,16 +163,16 @@ def try_run(tries, name, program, text):
 def try_runs(tries, name, source):
     """Runs of a program by several slices, a spent one, and bent ones."""
     try:
-        program = Program(tries.fmc, source)
+        program = Program(source)
     except Failed:
         tries.note("refused", True)
         return None
     for words in RUNS:
-        _, text = tries.fmc.answer(["trace", "--turns", TURNS, *words], source)
+        _, text = answer(["trace", "--turns", TURNS, *words], source)
         try_run(tries, f"{name} {' '.join(words)}", program, text)
-    _, text = tries.fmc.answer(["trace", "--turns", "40"], source)
+    _, text = answer(["trace", "--turns", "40"], source)
     try_run(tries, f"{name} --turns 40", program, text)
-    for number, other in enumerate(bent(tries.fmc.answer(["trace", *RUNS[2]], source)[1]), 1):
+    for number, other in enumerate(bent(answer(["trace", *RUNS[2]], source)[1]), 1):
         try_run(tries, f"{name} bent {number}", program, other)
     return program
 
@@ -182,7 +181,7 @@ def try_runs(tries, name, source):
 
 
 def try_end(tries, name, end, source):
-    status, report = tries.fmc.answer(["replay"], end.trace(source))
+    status, report = answer(["replay"], end.trace(source))
     tries.note("ends", status in (0, 1, 2) and report == end.report, f"{name}: an end is told otherwise by replay")
 
 
@@ -206,7 +205,7 @@ def try_ends(tries, name, source, program):
 
 def try_wanted(tries, name, source, wanted):
     """A program has so many ends, by both ways to find them."""
-    program = Program(tries.fmc, source)
+    program = Program(source)
     found, _ = ends.explore(program, 200, 1, QUIET)
     all_ends = searched(program).ends
     tries.note("wanted ends", len(found) == wanted, f"{name}: --explore finds {len(found)} ends and not {wanted}")
@@ -228,9 +227,8 @@ def try_plain(tries, name, program, states):
 # ---- calls of look
 
 
-def called(tries, words, folder, text=b""):
-    done = subprocess.run([LOOK, *words], input=text, cwd=folder, stdout=subprocess.PIPE, stderr=subprocess.PIPE,
-                          env={**os.environ, "FMC": tries.fmc.binary}, check=False)
+def called(words, folder, text=b""):
+    done = subprocess.run([LOOK, *words], input=text, cwd=folder, stdout=subprocess.PIPE, stderr=subprocess.PIPE, check=False)
     return done.returncode, done.stdout.decode("latin-1"), done.stderr.decode("latin-1")
 
 
@@ -245,14 +243,14 @@ BAD = ["missing", "my.f", "--at x trace", "--explore 0 my.f", "--fast trace", ""
 def try_calls(tries, source):
     """Each way to call look, on a deadlock, and bad input."""
     with tempfile.TemporaryDirectory() as folder:
-        for name, text in ("my.f", source), ("trace", tries.fmc.answer(["trace"], source)[1]):
+        for name, text in ("my.f", source), ("trace", answer(["trace"], source)[1]):
             with open(os.path.join(folder, name), "wb") as file:
                 file.write(text)
         for words, wanted in GOOD.items():
-            status, told, errors = called(tries, words.split(), folder, b"2\nv n\nb 18\np main/1.2\nl\n\n99\n")
+            status, told, errors = called(words.split(), folder, b"2\nv n\nb 18\np main/1.2\nl\n\n99\n")
             tries.note("calls", status == 0 and wanted in told and not errors, f"look {words}: {status} {told} {errors}")
         for words in BAD:
-            status, told, errors = called(tries, words.split(), folder)
+            status, told, errors = called(words.split(), folder)
             tries.note("calls", status == 1 and not told and errors.count("\n") == 1, f"look {words}: {status} {told} {errors}")
 
 
@@ -270,7 +268,8 @@ def main():
     words = sys.argv[1:]
     is_plain = words[:1] == ["--plain"]
     binary, *folders = words[is_plain:] or [os.path.join(TOP, "crates/fmc_cli/out/fmc_cli")]
-    tries, examples = Tries(Fmc(os.path.abspath(binary))), os.path.join(TOP, "examples")
+    os.environ["FMC"] = os.path.abspath(binary)
+    tries, examples = Tries(), os.path.join(TOP, "examples")
     for folder in folders or [examples]:
         for path in sorted(glob.glob(os.path.join(folder, "**/*.f"), recursive=True)):
             name, source = os.path.relpath(path, folder), read(path)
@@ -283,7 +282,7 @@ def main():
     try_wanted(tries, "the race", race_of_language(), 6)
     if is_plain:
         for name, text in SMALL.items():
-            is_whole = try_plain(tries, name, Program(tries.fmc, text.lstrip("\n").encode()), 20_000)
+            is_whole = try_plain(tries, name, Program(text.lstrip("\n").encode()), 20_000)
             tries.note("small programs", is_whole, f"{name}: too many states")
     try_calls(tries, read(os.path.join(examples, "deadlock.f")))
     print(", ".join(f"{count} {what}" for what, count in tries.counts.items()) + f"; {tries.wrong} wrong")

@@ -1,11 +1,10 @@
 """The texts that a run is looked into by: the trace, the object text of its program, and the answers of `fmc`."""
 import bisect
 import io
-import os
 import re
-import subprocess
 
-TOP = os.path.dirname(os.path.dirname(os.path.dirname(os.path.realpath(__file__))))
+import common
+from source import rows_of
 
 PROGRAM, PROCESS, SUBROUTINE, FUNCTION = range(4)
 INTEGER, LOGICAL, INPORT, OUTPORT = range(4)
@@ -20,42 +19,36 @@ class Failed(Exception):
     """There is nothing to look into; the text says why."""
 
 
-class Fmc:
-    """Calls the program `fmc`: that of this repository, unless a name or the variable FMC says another one."""
+def answer(words, text):
+    """The status and the text of a call of `fmc`."""
+    try:
+        status, told = common.call(words, text)
+    except OSError as error:
+        raise Failed(f"{common.fmc()} can't be run: {error.strerror}") from None
+    if status == 125 or status < 0:
+        raise Failed(f"{common.fmc()} can't be run")
+    return status, told
 
-    def __init__(self, binary=None):
-        self.binary = binary or os.environ.get("FMC") or os.path.join(TOP, "fmc")
 
-    def answer(self, words, text):
-        """The status and the text of a call."""
-        try:
-            done = subprocess.run([self.binary, *words], input=text, stdout=subprocess.PIPE, check=False)
-        except OSError as error:
-            raise Failed(f"{self.binary} can't be run: {error.strerror}") from None
-        if done.returncode == 125 or done.returncode < 0:
-            raise Failed(f"{self.binary} can't be run")
-        return done.returncode, done.stdout
-
-    def answer_of(self, words, text):
-        """The text of a call that has to end with status 0."""
-        status, answer = self.answer(words, text)
-        if status:
-            raise Failed(answer.decode("latin-1").strip() or f"fmc {words[0]}: status {status}")
-        return answer
+def answer_of(words, text):
+    """The text of a call of `fmc` that has to end with status 0."""
+    status, told = answer(words, text)
+    if status:
+        raise Failed(told.decode("latin-1").strip() or f"fmc {words[0]}: status {status}")
+    return told
 
 
 class Trace:
     """The text of a trace, with what `replay --vars` answers of it."""
 
-    def __init__(self, fmc, text):
-        self.status, self.answer = fmc.answer(["replay", "--vars"], text)
+    def __init__(self, text):
+        self.status, self.answer = answer(["replay", "--vars"], text)
         if self.status not in PLAYED:
             raise Failed(self.answer.decode("latin-1").strip() or f"fmc replay: status {self.status}")
         self.file = io.BytesIO(text)
         self.form, turns, lines = (self.file.readline() for _ in range(3))
         self.turns, self.lines = int(turns.split()[1]), int(lines.split()[1])
-        rest = text[text.index(b"\nsource\n") + 8 :]
-        self.source, self.entries_from = rest, self.file.tell()
+        self.source, self.entries_from = text[text.index(b"\nsource\n") + 8 :], self.file.tell()
 
     def entries(self):
         """Each line of the entries: a process by its number, its steps, and how often the entry comes."""
@@ -129,12 +122,11 @@ def unit_names(listing):
 class Program:
     """A program: its source, its code, and the fields of the messages of its types of ports."""
 
-    def __init__(self, fmc, source):
-        self.fmc, self.source = fmc, source
-        self.text = [""] + [row.decode("latin-1").rstrip() for row in source.split(b"\n")]
+    def __init__(self, source):
+        self.source, self.text = source, ["", *rows_of(source)]
         self.units, self.types = [], []
-        listed = fmc.answer_of(["compile"], source)
-        self.names = unit_names(fmc.answer_of(["list"], source))
+        listed = answer_of(["compile"], source)
+        self.names = unit_names(answer_of(["list"], source))
         for row in listed.decode("latin-1").split("\n"):
             self.read(row.split())
         for unit in self.units:
