@@ -142,7 +142,7 @@ def bent(trace):
     entries = rows[3:]
     if len(entries) > 1:
         for changed in ([entries[1], entries[0], *entries[2:]], entries[:-1], [entries[0] + b"0", *entries[1:]]):
-            if all(one != other for one, other in zip(changed, changed[1:])):
+            if all(one.split()[:2] != other.split()[:2] for one, other in zip(changed, changed[1:])):
                 text = b"\n".join([*rows[:2], b"lines %d" % len(changed), *changed])
                 yield text + b"\nsource\n" + source
 
