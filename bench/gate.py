@@ -2,12 +2,16 @@
 """What the gate costs, crate by crate.
 
     bench/gate.py [FOLDER]
+    bench/gate.py --seconds
 
 Runs `rt ci` in FOLDER, a clean clone of this repository, by default in this one, and passes on what it says.
 Then it prints the processor seconds that each crate's proof, tests and edits took, and the processor minutes
 of the whole run, also for a thousand lines of code. What an earlier run on this machine kept isn't proved
 again, so a count from nothing wants a machine that has kept nothing; and a machine with other work to do
 takes more seconds for the same.
+
+With --seconds it prints a line for each crate of docs/COSTS.md, "Crate by crate", with the seconds of its proof:
+script/seconds.txt, from which the script `fmc` says how long a build takes.
 
 The seconds of a process are read four times a second, so those of its last quarter are missed. Those of the
 whole run are what the system tells at its end.
@@ -100,7 +104,16 @@ def lines_of(folder):
     return sum(read(path).count("\n") for path in glob.glob(f"{folder}/src/**/*.rt", recursive=True))
 
 
+def proofs():
+    """The seconds of each crate's proof as docs/COSTS.md has them."""
+    section = re.search(r"^## Crate by crate$(.*?)^## ", read(f"{TOP}/docs/COSTS.md"), re.M | re.S)[1]
+    return sorted(re.findall(r"^\| (\w+) \| [\d,]+ \| (\d+) \|", section, re.M))
+
+
 def main():
+    if sys.argv[1:] == ["--seconds"]:
+        print(*(f"{crate} {seconds}" for crate, seconds in proofs()), sep="\n")
+        return
     folder = sys.argv[1] if len(sys.argv) > 1 else TOP
     gate = subprocess.Popen(["rt", "ci"], cwd=folder)
     seconds, edits = table(watch(gate))
