@@ -133,8 +133,8 @@ def lines(path):
 
 
 def wait_for(what):
-    """Waits until something is so, ten seconds at most, and gives whether it is."""
-    for _ in range(500):
+    """Waits until something is so, a minute at most, and gives whether it is."""
+    for _ in range(3000):
         if what():
             return True
         time.sleep(0.02)
@@ -209,12 +209,12 @@ def first(it):
     """The first build, beside which a second call waits; the order of the crates, and what is copied."""
     one = it.slow("fm_1")
     two = start(it.tree, "bin/fmc")
-    time.sleep(0.3)
+    it.judge("another call at once", "another build is under way" in two.stderr.readline())
     os.remove(f"{it.tree}/slow")
     said = ["the first build proves 4 crates, 2 at once", "fmc: fm_0 proved, 1 of 4, less than a minute left\n"]
     said += ["fm_1 proved, 2 of 4", "fm_2 proved, 3 of 4", "fmc_cli proved, 4 of 4", "4 of 4 crates proved now"]
     it.ends("the first build", one, said)
-    it.ends("another call at once", two, ["another build is under way"])
+    it.ends("its end", two, silent=True)
     it.judge("the order", it.proved() == ["fm_0", "fm_1", "fm_2", "fmc_cli"])
     copied = text(f"{it.tree}/copied").strip()
     it.judge("the copy", copied == "['.git', 'HANDLES', 'crates', 'crates.txt', 'proofs', 'specs', 'src']", copied)
@@ -276,9 +276,9 @@ def stops(it):
     for number in (signal.SIGTERM, signal.SIGINT, signal.SIGHUP, signal.SIGKILL):
         what = number.name
         it.change()
-        call = it.slow("fm_2")
-        wait_for(lambda: text(f"{it.tree}/proved").endswith("fm_1\n"))
-        time.sleep(0.1)
+        call, log = it.slow("fm_2"), f"{it.tree}/a b/crates/fmc_cli/out/build.log"
+        wait_for(lambda: text(log).endswith("== fm_2\na line of the prover\n"))
+        time.sleep(0.2)
         call.send_signal(number)
         _, said = call.communicate()
         is_told = number == signal.SIGKILL or STOPPED in said
@@ -298,7 +298,7 @@ def at_terminal(it, words=("run",)):
     return process, master
 
 
-def shown(master, until, seconds=10):
+def shown(master, until, seconds=60):
     """What a terminal shows until it shows this, or ends."""
     found, end = "", time.monotonic() + seconds
     while until not in found and time.monotonic() < end:

@@ -30,8 +30,10 @@ from progress import Progress, Screen, say, table_of_seconds, time_of  # noqa: E
 PROGRAM = "fmc_cli"
 OUT = f"{TOP}/crates/{PROGRAM}/out"
 LOG = f"{OUT}/build.log"
-# The memory of a check, and the free disk that rt wants to work, and to keep proofs (COSTS.md, "The first build").
-MEMORY, WORKS, KEEPS = 1_500_000_000, 3_000_000_000, 5_000_000_000
+# The memory of the largest check, and of all checks at once (COSTS.md, "The first build").
+CHECK, CHECKS = 1_900_000_000, 6_000_000_000
+# The free disk that rt wants to work, and to keep what is proved.
+WORKS, KEEPS = 3_000_000_000, 5_000_000_000
 # How much of the log of a crate that failed is shown.
 LINES = 12
 
@@ -71,7 +73,7 @@ def memory():
     most, held = (number_in(f"/sys/fs/cgroup/memory.{it}") for it in ("max", "current"))
     if most and held is not None:
         free.append(most - held)
-    return min(free, default=MEMORY)
+    return min(free, default=CHECK)
 
 
 def processors():
@@ -81,10 +83,10 @@ def processors():
 
 
 def jobs():
-    """How many checks work at once: as FMC_JOBS says, or else as many as there are processors and memory for."""
+    """How many checks work at once: as FMC_JOBS says, or else as there are processors and memory for, up to CHECKS."""
     asked = os.environ.get("FMC_JOBS", "")
     if not asked:
-        return max(1, min(processors(), memory() // MEMORY))
+        return max(1, min(processors(), min(memory(), CHECKS) // CHECK))
     if not re.fullmatch(r"[1-9][0-9]{0,3}", asked):
         raise ValueError(f"FMC_JOBS is how many processors a build may use, from 1 to 9999, and not {asked!r}")
     return int(asked)
@@ -240,8 +242,8 @@ def explain(failed, block, status, rt, lanes):
     for line in block[-LINES:]:
         print(f"    {line.rstrip()}", file=sys.stderr)
     if status == -signal.SIGKILL or any("most likely for memory" in it for it in block):
-        say(f"killed, most likely for memory: {gigabytes(lanes * MEMORY)} free are wanted for {lanes} checks at once")
-        say("FMC_JOBS=1 has one check at once")
+        say(f"killed, most likely for memory: {gigabytes(lanes * CHECK)} free are wanted for {lanes} at once, and with")
+        say(f"FMC_JOBS=1, one after the other, {gigabytes(CHECK)}")
     elif failed:
         say(f"rt check in crates/{failed} shows what isn't proved")
     versions(rt)
@@ -256,19 +258,27 @@ def put(room):
     os.replace(f"{OUT}/{PROGRAM}.new", f"{OUT}/{PROGRAM}")
 
 
+def advise(lanes, room):
+    """Says what memory and disk a first build takes, where they bound it."""
+    every, free = processors(), memory()
+    if lanes < every and not os.environ.get("FMC_JOBS"):
+        more = f"FMC_JOBS={every} is faster and takes up to {gigabytes(every * CHECK)}"
+        what = more if free >= every * CHECK else f"{gigabytes(free)} are free"
+        say(f"{lanes} at once take up to {gigabytes(lanes * CHECK)} of memory; {what}")
+    free = min(shutil.disk_usage(it).free for it in (os.path.dirname(room), tempfile.gettempdir()))
+    if free < WORKS:
+        say(f"{gigabytes(free)} of disk are free, and the build wants {gigabytes(WORKS)}")
+
+
 def announce(rt, why, progress, room):
-    """Says why a build is needed, what it does, and what is short for it."""
+    """Says why a build is needed, and what it does."""
     of, lanes = f"{len(progress.below)} crates", progress.lanes
     if os.path.exists(f"{OUT}/{PROGRAM}"):
         say(f"{why}: building it; of its {of}, those that changed are proved, and those above them, {lanes} at once")
-    else:
-        say(f"{why}: the first build proves {of}, {lanes} at once, in {time_of(progress.ahead())}")
-        say(f"if it is cut off, {later(rt)}")
-    if lanes < processors() and not os.environ.get("FMC_JOBS"):
-        say(f"{gigabytes(memory())} of memory are free, enough for {lanes} at once")
-    free = min(shutil.disk_usage(it).free for it in (os.path.dirname(room), tempfile.gettempdir()))
-    if free < WORKS:
-        say(f"{gigabytes(free)} of disk are free, and a build wants {gigabytes(WORKS)}")
+        return
+    say(f"{why}: the first build proves {of}, {lanes} at once, in {time_of(progress.ahead())}")
+    say(f"if it is cut off, {later(rt)}")
+    advise(lanes, room)
 
 
 def build(rt, why):
