@@ -44,8 +44,11 @@ note("copied", sorted({it.split("/")[2] for it in glob.glob("crates/*/*")} | {*o
 sums = {}
 for line in open("crates.txt"):
     name, _, below = line.partition(":")
+    name, below = name.split()[0], below.split()
+    if any(it not in sums for it in below if it.startswith("fm_")):
+        sys.exit(say(f"rt: a crate of {below} is no line of this file", "0 passed, 1 failed"))
     files = sorted(it for it in glob.glob(f"crates/{name}/**", recursive=True) if os.path.isfile(it))
-    of = [open(it).read() for it in files] + [sums.get(it) for it in below.split()]
+    of = [open(it).read() for it in files] + [sums.get(it) for it in below]
     sums[name] = hashlib.sha256(repr(of).encode()).hexdigest()
     if os.path.exists(f"{tree}/kept/{sums[name]}"):
         say(f"rt: {name} is kept: as before")
@@ -99,9 +102,9 @@ def plant_script(at):
 def plant(tree):
     """The tree, in a folder whose name has a blank, with a link to its script."""
     names = [f"fm_{number}" for number in range(COUNT)] + ["fmc_cli"]
-    below = {"fmc_cli": "fm_2 fm_1 serde", "fm_2": "fm_1 fm_0", "fm_1": "fm_0"}
+    below = {"fmc_cli": ": fm_2 fm_1 serde # others", "fm_2": " may_wait=5: fm_1 fm_0", "fm_1": ": fm_0"}
     # the lowest crate stands last
-    write(f"{tree}/a b/crates.txt", "# crates\n" + "".join(f"{it}: {below.get(it, '')}\n" for it in reversed(names)))
+    write(f"{tree}/a b/crates.txt", "# crates: all\n\n" + "".join(f"{it}{below.get(it, ':')}\n" for it in reversed(names)))
     for name in names:
         for file in [f"src/{number}.rt" for number in range(6)] + [f"specs/{number}.antt" for number in range(6)]:
             write(f"{tree}/a b/crates/{name}/{file}")

@@ -44,13 +44,16 @@ class Stopped(Exception):
 
 def crates():
     """The program's crate and those that it stands on, lowest first, each with those right below it; and their lines
-    of crates.txt."""
+    of crates.txt, of which each begins with the crate's name."""
+    lines, found = {}, {}
     with open(f"{TOP}/crates.txt", encoding="utf-8") as file:
-        lines = {line.partition(":")[0]: line for line in file if ":" in line and not line.startswith("#")}
-    found = {}
+        for line in file:
+            words = line.partition("#")[0].split(":")[0].split()
+            lines.update({words[0]: line} if words else {})
 
     def visit(name):
-        below = [it for it in lines[name].partition(":")[2].split() if it in lines]
+        below = lines[name].partition("#")[0].partition(":")[2].replace(",", " ").split()
+        below = [it for it in below if it in lines]
         for it in below:
             if it not in found:
                 visit(it)
