@@ -62,9 +62,10 @@ def with_units(program, text):
 
 
 def fill(folder):
-    """Gives a folder the names of the repository."""
+    """Gives a folder the names of the repository, but for files of its user such as my.f."""
     for name in os.listdir(TOP):
-        os.symlink(os.path.join(TOP, name), os.path.join(folder, name))
+        if not name.startswith("my."):
+            os.symlink(os.path.join(TOP, name), os.path.join(folder, name))
 
 
 def typed(binary, folder, program, line):
