@@ -228,7 +228,8 @@ def try_plain(tries, name, program, states):
 
 
 def called(words, folder, text=b""):
-    done = subprocess.run([LOOK, *words], input=text, cwd=folder, stdout=subprocess.PIPE, stderr=subprocess.PIPE, check=False)
+    done = subprocess.run([LOOK, *words], input=text, cwd=folder, stdout=subprocess.PIPE, stderr=subprocess.PIPE,
+                          check=False)
     return done.returncode, done.stdout.decode("latin-1"), done.stderr.decode("latin-1")
 
 
@@ -248,10 +249,12 @@ def try_calls(tries, source):
                 file.write(text)
         for words, wanted in GOOD.items():
             status, told, errors = called(words.split(), folder, b"2\nv n\nb 18\np main/1.2\nl\n\n99\n")
-            tries.note("calls", status == 0 and wanted in told and not errors, f"look {words}: {status} {told} {errors}")
+            is_well = status == 0 and wanted in told and not errors
+            tries.note("calls", is_well, f"look {words}: {status} {told} {errors}")
         for words in BAD:
             status, told, errors = called(words.split(), folder)
-            tries.note("calls", status == 1 and not told and errors.count("\n") == 1, f"look {words}: {status} {told} {errors}")
+            is_well = status == 1 and not told and errors.count("\n") == 1
+            tries.note("calls", is_well, f"look {words}: {status} {told} {errors}")
 
 
 def race_of_language():

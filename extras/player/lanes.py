@@ -1,8 +1,8 @@
 """What there is to draw of a run: a lane for each process, with where it runs, waits and ends, and the messages."""
 import array
 
-from .machine import ENDED, FAULTED
-from .report import cycles_of, in_order, path_text, waits_of
+from .report import cycles_of, in_order, waits_of
+from .state import ENDED, FAULTED, path_text
 
 
 class Lane:
@@ -71,7 +71,7 @@ def lane_of(run, process, watch, waits):
 
 
 class Drawing:
-    """All that is drawn: lanes in the order of their paths, messages, and rings of processes that wait for each other."""
+    """All that is drawn: lanes in the order of paths, messages, and rings of processes that wait for each other."""
 
     def __init__(self, run, watch):
         waits = waits_of(run)

@@ -33,8 +33,8 @@ class Progress:
 class Playing:
     """The run of a trace, entry by entry. `illegal` is the first entry that asks for a step that isn't there."""
 
-    def __init__(self, program, trace, progress=None):
-        self.run, self.trace, self.progress = Run(program), trace, progress
+    def __init__(self, program, trace, progress=None, is_noted=False):
+        self.run, self.trace, self.progress = Run(program, is_noted), trace, progress
         self.illegal, self.entry, self.next, self.asked = None, 0, None, ""
 
     def pieces(self, most):
@@ -58,7 +58,7 @@ class Playing:
             self.entry += times
 
     def play(self, most=None, watch=None):
-        """Plays the whole trace, or so many steps of it; `watch` is told of each piece: its process, and from where to where."""
+        """Plays the whole trace, or so many steps of it. `watch` gets the process and the span of each piece."""
         for process, count in self.pieces(most):
             before = self.run.clock
             made = self.run.play(process, count)

@@ -1,5 +1,5 @@
 """The report of a run, as docs/LANGUAGE.md says it: lines, faults, who waits for whom, cycles."""
-from .machine import ENDED, FAULTED, path_text
+from .state import ENDED, FAULTED, path_text
 from .texts import LOGICAL
 
 DONE, FAULTS, DEADLOCK = 0, 1, 2
@@ -92,7 +92,8 @@ def report_of(run, with_vars=False):
     told, waits = [], waits_of(run)
     if with_vars:
         frame = run.processes[0].frames[0]
-        told += [f"var {cell.name} = {cell_text(frame, cell)}" for cell in sorted(frame.unit.cells, key=lambda it: it.name)]
+        cells = sorted(frame.unit.cells, key=lambda cell: cell.name)
+        told += [f"var {cell.name} = {cell_text(frame, cell)}" for cell in cells]
     told += [f"fault {process.name} line {process.fault[0]} {process.fault[1]}"
              for process in in_order(run) if process.fault]
     told += [wait.text() for wait in waits]

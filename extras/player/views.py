@@ -1,6 +1,6 @@
 """What there is to see of a run: where its processes stand, and what was printed, sent and spent."""
-from .machine import ENDED, FAULTED, JOINS
-from .report import cell_text, cycles_of, in_order, path_text, waits_of, word_text
+from .report import cell_text, cycles_of, in_order, waits_of, word_text
+from .state import ENDED, FAULTED, JOINS, path_text
 
 WIDE, MANY, ROWS = 72, 6, 40
 
@@ -57,7 +57,8 @@ class Holding:
         if self.frame is frames[0]:
             return f"{self.name} of {self.process.name} {self.frame.unit.name}"
         below = frames[frames.index(self.frame) - 1]
-        return f"{self.name} of {self.frame.unit.name}, called in line {below.called} by {self.process.name} {below.unit.name}"
+        caller = f"{self.process.name} {below.unit.name}"
+        return f"{self.name} of {self.frame.unit.name}, called in line {below.called} by {caller}"
 
     def state(self, run, reader):
         process = self.process
@@ -130,9 +131,9 @@ def queue_rows(run, process):
         for (channel, writer), name in names_in(frame):
             queue = run.channels[channel].queue if writer < 0 else ()
             if queue:
-                texts = [message_text(message) for message in list(queue)[:MANY]]
-                more = "; .." if len(queue) > MANY else ""
-                yield "    " + shortened(f"{many(len(queue), 'message')} in {name} = {channel}: {'; '.join(texts)}{more}", 110)
+                texts = [message_text(message) for message in list(queue)[:MANY]] + [".."] * (len(queue) > MANY)
+                count = many(len(queue), "message")
+                yield "    " + shortened(f"{count} in {name} = {channel}: {'; '.join(texts)}", 110)
 
 
 def writer_rows(run, process, held):
@@ -183,7 +184,8 @@ def heading(run, ending):
 def order(run):
     """The printed lines in the order in which they were printed."""
     rows = [("step", "process", "unit", "line", "printed")]
-    rows += [(clock, process.name, unit.name, line, text.decode("latin-1")) for clock, process, unit, line, text in run.printed]
+    rows += [(clock, process.name, unit.name, line, text.decode("latin-1"))
+             for clock, process, unit, line, text in run.printed]
     return table(rows, (0, 3))
 
 
@@ -195,7 +197,8 @@ def messages(run):
                      shortened(message_text(it))))
     for channel in run.channels.values():
         for it in channel.queue:
-            rows.append((it.sent, it.sender.name, it.sent_line, "-", "nobody", "-", channel.name, shortened(message_text(it))))
+            rows.append((it.sent, it.sender.name, it.sent_line, "-", "nobody", "-", channel.name,
+                         shortened(message_text(it))))
     yield from table(rows, (0, 2, 3, 5))
     if run.discarded:
         yield f"{many(run.discarded, 'message')} discarded: the inport was gone"
@@ -219,7 +222,8 @@ def profile(run):
     yield from [f"{len(lines) - ROWS:,} more lines"] if len(lines) > ROWS else []
     yield ""
     dear = sorted(run.processes, key=lambda process: (-process.turns, process.path))
-    rows = [(it.turns, f"{100 * it.turns / max(run.turns, 1):.1f}", it.steps, it.name, it.unit.name) for it in dear[:ROWS]]
+    rows = [(it.turns, f"{100 * it.turns / max(run.turns, 1):.1f}", it.steps, it.name, it.unit.name)
+            for it in dear[:ROWS]]
     yield from table([("turns", "%", "steps", "process", "unit")] + rows, (0, 1, 2))
     yield from [f"{len(dear) - ROWS:,} more processes"] if len(dear) > ROWS else []
     yield ""
