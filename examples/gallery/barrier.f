@@ -1,7 +1,7 @@
 C     A barrier. Workers go through the same phases, and nobody begins a
-C     phase before all have done the one before it. Who has done one
-C     sends a port to the barrier and waits there. When all have come,
-C     the barrier answers all of them.
+C     phase before all have done the one before it. A worker that has
+C     done one sends a port to the barrier and waits there. When all
+C     have come, the barrier answers each of them.
       PROGRAM PHASES
       PARAMETER (N = 4)
       INPORT (INTEGER PHASE, INTEGER WORK, OUTPORT ()) COME

@@ -21,9 +21,9 @@ C     and the butler are the same PROCESS, a semaphore.
       ENDPROCESSES
       END
 
-C     Lends NUMBER things. A request says whether somebody wants one,
-C     and has the port for the answer, or gives one back. Who can't get
-C     one yet waits in a queue.
+C     Lends NUMBER things. A request says whether its sender wants one
+C     or gives one back. Who wants one sends a port for the answer, and
+C     waits in a queue while nothing is free.
       PROCESS SEMAPHORE(NUMBER, ASKED)
       PARAMETER (MOST = 8)
       INPORT (LOGICAL, OUTPORT ()) ASKED

@@ -1,6 +1,6 @@
 C     Philosophers who each take the left fork first. A fork is a
-C     process, which answers one neighbour and lets the other wait:
-C     nobody eats.
+C     process, which answers one neighbour and lets the other one wait.
+C     So nobody eats.
       PROGRAM DINE
       PARAMETER (N = 3)
       INPORT (INTEGER, OUTPORT (INTEGER)) ASKED(N)

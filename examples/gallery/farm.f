@@ -1,7 +1,7 @@
 C     A farm: tasks are dealt to the workers in turn, and the results
-C     come to one place in any order. A task is a number, its result
-C     the number of steps from there to 1, by halves where it is even
-C     and three times and one more where it is odd.
+C     come to one place in any order. A task is a number. Its result is
+C     the number of steps from there to 1: an even number is halved, and
+C     an odd one becomes three times as large and one more.
       PROGRAM FARM
       PARAMETER (NWORK = 4)
       INPORT (INTEGER) TASK(NWORK)

@@ -1,6 +1,6 @@
-C     The Hamming numbers: 1, and with each number twice, three times
-C     and five times as much. A network makes them in order, each once.
-C     What it prints goes back to where the next ones are made.
+C     The Hamming numbers: 1, and with each number its double, its
+C     triple and five times as much. A network makes them in order, each
+C     once. MERGE sends what it finds to where the next ones are made.
       PROGRAM HAMMING
       PARAMETER (M = 3, NUMBERS = 20)
       INPORT (INTEGER) NEW(M), MADE(M)
@@ -32,8 +32,8 @@ C     What it prints goes back to where the next ones are made.
    20 END
 
 C     Sends each number to all that multiply it. The next one is the
-C     least of those that have come back; HEAD(I) is the first of the
-C     I-th stream, or 0 where it has to be received yet.
+C     least of those that have come back. HEAD(I) is the first of the
+C     I-th stream, or 0 if it has to be received yet.
       PROCESS MERGE(MADE, FEED, LIST)
       PARAMETER (M = 3, NUMBERS = 20)
       INPORT (INTEGER) MADE(M)

@@ -1,5 +1,5 @@
-C     A hub with a table of ports: subscribers come by sending an
-C     outport, all get the same messages, and one is let go on the way.
+C     A hub with a table of ports. Subscribers send it an outport, all
+C     get the same messages, and one is let go on the way.
       PROGRAM NEWS
       PARAMETER (N = 3)
       INPORT (OUTPORT (INTEGER)) ENTRY

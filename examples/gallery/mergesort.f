@@ -1,6 +1,6 @@
 C     Mergesort. A task is a list, with the port on which its sender
-C     wants the sorted list. Who gets a list of more than one number
-C     sends its halves to two of its like, and merges what comes back.
+C     wants the sorted list. A process with more than one number sends
+C     the halves to two of its like, and merges what comes back.
       PROGRAM SORTS
       PARAMETER (N = 16)
       INTEGER LIST(N)

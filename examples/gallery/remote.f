@@ -66,7 +66,7 @@ C     The answer says whether the server knows the procedure.
       ENDDO
       END
 
-C     What makes a call look like any other: it waits for the answer.
+C     The client's side of a call: sends it, and waits for the answer.
       SUBROUTINE REMOTE(ASK, WHAT, I, J, KNOWN, VALUE)
       OUTPORT (INTEGER WHAT, INTEGER I, INTEGER J,
      +  OUTPORT (LOGICAL KNOWN, INTEGER VALUE)) ASK

@@ -1,5 +1,5 @@
-C     A farm that counts the numbers that no square divides: each worker
-C     has a range of its own and needs nothing from the others.
+C     A farm that counts the numbers that no square over 1 divides. Each
+C     worker has a range of its own and needs nothing from the others.
       PROGRAM FARM
       PARAMETER (N = 4, LENGTH = 50)
       INTEGER COUNT(N)

@@ -13,7 +13,7 @@ C     The token starts on the way from the last station to the first.
       PROCESSDO I = 1, N
         PROCESSCALL STATION(I, NROUND, FROM(I), TO(I))
       ENDPROCESSDO
-C     There it is again when all have ended and given back their ports.
+C     It is there again when all have ended and given back their ports.
       RECEIVE(FROM(1)) LAST
       PRINT *, 'tickets taken', LAST
       END

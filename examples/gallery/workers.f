@@ -1,6 +1,6 @@
-C     A manager and its workers: who is idle asks for a task, and sends
-C     with the question the port on which the task is to come. -1 means
-C     no more.
+C     A manager and its workers. An idle worker asks for a task. Its
+C     question has the port on which the task is to come; -1 means that
+C     there are no more tasks.
       PROGRAM STUDY
       PARAMETER (NWORK = 3, NTASK = 10)
       INPORT (OUTPORT (INTEGER)) ASKED
