@@ -60,7 +60,8 @@ WORDS = [
     (14, "PROBE", "fortranMMessage", "font-lock-keyword-face"), (14, "EMPTY", "fortranMKey", "font-lock-constant-face"),
     (15, "MOVEPORT", "fortranMMessage", "font-lock-keyword-face"),
     (16, "ENDCHANNEL", "fortranMMessage", "font-lock-keyword-face"),
-    (17, "RECEIVE", "fortranMMessage", "font-lock-keyword-face"), (17, "PORT", "fortranMKey", "font-lock-constant-face"),
+    (17, "RECEIVE", "fortranMMessage", "font-lock-keyword-face"),
+    (17, "PORT", "fortranMKey", "font-lock-constant-face"),
     (19, "PROCESS", "fortranMUnit", "font-lock-keyword-face"),
     (20, "PROCESSORS", "fortranMPlace", "font-lock-builtin-face"),
     (21, "SEND", "fortranMMessage", "font-lock-keyword-face"),
@@ -79,7 +80,8 @@ def vim(name, where, folder):
     script, out = os.path.join(folder, "try.vim"), os.path.join(folder, "groups")
     asked = ", ".join(f'synIDattr(synID({line}, {column}, 1), "name")' for line, column in where)
     with open(script, "w", encoding="ascii") as file:
-        file.write(f"set nocompatible\nset rtp^={TOP}/extras/vim\nset rtp+={TOP}/extras/vim/after\nfiletype on\nsyntax on\n"
+        file.write(f"set nocompatible\nset rtp^={TOP}/extras/vim\nset rtp+={TOP}/extras/vim/after\n"
+                   "filetype on\nsyntax on\n"
                    f'edit {name}\ncall writefile([{asked}], "{out}")\nqa!\n')
     subprocess.run(["vim", "-es", "-u", script], stdin=subprocess.DEVNULL, timeout=60)
     with open(out, encoding="ascii") as file:
@@ -92,7 +94,8 @@ def emacs(name, where, folder):
     asked = "".join(f'(goto-char (point-min)) (forward-line {line - 1}) (forward-char {column - 1})'
                     f'(princ (format "%s\\n" (get-text-property (point) (quote face))))' for line, column in where)
     with open(script, "w", encoding="ascii") as file:
-        file.write(f'(load "{TOP}/extras/emacs/fmc.el" nil t)(add-hook (quote fortran-mode-hook) (function fmc-mode-maybe))'
+        file.write(f'(load "{TOP}/extras/emacs/fmc.el" nil t)'
+                   '(add-hook (quote fortran-mode-hook) (function fmc-mode-maybe))'
                    f'(find-file "{name}")(font-lock-ensure){asked}')
     done = subprocess.run(["emacs", "--batch", "-Q", "-l", script], stdout=subprocess.PIPE, stderr=subprocess.DEVNULL,
                           timeout=60)

@@ -21,7 +21,8 @@ import common  # noqa: E402
 import mend  # noqa: E402
 
 PUT_IN = ["REAL X", "END IF", "END", "10", "'", "(", ")", "==", "&", ";", "DO 10 I = 1, N", "PROCESSES", "\t", "\xe9",
-          "      GOTO 99", "      PROGRAM Q", "      INTEGER A(0)", "      CALL NOBODY", "     +", "X = Y + Z", "N" * 32]
+          "      GOTO 99", "      PROGRAM Q", "      INTEGER A(0)", "      CALL NOBODY", "     +", "X = Y + Z",
+          "N" * 32]
 
 
 def changed(chance, text):

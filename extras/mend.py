@@ -25,6 +25,15 @@ class Told:
         return f"line {self.line}: {self.rule} {self.text}"
 
 
+def told_of(answer, rows):
+    """The refusal that an answer of `check` is, for numbered rows; none of another answer."""
+    found = REFUSAL.match(answer)
+    if not found:
+        return None
+    at = int(found.group(1)) - 1
+    return Told(at, rows[at][0] if at < len(rows) else 1, found.group(2), found.group(3))
+
+
 class Draft:
     """A text that is mended: its rows, each with its line in the source, and what the last change was.
 
@@ -42,12 +51,7 @@ class Draft:
         """The refusal of this text, or none if it is lawful."""
         text = "".join(row + "\n" for _, row in self.rows)
         status, answer = common.call(["check"], text.encode("latin-1"))
-        found = REFUSAL.match(answer.decode("latin-1")) if status == 3 else None
-        if not found:
-            return None
-        at = int(found.group(1)) - 1
-        line = self.rows[at][0] if at < len(self.rows) else 1
-        return Told(at, line, found.group(2), found.group(3))
+        return told_of(answer.decode("latin-1"), self.rows) if status == 3 else None
 
     def statements(self):
         return statements_of([row for _, row in self.rows])
@@ -101,7 +105,8 @@ def candidates(unit, one):
 def is_logical(unit, name):
     """Whether the statements of a unit use a name as a logical one."""
     text, relation = re.escape(name), r"\.(LT|LE|GT|GE|EQ|NE)\."
-    forms = (rf"^{text}=(\.TRUE\.|\.FALSE\.|\.NOT\.|.*\.(AND|OR)\.|.*{relation})", rf"\.NOT\.{text}$", rf"EMPTY={text}\)",
+    forms = (rf"^{text}=(\.TRUE\.|\.FALSE\.|\.NOT\.|.*\.(AND|OR)\.|.*{relation})",
+             rf"\.NOT\.{text}$", rf"EMPTY={text}\)",
              rf"(\.AND\.|\.OR\.){text}\b(?!{relation})", rf"(IF|DOWHILE)\({text}\)")
     return any(re.search(form, one.text) for form in forms for one in unit.statements)
 
