@@ -31,6 +31,11 @@ abbrev pub oldest : List Message → Option Message
 oldest [] = None
 oldest (m ∷ ms) = Some m
 
+-- what stands first in a port's channel, if that is there
+abbrev pub first_at : Option Chan → Option Message
+first_at None = None
+first_at (Some ch) = oldest ch.queue
+
 -- whether a receive has its step at a port's channel, if that is there
 abbrev pub pops_at : Option Chan → Bool
 pops_at None = false

@@ -148,7 +148,8 @@ impl Body {
         waits || self.writers.len() == 0
     }
 
-    fn first(&self) -> Option<&Message>
+    /// The oldest message, or none.
+    pub fn first(&self) -> Option<&Message>
         ensures { option_copied result ≡ oldest (chan_of self.now).queue }
     {
         match &self.inport {

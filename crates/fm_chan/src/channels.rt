@@ -1,6 +1,7 @@
 //! The channels of a run.
 
 ghost use Rattle.std.specs.Prelude.{◌≡◌, ◌≤◌, ◌+◌, true, false, None, Some, [], ◌∷◌, ◌++◌, IfOk, OnOk, OnErr, IfErr, IfNone, IsOk, option_to_list, vec_len, vec_capacity};
+ghost use Rattle.std.specs.Option.{option_copied};
 ghost use Rattle.fm_base.specs.declared.port.PortValue.TheVariants.{Writer, Reader};
 ghost use Rattle.fm_chan.specs.Events.{outports};
 ghost use Rattle.fm_chan.specs.Readers.{HasRoomToWake, count_of};
@@ -79,7 +80,7 @@ impl Channels {
     ghost use Rattle.fm_chan.specs.Rooms.{HasRoom, KeepsRoom, KeepsOthersRoom};
     ghost use Rattle.fm_chan.specs.Events.{is_outport, writer_number, chan_at, after_op, after_send, after_send_to, put_first};
     ghost use Rattle.fm_finmap.specs.Changes.{adjust};
-    ghost use Rattle.fm_chan.specs.Received.{got_at, brings, pops_at, waits_at};
+    ghost use Rattle.fm_chan.specs.Received.{got_at, brings, first_at, pops_at, waits_at};
     ghost use Rattle.fm_chan.specs.Rest.{left_ports};
     ghost use Rattle.fm_chan.specs.Woken.{waiting_reader, woken_of, Wakes, WakesAtEnd, WakesAll};
 
@@ -120,6 +121,17 @@ impl Channels {
         match self.bodies.get(port.channel()) {
             Some(body) => !body.is_ready(),
             None => true,
+        }
+    }
+
+    /// What stands first in the port's channel: its oldest message, which stays there. None where no message is there, or no
+    /// such channel. Takes no memory.
+    pub fn first(&self, port: &Port) -> Option<&Message>
+        ensures { option_copied result ≡ first_at (chan_at port.now (chans_of self.now)) }
+    {
+        match self.bodies.get(port.channel()) {
+            Some(body) => body.first(),
+            None => None,
         }
     }
 

@@ -1,6 +1,6 @@
 //! A run from its first piece to its end.
 
-ghost use Rattle.std.specs.Prelude.{◌≡◌, ℕ, List, [], Some, slice_get, IfOk};
+ghost use Rattle.std.specs.Prelude.{◌≡◌, ◌+◌, ◌≤◌, ℕ, List, [], Some, length, slice_get, IfOk};
 ghost use Rattle.fm_run.specs.Orders.{chosen};
 ghost use Rattle.fm_run.specs.Programs.{Follows, IsRun};
 ghost use Rattle.fm_table.specs.Told.{IsEndingOf, IsIdle};
@@ -41,6 +41,7 @@ fn run_of(alloc: Global, table: Table) -> Result<Run, NoMemory>
     requires alone { table.out ≡ [] }
     ensures run { IfOk result (λ r. IsRun table.program table.setup.turns r) }
     ensures history { IfOk result (λ r. r.history.items ≡ table.history) }
+    ensures entries { IfOk result (λ r. length r.history.items ≤ table.setup.turns + 1) }
 {
     table.promise();
     let ending = ending_of(alloc, &table)?;
@@ -54,7 +55,8 @@ fn run_of(alloc: Global, table: Table) -> Result<Run, NoMemory>
 }
 
 /// Plays a program from its first state until no process can step, or until its turns are spent. Piece `i` goes to the process at
-/// place `choices[i]`, modulo their number, among those that can step, and to the first one when the choices are used up.
+/// place `choices[i]`, modulo their number, among those that can step, and to the first one when the choices are used up. The schedule
+/// has at most one entry more than the turns.
 pub fn run_table(
     alloc: Global,
     program: Arc<Program>,
@@ -63,6 +65,7 @@ pub fn run_table(
 ) -> Result<Run, NoMemory>
     ensures run { IfOk result (λ r. IsRun program.value setup.turns r) }
     ensures follows { IfOk result (λ r. Follows program.value setup.slice choices.now r.history.items) }
+    ensures entries { IfOk result (λ r. length r.history.items ≤ setup.turns + 1) }
 {
     let mut table = Table::new(alloc, program, setup)?;
     let mut goes_on = true;

@@ -1,4 +1,4 @@
-use Rattle.std.proofs.Common.{◌≡◌, ◌<◌, ℕ, List, Bool, Some, true, length, ap, refl, sym, subst, ◌∙◌, rules}
+use Rattle.std.proofs.Common.{◌≡◌, ◌+◌, ◌<◌, ◌≤◌, ℕ, List, Bool, Some, true, length, ap, refl, sym, subst, ◌∙◌, rules}
 use Rattle.std.proofs.lemmas.Result.{IfOk-weaker}
 use Rattle.std.specs.Prelude.{slice_get}
 use Rattle.fm_base.specs.declared.schedule.Setup.{Setup}
@@ -62,3 +62,7 @@ returns-clause-follows c =
     subst (λ (s : Setup). Follows c.args.program.value s.slice c.args.choices.now r.history.items) c.pieces.invariant.setup
     (subst (λ (p : Program). Follows p c.pieces.table.setup.slice c.args.choices.now r.history.items) c.pieces.invariant.program
     (subst (λ (ts : List Turn). Follows c.pieces.table.program c.pieces.table.setup.slice c.args.choices.now ts) (sym is) c.pieces.invariant.follows))) c.run_of.ensures.history
+
+pub returns-clause-entries : goal.returns-clause-entries
+returns-clause-entries c =
+    IfOk-weaker c.run_of.result _ _ (λ r is. subst (λ (s : Setup). length r.history.items ≤ s.turns + 1) c.pieces.invariant.setup is) c.run_of.ensures.entries
