@@ -1,5 +1,5 @@
 -- Several statements, and those that change nothing but their frame.
-use Rattle.std.proofs.Common.{◌≡◌, ℕ, zero, suc, ◌+◌, ◌++◌, option_and_then, option_map, Option, Some, None, List, [], Bool, true, false, refl, sym, ap, ◌∙◌, append-nil, append_assoc}
+use Rattle.std.proofs.Common.{◌≡◌, ℕ, zero, suc, ◌+◌, ◌++◌, option_and_then, option_map, Option, Some, None, List, [], refl, sym, ap, subst, add-one, ◌∙◌, append-nil, append_assoc}
 use Rattle.std.proofs.Math.Nat.{add-zero, add-suc, add_assoc}
 use Rattle.fm_code.specs.declared.body.Body.{Body}
 use Rattle.fm_code.specs.declared.body.Frame.{Frame}
@@ -10,7 +10,8 @@ use Rattle.fm_code.specs.Fused.{AreFused}
 use Rattle.fm_code.specs.Acts.{statement}
 use Rattle.fm_machine.specs.Finished.{RunsFrame}
 use Rattle.fm_code.specs.Statements.{Action, Own, Ran, CodeUnit, ran, unit_at, code_in, action_by, action_of, statement_end_of, with_frame, run, not_moved, grown, one_more}
-use Rattle.fm_machine_fused.specs.Onward.{gone, Gone}
+use Rattle.fm_machine_fused.specs.Onward.{gone}
+use Rattle.fm_machine_fused.specs.Nexts.{RunsTo}
 use Rattle.fm_machine.proofs.Slices.{one_step, some_ran}
 
 grown_none : (r : Ran) → grown r (not_moved r.body) ≡ r
@@ -62,22 +63,24 @@ gone_step : (k : ℕ) (start body : Body) (m : Frame) → run k start ≡ Some (
 gone_step k start body m e f =
     one_step k start body (with_frame body m) [] [] [] k (k + 1) 1 e (sym (ap ran (gone_action (statement_end_of body) body m f))) refl refl
 
--- so many statements of a frame over fused instructions
-abbrev pub RunsFused : List Fused → ℕ → (old new : Frame) → Type 0
-RunsFused fs n old new = (code : List Instr) → AreFused fs code → RunsFrame code n old new × (new.unit ≡ old.unit)
-
-pub frame_step : (done : Bool) (code : List Instr) (k : ℕ) (old now new : Frame) → RunsFrame code k old now × (now.unit ≡ old.unit) → Gone done (statement code now.address now) now new → done ≡ true → RunsFrame code (k + 1) old new × (new.unit ≡ old.unit)
-frame_step true code k old now new e g i = (
+frame_step : (code : List Instr) (k : ℕ) (old now new : Frame) → RunsFrame code k old now × (now.unit ≡ old.unit) → (gone (statement code now.address now) ≡ Some new) × (new.unit ≡ now.unit) → RunsFrame code (k + 1) old new × (new.unit ≡ old.unit)
+frame_step code k old now new e g = (
   (λ b h.
       let here : code ≡ code_in (unit_at b now.unit) = h ∙ ap (λ u. code_in (unit_at b u)) (sym e.1) in
       gone_step k (with_frame b old) (with_frame b now) new (e.0 b h) (ap (λ is. gone (statement is now.address now)) (sym here) ∙ g.0)),
   g.1 ∙ e.1,
 )
-frame_step false code k old now new e g i = absurd (cc)
+
+-- statements of a frame are statements of each body that has it
+runs_frame : (code : List Instr) (k : ℕ) (old new : Frame) → RunsTo code k old new → RunsFrame code k old new × (new.unit ≡ old.unit)
+runs_frame code zero old new e = subst (λ (m : Frame). RunsFrame code zero old m × (m.unit ≡ old.unit)) (sym e) ((λ b h. refl), refl)
+runs_frame code (suc k) old new e =
+    subst (λ n. RunsFrame code n old new × (new.unit ≡ old.unit)) (add-one k)
+    (frame_step code k old e.0 new (runs_frame code k old e.0 e.1) e.2)
 
 -- the same of a body, whose unit they stand beside
-pub of_body : (fs : List Fused) (n : ℕ) (u : CodeUnit) (b : Body) (new : Frame) → ((code : List Instr) → AreFused fs code → RunsFrame code n b.frame new) → ((u : CodeUnit) → unit_at b b.frame.unit ≡ Some u → AreFused fs u.code) → unit_at b b.frame.unit ≡ Some u → run n b ≡ Some (record { body = with_frame b new; lines = []; cost = n })
-of_body fs n u b new h f e = h u.code (f u e) b (sym (ap code_in e))
+pub of_body : (fs : List Fused) (n : ℕ) (u : CodeUnit) (b : Body) (new : Frame) → ((code : List Instr) → AreFused fs code → RunsTo code n b.frame new) → ((u : CodeUnit) → unit_at b b.frame.unit ≡ Some u → AreFused fs u.code) → unit_at b b.frame.unit ≡ Some u → run n b ≡ Some (record { body = with_frame b new; lines = []; cost = n })
+of_body fs n u b new h f e = (runs_frame u.code n b.frame new (h u.code (f u e))).0 b (sym (ap code_in e))
 
 pub many_kept : (k n all : ℕ) (start body body' body'' : Body) (ls : List (List ℕ)) (c c' c'' : ℕ) → run k start ≡ Some (record { body = body; lines = ls; cost = c }) → run n body ≡ Some (record { body = body'; lines = []; cost = n }) → c' ≡ c + n → all ≡ k + n → body'' ≡ body' → c'' ≡ c' → run all start ≡ Some (record { body = body''; lines = ls; cost = c'' })
 many_kept k n all start body body' body'' ls c c' c'' e f g h i j =

@@ -1,14 +1,12 @@
 //! Statements, one after another.
 
-ghost use Rattle.std.specs.Prelude.{◌≡◌, ◌≢◌, ◌≤◌, ◌+◌, ◌++◌, [], Some, None, IfOk, IfSome, OnErr, OnOk, List, option_to_list};
+ghost use Rattle.std.specs.Prelude.{◌≡◌, ◌≢◌, ◌≤◌, ◌+◌, ◌++◌, [], Some, None, IfOk, IfSome, OnErr, OnOk, option_to_list};
 ghost use Rattle.fm_code.specs.declared.ask.Ask.TheVariants as ask;
-ghost use Rattle.fm_code.specs.declared.instr.Instr.{Instr};
-ghost use Rattle.fm_code.specs.Fused.{AreFused};
 ghost use Rattle.fm_code.specs.Statements as statements;
 ghost use Rattle.fm_code.specs.Statements.{Own, run, ran, action_of, ask_of, statement_end_of, code_in};
 ghost use Rattle.fm_machine_instr.specs.Told.{told_end};
 ghost use Rattle.fm_machine_calls.specs.Looks.{look_in};
-ghost use Rattle.fm_machine.specs.Finished.{went, told, Stays, RunsFrame};
+ghost use Rattle.fm_machine.specs.Finished.{went, told, Stays};
 
 use crate::done::{Done, Made};
 use crate::opening::open;
@@ -16,9 +14,9 @@ use crate::performing::{
     Finish, let_go_at_ending, look, perform, return_plainly, return_value_plainly,
 };
 use fm_base::{NoMemory, Seq};
-use fm_code::{Body, Frame, Fused, Instr, Stack, copy_body};
+use fm_code::{Body, Instr, copy_body};
 use fm_machine_calls::{Look, unit_at};
-use fm_machine_fused::run_in_place;
+use fm_machine_fused::run_many;
 use fm_machine_instr::{Passing, StatementEnd, Work, statement, tell_passing};
 use std::alloc::Global;
 use std::sync::Arc;
@@ -125,29 +123,15 @@ fn both(first: u64, second: u64) -> Result<u64, NoMemory>
     first.checked_add(second).ok_or(NoMemory)
 }
 
-/// Does statements that change nothing but their frame, as many as `slice` at most. How many: each costs 1.
-#[inline(never)]
-fn run_many_in_place(fused: &[Fused], stack: &mut Stack, frame: &mut Frame, slice: u32) -> u32
-    ensures ran { (code : List Instr) → AreFused fused.now code → RunsFrame code result frame.old frame.new }
-    ensures within { result ≤ slice }
-{
-    'steps: for steps in 0..slice {
-        if !run_in_place(fused, stack, frame) {
-            return steps;
-        }
-    }
-    slice
-}
-
 /// Does statements of a body that change nothing but its innermost frame, as many as `slice` at most. How
 /// many: each costs 1.
-fn run_body_in_place(stack: &mut Stack, body: &mut Body, slice: u32) -> u32
+fn run_body_in_place(room: &mut [i64], body: &mut Body, slice: u32) -> u32
     ensures ran { run result body.old ≡ Some (record { body = body.new; lines = []; cost = result }) }
     ensures within { result ≤ slice }
 {
     let number = body.frame.unit;
     match unit_at(&body.code, number) {
-        Some(_) => run_many_in_place(body.code.fused(number), stack, &mut body.frame, slice),
+        Some(_) => run_many(body.code.fused(number), room, &mut body.frame, slice),
         None => 0,
     }
 }
@@ -168,8 +152,9 @@ pub fn proceed(
     let mut lines = Seq::new(alloc);
     let mut cost: u64 = 0;
     let mut steps: u32 = 0;
+    let mut room = [0i64; 16];
     'steps: while steps < slice {
-        let alone = run_body_in_place(&mut work.stack, body, slice - steps);
+        let alone = run_body_in_place(room.as_mut_slice(), body, slice - steps);
         cost = both(cost, u64::from(alone))?;
         steps += alone;
         if steps == slice {
