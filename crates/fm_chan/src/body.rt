@@ -103,6 +103,7 @@ impl Body {
     }
 
     /// Puts a message last, or gives it back where the inport is gone.
+    #[inline(always)]
     pub fn put_last(&mut self, message: Message) -> Result<Put, (Message, NoMemory)>
         ensures ok { OnOk result (chan_of self.new ≡ changed (Push 0 message) (chan_of self.old)) }
         ensures spilt { IfOk result (λ put. ports_back put ≡ spills (Push 0 message) (chan_of self.old)) }
@@ -181,6 +182,7 @@ impl Body {
     }
 
     /// The oldest message, which leaves the queue if it is within the limits; or what stands against it.
+    #[inline(always)]
     pub fn receive<L: Limits>(&mut self, limits: &L) -> Got
         ensures got { result ≡ got_from (L.most limits.now) (chan_of self.old) }
         ensures rest { chan_of self.new ≡ changed (Pop (L.most limits.now)) (chan_of self.old) }

@@ -38,6 +38,7 @@ pub fn reserve(bodies: &mut Bodies, name: &ChanName) -> Result<(), NoMemory>
 }
 
 /// Puts a message last. Where the inport is gone, it comes back.
+#[inline(always)]
 pub fn put(
     bodies: &mut Bodies,
     name: &ChanName,
@@ -59,6 +60,7 @@ pub fn put(
 }
 
 /// The oldest message, which leaves the queue if it is within the limits; or what stands against it.
+#[inline(always)]
 pub fn receive<L: Limits>(bodies: &mut Bodies, name: &ChanName, limits: &L) -> Got
     ensures got { result ≡ got_at (L.most limits.now) (map.get (chans_in bodies.old) name.now) }
     ensures channels { chans_in bodies.new ≡ adjust (chans_in bodies.old) name.now (changed (Pop (L.most limits.now))) }

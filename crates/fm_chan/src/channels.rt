@@ -202,6 +202,7 @@ impl Channels {
     /// Puts a message last. Where the inport is gone, the message is discarded with the ports in it.
     /// After want of memory, which comes only where the channel has no room for one more message, the
     /// message comes back, and nothing has changed.
+    #[inline(always)]
     pub fn send(&mut self, port: &Port, message: Message) -> Result<(), (Message, NoMemory)>
         requires { is_outport port.now ≡ true }
         ensures ok { OnOk result (chans_of self.new ≡ after_send port.now message (chans_of self.old)) }
@@ -250,6 +251,7 @@ impl Channels {
 
     /// The oldest message, which leaves the queue, where no item of it has more elements than its
     /// limit; or that it exceeds the limits, a wait, or the end, which change nothing.
+    #[inline(always)]
     pub fn receive<L: Limits>(&mut self, port: &Port, limits: &L) -> Got
         requires { is_outport port.now ≡ false }
         ensures got { result ≡ got_at (L.most limits.now) (chan_at port.now (chans_of self.old)) }

@@ -32,6 +32,7 @@ fn code_of(body: &Body) -> &[Instr]
 }
 
 /// How the next statement ends.
+#[inline(always)]
 fn next_end(alloc: Global, work: &mut Work, body: &Body) -> Result<StatementEnd, NoMemory>
     ensures { IfOk result (λ t. told_end t work.new.scratch body.now.frame ≡ statement_end_of body.now) }
 {
@@ -64,14 +65,27 @@ fn pass_frame_words(
     }
 }
 
+// Whether the next statement may be one that only passes words.
+#[inline(always)]
+fn may_pass(body: &Body) -> bool {
+    match code_of(body).get(body.frame.address as usize) {
+        Some(Instr::Build(_)) => true,
+        Some(Instr::End(_)) => true,
+        _ => false,
+    }
+}
+
 /// Does the next statement. After something other than a step the body is as it was.
+#[inline(always)]
 fn step(alloc: Global, work: &mut Work, body: &mut Body) -> Result<Finish, NoMemory>
     ensures ran { IfOk result (λ f. went f body.new ≡ ran (action_of body.old)) }
     ensures tells { IfOk result (λ f. told f ≡ look_in (action_of body.old)) }
     ensures stays { IfOk result (λ f. Stays f body.old body.new) }
 {
-    if let Some(cost) = pass_frame_words(alloc, work, body)? {
-        return Ok(Finish::Went(None, cost));
+    if may_pass(body) {
+        if let Some(cost) = pass_frame_words(alloc, work, body)? {
+            return Ok(Finish::Went(None, cost));
+        }
     }
     let statement_end = next_end(alloc, work, body)?;
     perform(alloc, statement_end, &work.scratch, &mut work.spare, body)
@@ -138,6 +152,7 @@ fn run_body_in_place(room: &mut [i64], body: &mut Body, slice: u32) -> u32
 
 /// Does statements of a body in its place, as many as `slice` at most, and stops where the next one asks for
 /// something or finds the body stuck. After want of memory the body may have gone on.
+#[inline(always)]
 pub fn proceed(
     alloc: Global,
     work: &mut Work,

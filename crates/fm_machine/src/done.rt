@@ -26,6 +26,7 @@ pub struct Made {
 
 impl Made {
     /// So many statements, with their cost and lines, and what the next one does.
+    #[inline(always)]
     pub(crate) fn new(steps: u32, cost: u64, lines: Seq<Seq<u8>>, next: Look) -> Made
         ensures { result ≡ record { steps = steps; cost = cost; lines = lines; next = next } }
     {

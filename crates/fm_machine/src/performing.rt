@@ -276,6 +276,7 @@ fn finish_move(
     }
 }
 
+#[inline(always)]
 fn finish_ending(
     alloc: Global,
     ending: Ending,
@@ -352,6 +353,7 @@ fn finish_open(
 
 /// Does a statement that ends so and built this. A frame that it leaves may be kept to be used again. After
 /// something other than a step the body is as it was.
+#[inline(always)]
 pub(crate) fn perform(
     alloc: Global,
     statement_end: StatementEnd,

@@ -25,6 +25,7 @@ pub(crate) enum Port {
 }
 
 /// What stands at the port word with this number.
+#[inline(always)]
 pub(crate) fn port_at(frame: &Frame, number: u32) -> Port
     ensures { IsPort result (slice_get frame.now.words number) }
 {
@@ -35,6 +36,7 @@ pub(crate) fn port_at(frame: &Frame, number: u32) -> Port
     }
 }
 
+#[inline(always)]
 fn send(alloc: Global, work: &mut Work, next: u32, frame: &Frame) -> Result<Ending, NoMemory>
     ensures { IfOk result (λ e. Over (ended e frame.now) ≡ with_one work.old.stack (λ x s. at_port frame.now x (λ slot. asks (ask.Send slot work.old.scratch.operands next)))) }
 {
@@ -54,6 +56,7 @@ fn send(alloc: Global, work: &mut Work, next: u32, frame: &Frame) -> Result<Endi
     }
 }
 
+#[inline(always)]
 fn receive(
     alloc: Global,
     work: &mut Work,
@@ -200,6 +203,7 @@ fn probe(work: &mut Work, next: u32, frame: &Frame) -> Result<Ending, NoMemory>
 }
 
 /// How a statement on ports or on other processes ends.
+#[inline(always)]
 pub(crate) fn ask(
     alloc: Global,
     instr: Meet,

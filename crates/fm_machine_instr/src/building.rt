@@ -16,6 +16,7 @@ use fm_values::is_truth;
 use std::alloc::Global;
 
 /// The words of a span, if the frame has them.
+#[inline(always)]
 pub(crate) fn span_of(words: &Seq<i64>, span: Span) -> Option<&[i64]>
     ensures { MatchOption result (has_span (length words.now) span ≡ false) (λ ws. (has_span (length words.now) span ≡ true) × (ws.now ≡ span_of words.now span)) }
 {
@@ -31,6 +32,7 @@ pub(crate) fn span_of(words: &Seq<i64>, span: Span) -> Option<&[i64]>
 }
 
 /// A word as the number of a word that the frame has. A frame has fewer than 2^32 words.
+#[inline(always)]
 pub(crate) fn word_number(frame: &Frame, word: i64) -> Result<Option<u32>, NoMemory>
     ensures { IfOk result (λ k. k ≡ numbered frame.now (number_in word)) }
 {
@@ -110,6 +112,7 @@ fn show_truths(work: &mut Work, span: Span, frame: &Frame) -> Result<Progress, N
     Ok(Progress::On)
 }
 
+#[inline(always)]
 fn pass(work: &mut Work, operand: Operand) -> Result<Progress, NoMemory>
     ensures { IfOk result (λ p. progressed p work.new.stack work.new.scratch ≡ On work.old.stack (passed work.old.scratch operand)) }
 {
@@ -117,6 +120,7 @@ fn pass(work: &mut Work, operand: Operand) -> Result<Progress, NoMemory>
     Ok(Progress::On)
 }
 
+#[inline(always)]
 fn pass_value(work: &mut Work) -> Result<Progress, NoMemory>
     ensures { IfOk result (λ p. progressed p work.new.stack work.new.scratch ≡ with_one work.old.stack (λ x s. On s (passed work.old.scratch (operand.Value x)))) }
 {
@@ -126,6 +130,7 @@ fn pass_value(work: &mut Work) -> Result<Progress, NoMemory>
     pass(work, Operand::Value(word))
 }
 
+#[inline(always)]
 fn pass_span(work: &mut Work, span: Span, port: bool, frame: &Frame) -> Result<Progress, NoMemory>
     ensures { IfOk result (λ p. progressed p work.new.stack work.new.scratch ≡ spanned frame.now span (λ ws. On work.old.stack (passed work.old.scratch (if port then operand.Ports span else operand.Words span)))) }
 {
@@ -196,6 +201,7 @@ fn submachine(work: &mut Work) -> Result<Progress, NoMemory>
 }
 
 /// Does an instruction that builds.
+#[inline(always)]
 pub(crate) fn build(
     alloc: Global,
     instr: Build,

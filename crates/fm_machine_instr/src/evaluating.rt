@@ -95,6 +95,7 @@ fn locate(work: &mut Work, first: u32) -> Result<Progress, NoMemory>
     work.push_value(add(i64::from(first), place))
 }
 
+#[inline(always)]
 fn apply(work: &mut Work, op: Op) -> Result<Progress, NoMemory>
     ensures { IfOk result (λ p. progressed p work.new.stack work.new.scratch ≡ with_two work.old.stack (λ x y s. gives (applied_words op x y) (λ v. On (v ∷ s) work.old.scratch))) }
 {
@@ -138,6 +139,7 @@ fn intrinsic(work: &mut Work, function: Intrinsic, count: u32) -> Result<Progres
 }
 
 /// Does an instruction that evaluates.
+#[inline(always)]
 pub(crate) fn evaluate(instr: Eval, work: &mut Work, frame: &Frame) -> Result<Progress, NoMemory>
     ensures { IfOk result (λ p. progressed p work.new.stack work.new.scratch ≡ evaluates instr work.old.stack work.old.scratch frame.now) }
 {

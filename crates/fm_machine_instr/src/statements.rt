@@ -16,35 +16,8 @@ use fm_base::NoMemory;
 use fm_code::{Frame, Instr};
 use std::alloc::Global;
 
-/// How an instruction that goes on may end its statement.
-fn end_of(progress: Progress) -> Option<StatementEnd>
-    ensures { (s : List ℤ) (b : Scratch) (m : Frame) → next_act result s b m ≡ progressed progress s b }
-{
-    match progress {
-        Progress::On => None,
-        Progress::Fails(fault) => Some(StatementEnd::Over(Ending::Fails(fault))),
-        Progress::Stuck => Some(StatementEnd::Over(Ending::Stuck)),
-    }
-}
-
-/// Does one instruction. Where it ends its statement, it tells how.
-fn act(
-    alloc: Global,
-    instr: Instr,
-    work: &mut Work,
-    frame: &Frame,
-) -> Result<Option<StatementEnd>, NoMemory>
-    ensures { IfOk result (λ t. next_act t work.new.stack work.new.scratch frame.now ≡ act instr work.old.stack work.old.scratch frame.now) }
-{
-    match instr {
-        Instr::Eval(instr) => Ok(end_of(evaluate(instr, work, frame)?)),
-        Instr::Build(instr) => Ok(end_of(build(alloc, instr, work, frame)?)),
-        Instr::End(instr) => Ok(Some(decide(instr, work, frame)?)),
-        Instr::Meet(instr) => Ok(Some(StatementEnd::Over(ask(alloc, instr, work, frame)?))),
-    }
-}
-
 /// What the statement at an address does, without doing it.
+#[inline(never)]
 pub fn statement(
     alloc: Global,
     code: &[Instr],
@@ -56,8 +29,16 @@ pub fn statement(
 {
     work.clear();
     'instrs: for at in address..code.len() {
-        if let Some(end) = act(alloc, code[at], work, frame)? {
-            return Ok(end);
+        let progress = match code[at] {
+            Instr::Eval(instr) => evaluate(instr, work, frame)?,
+            Instr::Build(instr) => build(alloc, instr, work, frame)?,
+            Instr::End(instr) => return decide(instr, work, frame),
+            Instr::Meet(instr) => return Ok(StatementEnd::Over(ask(alloc, instr, work, frame)?)),
+        };
+        match progress {
+            Progress::On => {}
+            Progress::Fails(fault) => return Ok(StatementEnd::Over(Ending::Fails(fault))),
+            Progress::Stuck => return Ok(StatementEnd::Over(Ending::Stuck)),
         }
     }
     Ok(StatementEnd::Over(Ending::Stuck))

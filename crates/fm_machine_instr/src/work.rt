@@ -53,6 +53,7 @@ impl Work {
     }
 
     /// Takes the operands and what was built.
+    #[inline(always)]
     pub(crate) fn clear(&mut self)
         ensures stack { self.new.stack ≡ [] }
         ensures scratch { self.new.scratch ≡ nothing }
@@ -62,6 +63,7 @@ impl Work {
     }
 
     /// A word goes on the stack.
+    #[inline(always)]
     pub(crate) fn push(&mut self, word: i64) -> Result<Progress, NoMemory>
         ensures { IfOk result (λ p. progressed p self.new.stack self.new.scratch ≡ On (word ∷ self.old.stack) self.old.scratch) }
     {
@@ -70,6 +72,7 @@ impl Work {
     }
 
     /// A word goes on the stack, if it is there.
+    #[inline(always)]
     pub(crate) fn push_found(&mut self, word: Option<i64>) -> Result<Progress, NoMemory>
         ensures { IfOk result (λ p. progressed p self.new.stack self.new.scratch ≡ found word (λ v. On (v ∷ self.old.stack) self.old.scratch)) }
     {
@@ -80,6 +83,7 @@ impl Work {
     }
 
     /// A value goes on the stack, or the statement faults.
+    #[inline(always)]
     pub(crate) fn push_value(&mut self, value: Result<i64, Fault>) -> Result<Progress, NoMemory>
         ensures { IfOk result (λ p. progressed p self.new.stack self.new.scratch ≡ gives value (λ v. On (v ∷ self.old.stack) self.old.scratch)) }
     {

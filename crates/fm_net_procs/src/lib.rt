@@ -5,7 +5,7 @@
 //! (`Entries`) as the machine of processes does (`procs_of`), each under its place, and the places in the order of the numbers
 //! (`order_of`); with the channels (`Processes`) they are a state of that machine (`state_of`). A piece (`make_piece`) is so many
 //! of its steps (`IsPiece`), all of one process. Of each process it is kept what it does next (`AreTold`), and the number of the
-//! first of the children that it waits for (`AreFamilies`), so that nobody's statements are looked at twice.
+//! first of the children that it waits for (`AreFamilies`): a process that waits isn't asked again.
 #![tactic(auto)]
 
 mod children;

@@ -41,6 +41,7 @@ fn note_at(channels: &mut Channels, channel: Option<&ChanName>, number: u32) -> 
 
 impl<E: Drop, L: Drop, W: Drop, P: Proc<Event = E, Look = L, Work = W>> Processes<P, L, W> {
     // Whether a process, which stands at this event, can step.
+    #[inline(always)]
     fn is_served(&self, entry: &Entry<P, L>, event: &E) -> Result<bool, NoMemory>
         ensures { IfOk result (λ r. (p : P.Program) (q : Place) → get (procs_of (P.seen p) self.now.entries) q ≡ Some (proc_in (P.seen p) entry.now) → HasFamily (order_of self.now.entries) q (P.awaits (proc_in (P.seen p) entry.now)) entry.now.first_child →
             P.Fits p self.now.work (state_of (P.seen p) self.now) → P.MeetsIt p (proc_in (P.seen p) entry.now) event.now → r ≡ is_some (language_step (P.language p) (state_of (P.seen p) self.now) q)) }
@@ -52,6 +53,7 @@ impl<E: Drop, L: Drop, W: Drop, P: Proc<Event = E, Look = L, Work = W>> Processe
     }
 
     // Whether the process of a number, which stands at this event, can step.
+    #[inline(always)]
     pub(crate) fn is_able(&self, number: u32, event: &E) -> Result<bool, NoMemory>
         ensures { IfOk result (λ r. (p : P.Program) → AreFamilies (P.seen p) P.awaits self.now.entries → P.Fits p self.now.work (state_of (P.seen p) self.now) →
             ((q : Place) (y : P.Seen) → place_at self.now.entries.rows number ≡ Some q → get (procs_of (P.seen p) self.now.entries) q ≡ Some y → P.MeetsIt p y event.now) →

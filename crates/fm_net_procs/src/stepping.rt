@@ -31,6 +31,7 @@ pub(crate) struct Stepped {
 
 impl<E: Drop, L: Drop, W: Drop, P: JoiningProc<Event = E, Look = L, Work = W>> Processes<P, L, W> {
     /// Steps of a process's own, as many as `slice` at most.
+    #[inline(always)]
     pub(crate) fn advance_one(
         &mut self,
         alloc: Global,
@@ -65,6 +66,7 @@ impl<E: Drop, L: Drop, W: Drop, P: JoiningProc<Event = E, Look = L, Work = W>> P
     }
 
     // Does the event of a process, other than a join.
+    #[inline(always)]
     fn perform_one(
         &mut self,
         alloc: Global,
@@ -97,6 +99,7 @@ impl<E: Drop, L: Drop, W: Drop, P: JoiningProc<Event = E, Look = L, Work = W>> P
     }
 
     // Makes one step of a process, which joins a block.
+    #[inline(never)]
     fn step_join(
         &mut self,
         alloc: Global,
@@ -130,6 +133,7 @@ impl<E: Drop, L: Drop, W: Drop, P: JoiningProc<Event = E, Look = L, Work = W>> P
     }
 
     // Makes one step of a process, which stands at this event, other than a join.
+    #[inline(always)]
     fn step_alone(
         &mut self,
         alloc: Global,
@@ -155,9 +159,11 @@ impl<E: Drop, L: Drop, W: Drop, P: JoiningProc<Event = E, Look = L, Work = W>> P
         let block = self.entries.next_block(actor.number);
         let Done { children, cost } = self.perform_one(alloc, program, actor, event)?;
         let started = children.len();
-        let work = &mut self.work;
-        self.entries
-            .start_all(alloc, program, work, actor, block, children)?;
+        if started != 0 {
+            let work = &mut self.work;
+            self.entries
+                .start_all(alloc, program, work, actor, block, children)?;
+        }
         Ok(Stepped {
             block,
             started,
@@ -168,6 +174,7 @@ impl<E: Drop, L: Drop, W: Drop, P: JoiningProc<Event = E, Look = L, Work = W>> P
     /// Makes one step of a process, which can step, and stands at this event. What it does next isn't told then.
     ///
     /// After want of memory these aren't to be used any more.
+    #[inline(always)]
     pub(crate) fn step(
         &mut self,
         alloc: Global,

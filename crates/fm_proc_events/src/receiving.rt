@@ -37,6 +37,7 @@ use std::alloc::Global;
 use std::mem::replace;
 
 /// What a receive into operands gets of a port's channel. A message leaves it that has no more elements for an item than its operand.
+#[inline(always)]
 fn next_message(channels: &mut Channels, port: &Port, operands: &Seq<Operand>) -> Got
     requires { is_outport port.now ≡ false }
     ensures got { result ≡ got_at (limits_of operands.now) (chan_at port.now (chans_of channels.old)) }
@@ -78,6 +79,7 @@ struct Stored {
 }
 
 /// A message is stored in the innermost frame, which goes on. After want of memory it comes back, and nothing has changed.
+#[inline(always)]
 fn store_message(
     alloc: Global,
     body: &mut Body,
@@ -144,6 +146,7 @@ fn meet_excess(process: &mut Process)
 /// Receives a message by the port in a slot, or meets the end of its channel. Where the message has more elements for an item than
 /// its operand, it stays and is a fault. The cost. After want of memory the process and the channels are as they were: the message
 /// goes back to where it was.
+#[inline(always)]
 pub fn receive(
     alloc: Global,
     path: &Path,

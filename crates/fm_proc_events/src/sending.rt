@@ -38,6 +38,7 @@ fn channel_at(alloc: Global, slots: &Slots, slot: i64) -> Result<Option<ChanName
 }
 
 /// What it costs to send or receive a message. Only more than may be counted is want of memory.
+#[inline(always)]
 pub(crate) fn message_cost(message: &Message) -> Result<u64, NoMemory>
     ensures cost { IfOk result (λ cost. cost ≡ 1 + message_words message.now) }
     ensures counted { message_words message.now < 18446744073709551615 → IsOk result }
@@ -137,6 +138,7 @@ fn send_message(
 }
 
 /// Sends a message by the port in a slot. The cost. After want of memory the process and the channels are as they were.
+#[inline(always)]
 pub fn send(
     alloc: Global,
     path: &Path,

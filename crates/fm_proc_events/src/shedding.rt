@@ -40,10 +40,14 @@ pub fn vacate(slots: &mut OpenSlots, words: &[i64], ports: &mut Vec<Port>)
 }
 
 /// Discards ports, one after the other. Takes no memory.
+#[inline(always)]
 pub fn shed(channels: &mut Channels, ports: Vec<Port>)
     ensures channels { chans_of channels.new ≡ all_shed ports.items (chans_of channels.old) }
     ensures waking { WakesAll channels.old channels.new }
 {
+    if ports.is_empty() {
+        return;
+    }
     let mut rest = VecDeque::from_vec(ports);
     'ports: while let Some(port) = rest.pop_front() {
         channels.discard(port);

@@ -28,6 +28,7 @@ fn words_item(alloc: Global, words: &[i64], operand: Operand) -> Result<Option<I
 }
 
 /// The word of an item that is one word, and no port.
+#[inline(always)]
 fn only_word(words: &[i64], operand: Operand) -> Option<i64>
     ensures word { IfSome result (λ w. copied_words words.now operand ≡ w ∷ []) }
     ensures plain { IfSome result (λ w. has_ports operand ≡ false) }
@@ -43,6 +44,7 @@ fn only_word(words: &[i64], operand: Operand) -> Option<i64>
 }
 
 /// The word of a message that is one word, and no port.
+#[inline(always)]
 fn one_word(words: &[i64], items: &[Operand]) -> Option<i64>
     ensures message { IfSome result (λ w. words_message words.now items.now ≡ base.Words (w ∷ []) ∷ []) }
     ensures plain { IfSome result (λ w. carries_ports items.now ≡ false) }
@@ -81,6 +83,7 @@ fn listed_words(
 }
 
 /// A message of these items, which have no ports; none where one has. One word takes no memory.
+#[inline(always)]
 pub fn words_message(
     alloc: Global,
     words: &[i64],
@@ -148,6 +151,7 @@ fn items_words(items: &[Item]) -> Result<u64, NoMemory>
 }
 
 /// How many words and ports a message has. Only more than may be counted are want of memory.
+#[inline(always)]
 pub fn message_words(message: &Message) -> Result<u64, NoMemory>
     ensures words { IfOk result (λ n. n ≡ message_words message.now) }
     ensures counted { message_words message.now < 18446744073709551615 → IsOk result }

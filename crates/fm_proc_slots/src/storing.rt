@@ -241,6 +241,7 @@ fn store_listed(
 }
 
 /// Words come to a place. After want of memory the words of the frame are as they were.
+#[inline(always)]
 fn store_row(
     alloc: Global,
     words: &mut Seq<i64>,
@@ -263,6 +264,7 @@ fn store_row(
 }
 
 /// An item of words goes to the first place, if there is one. After want of memory the words are as they were.
+#[inline(always)]
 fn store_first(
     alloc: Global,
     words: &mut Seq<i64>,
@@ -278,6 +280,7 @@ fn store_first(
     }
 }
 
+#[inline(always)]
 fn store_content(
     alloc: Global,
     words: &mut Seq<i64>,
@@ -300,6 +303,7 @@ fn store_content(
 
 /// The items of a message go to places one after the other: what is let go, which is what was there and what finds no place. After
 /// want of memory the message comes back, and the words and the slots are as they were.
+#[inline(always)]
 pub fn store_all(
     alloc: Global,
     words: &mut Seq<i64>,

@@ -41,6 +41,7 @@ fn rebuilt(alloc: Global, words: &[i64], at: usize, items: &[i64]) -> Result<Vec
 }
 
 /// Puts items over the words from a place on. After want of memory the words are as they were.
+#[inline(always)]
 pub(crate) fn splice(
     alloc: Global,
     words: &mut Seq<i64>,

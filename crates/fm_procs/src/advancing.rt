@@ -26,6 +26,7 @@ pub struct Advanced {
 
 /// Does statements of a process, as many as `slice` at most, and stops where the next one touches channels or other processes,
 /// or where there is none. After want of memory the process may have gone on.
+#[inline(always)]
 pub fn advance(
     alloc: Global,
     work: &mut Work,

@@ -6,7 +6,7 @@
 //!
 //! Of all of them: contracts see the processes and channels (`CodeProcs`) as a state of the machine of stack code (`state_of`): a step of a
 //! process is the step of that machine (`code_step`), and a piece is so many of them (`IsPiece`). Of each process it is kept what it does
-//! next, and the number of the first of the children that it waits for (`AreKept`), so that nobody's statements are looked at twice.
+//! next, and the number of the first of the children that it waits for (`AreKept`): a process that waits isn't asked again.
 #![tactic(auto)]
 
 mod advancing;

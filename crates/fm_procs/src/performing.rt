@@ -27,6 +27,7 @@ pub struct StepEnd {
     pub cost: u64,
 }
 
+#[inline(always)]
 fn alone(alloc: Global, cost: u64) -> StepEnd
     ensures children { result.children.items ≡ [] }
     ensures cost { result.cost ≡ cost }
@@ -38,6 +39,7 @@ fn alone(alloc: Global, cost: u64) -> StepEnd
 }
 
 /// Does the event of a process at one of its ports: the cost. The room of its operands is kept for the next statement.
+#[inline(always)]
 fn at_port(
     alloc: Global,
     work: &mut Work,
@@ -89,6 +91,7 @@ fn at_port(
 
 /// Does the event of a process that its next statement asks for. After want of memory the process and the channels are as they were,
 /// whatever is asked.
+#[inline(always)]
 pub fn perform(
     alloc: Global,
     work: &mut Work,

@@ -60,10 +60,14 @@ fn kid_count(process: &Process) -> usize
 }
 
 // Children as the table keeps them.
+#[inline(always)]
 fn kept(alloc: Global, children: Vec<Box<Process>>) -> Result<Vec<CodeProcess>, NoMemory>
     ensures { IfOk result (λ v. map code_of v.items ≡ map boxed_of children.items) }
 {
     let mut all = Vec::new(alloc);
+    if children.is_empty() {
+        return Ok(all);
+    }
     'children: for held in children {
         all.push(CodeProcess { held })?;
     }
@@ -71,6 +75,7 @@ fn kept(alloc: Global, children: Vec<Box<Process>>) -> Result<Vec<CodeProcess>, 
 }
 
 // Where a process stops that does this next, and used up its slice with no step to spare, or didn't.
+#[inline(always)]
 fn stop_of(next: Look, whole: bool) -> Stop<Ask, Look>
     ensures { result ≡ stop_of next whole }
 {
@@ -85,6 +90,7 @@ fn stop_of(next: Look, whole: bool) -> Stop<Ask, Look>
 }
 
 // Whether a slice is used up, with no step to spare.
+#[inline(always)]
 fn is_used_up(steps: u32, slice: u32, spare: bool) -> bool
     ensures { result ≡ is_used_up steps slice spare }
 {
@@ -187,6 +193,7 @@ impl Proc for CodeProcess {
         }
     }
 
+    #[inline(always)]
     fn is_served(&self, channels: &Channels, work: &Work, event: &Ask) -> Option<bool> {
         served(&self.held, channels, event)
     }
@@ -195,6 +202,7 @@ impl Proc for CodeProcess {
         waited_channel(&self.held, look)
     }
 
+    #[inline(always)]
     fn advance(
         &mut self,
         alloc: Global,
@@ -209,6 +217,7 @@ impl Proc for CodeProcess {
         Ok(Advanced { stop, steps, cost })
     }
 
+    #[inline(always)]
     fn perform(
         &mut self,
         alloc: Global,
