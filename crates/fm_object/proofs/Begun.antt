@@ -14,9 +14,9 @@ use Rattle.fm_object.specs.declared.image.Cell.{Cell}
 use Rattle.fm_object.specs.declared.image.UnitImage.{UnitImage}
 use Rattle.fm_object.specs.declared.image.Image.{Image}
 use Rattle.fm_object.specs.Texts.{number, field_text, extent_text, cell_text, entry_text, instr_text, type_text, unit_text, head_text, types_line, units_line, object_text, IsShort, FieldFits, CellFits, EntryFits, InstrFits, ListFits, UnitFits, IsImage, first_lines}
-use Rattle.fm_object.specs.Reading.{◌>>◌, Place, UnitHead, head_line, count_line, field_line, cell_line, entry_line, unit_head_line, instr_line, one_line, many, type_read, unit_read, ended, from_first, image_read}
+use Rattle.fm_object.specs.Reading.{◌>>◌, Place, UnitHead, HeadFits, head_line, count_line, field_line, cell_line, entry_line, unit_head_line, instr_line, one_line, many, type_read, unit_read, ended, from_first, image_read}
 use Rattle.fm_object.proofs.WordLaws.{Avoids}
-use Rattle.fm_object.proofs.LineLaws.{HeadFits, head_line_text}
+use Rattle.fm_object.proofs.LineLaws.{head_line_text}
 use Rattle.fm_object.proofs.Exact.{IsExact, bind_ok, ok_is, many_takes}
 use Rattle.fm_object.proofs.Images.{counts_exact, fields_exact, cells_exact, entries_exact, instrs_exact, heads_exact, extents_exact, head_exact, types_exact, units_exact, the_head}
 use Rattle.fm_object.proofs.Fronts.{Closed, front_line, line_after, line_told, literal, closed_count, closed_field, closed_cell, closed_entry, closed_instr, closed_head}

@@ -13,9 +13,9 @@ use Rattle.fm_object.specs.declared.image.Cell.{Cell}
 use Rattle.fm_object.specs.declared.image.Image.{Image}
 use Rattle.fm_code.specs.declared.code.Entry.{Entry}
 use Rattle.fm_object.specs.Texts.{first_lines, word, number, signed, field_text, cell_text, entry_text, instr_text, head_text, object_text, IsShort, IsName, FieldFits, CellFits, EntryFits, InstrFits, IsImage}
-use Rattle.fm_object.specs.Reading.{◌>>◌, Place, UnitHead, lined, one_line, many, type_read, unit_read, ended, from_first, image_read, head_line, count_line, field_line, cell_line, entry_line, unit_head_line, instr_line}
+use Rattle.fm_object.specs.Reading.{◌>>◌, Place, UnitHead, HeadFits, lined, one_line, many, type_read, unit_read, ended, from_first, image_read, head_line, count_line, field_line, cell_line, entry_line, unit_head_line, instr_line}
 use Rattle.fm_object.proofs.WordLaws.{some, Avoids, own, digits_avoid, signed_avoids, name_avoids}
-use Rattle.fm_object.proofs.LineLaws.{HeadFits, head_line_text, end10, count_takes, count_again, field_takes, field_again, cell_takes, cell_again, entry_takes, entry_again, instr_takes, instr_again, unit_head_takes, unit_head_again}
+use Rattle.fm_object.proofs.LineLaws.{head_line_text, end10, count_takes, count_again, field_takes, field_again, cell_takes, cell_again, entry_takes, entry_again, instr_takes, instr_again, unit_head_takes, unit_head_again}
 use Rattle.fm_object.proofs.Exact.{bind_ok, ok_is, at}
 use Rattle.fm_object.proofs.Images.{image_again, head_takes, head_again}
 

@@ -10,9 +10,9 @@ use Rattle.fm_object.specs.declared.image.UnitImage.{UnitImage}
 use Rattle.fm_object.specs.declared.image.Image.{Image}
 use Rattle.fm_object.specs.Texts.{number, field_text, extent_text, cell_text, entry_text, instr_text, type_text, unit_line, unit_text, head_text, types_line, units_line, object_text, IsObjectText, IsShort, FieldFits, CellFits, EntryFits, InstrFits, ListFits, UnitFits, IsImage}
 use Rattle.fm_object.specs.Words.{after}
-use Rattle.fm_object.specs.Reading.{◌>>◌, Place, UnitHead, head_line, count_line, field_line, cell_line, entry_line, unit_head_line, instr_line, one_line, many, type_read, unit_read, ended, from_first, image_read, Gives}
+use Rattle.fm_object.specs.Reading.{◌>>◌, Place, UnitHead, HeadFits, head_line, count_line, field_line, cell_line, entry_line, unit_head_line, instr_line, one_line, many, type_read, unit_read, ended, from_first, image_read, Gives}
 use Rattle.fm_object.proofs.WordLaws.{after_takes, some, some_is}
-use Rattle.fm_object.proofs.LineLaws.{HeadFits, head_line_text, count_takes, count_again, field_takes, field_again, cell_takes, cell_again, entry_takes, entry_again, instr_takes, instr_again, unit_head_takes, unit_head_again}
+use Rattle.fm_object.proofs.LineLaws.{head_line_text, count_takes, count_again, field_takes, field_again, cell_takes, cell_again, entry_takes, entry_again, instr_takes, instr_again, unit_head_takes, unit_head_again}
 use Rattle.fm_object.proofs.Exact.{IsExact, at, bind_ok, done, ok_is, one_line_exact, many_takes, many_again}
 
 -- ---- single lines

@@ -10,7 +10,7 @@ use Rattle.fm_object.specs.declared.image.Cell.{Cell}
 use Rattle.fm_code.specs.declared.code.Entry.{Entry}
 use Rattle.fm_object.specs.Texts.{word, number, signed, field_text, cell_text, entry_text, parts_text, instr_text, IsShort, FieldFits, CellFits, EntryFits, InstrFits}
 use Rattle.fm_object.specs.Words.{◌>>=◌, after, number_at, signed_at, name_at}
-use Rattle.fm_object.specs.Reading.{UnitHead, count_line, field_line, cell_line, entry_line, unit_head_line, instr_line}
+use Rattle.fm_object.specs.Reading.{HeadFits, UnitHead, count_line, field_line, cell_line, entry_line, unit_head_line, instr_line}
 use Rattle.fm_object.proofs.PartLaws.{parts_told}
 use Rattle.fm_object.proofs.WordLaws.{IsEnd, bind_some, some, some_is, after_takes, after_again, number_takes, number_again, signed_takes, signed_again, name_takes, name_again}
 
@@ -23,13 +23,6 @@ end10 = record { low = omega arith }
 -- the line of a unit
 abbrev pub head_line_text : UnitHead → List ℕ
 head_line_text u = codes "unit " ++ (number u.heading 32 ++ (number u.extents 32 ++ (number u.cells 32 ++ (number u.entries 32 ++ number u.code 10))))
-
-pub record HeadFits (u : UnitHead) : Type 0 where
-  pub heading : IsShort u.heading
-  pub extents : IsShort u.extents
-  pub cells : IsShort u.cells
-  pub entries : IsShort u.entries
-  pub code : IsShort u.code
 
 -- ---- a keyword and a number
 
@@ -49,7 +42,7 @@ count_again k n r short = ap (count_line k) (append_assoc k (number n 10) r) ∙
 instr_grouped : (p : Parts) (r : List ℕ) → parts_text p ++ r ≡ codes "instr " ++ (number p.0 32 ++ (signed p.1 32 ++ (signed p.2 10 ++ r)))
 instr_grouped p r = simp append_assoc
 
-instr_made : (i : Instr) (p : Parts) → parts_of i ≡ p → IsShort p.0 → FitsSigned w64 p.1 → FitsSigned w64 p.2 → instr_of p.0 p.1 p.2 ≡ Some i → InstrFits i
+pub instr_made : (i : Instr) (p : Parts) → parts_of i ≡ p → IsShort p.0 → FitsSigned w64 p.1 → FitsSigned w64 p.2 → instr_of p.0 p.1 p.2 ≡ Some i → InstrFits i
 instr_made i p e operation first second told = record {
   operation = subst (λ (q : Parts). IsShort q.0) (sym e) operation;
   first = subst (λ (q : Parts). FitsSigned w64 q.1) (sym e) first;

@@ -11,6 +11,7 @@ use Rattle.fm_object.specs.declared.image.FieldImage.{FieldImage}
 use Rattle.fm_object.specs.declared.image.Cell.{Cell}
 use Rattle.fm_object.specs.declared.image.UnitImage.{UnitImage}
 use Rattle.fm_object.specs.declared.image.Image.{Image}
+use Rattle.fm_object.specs.Texts.{IsShort}
 use Rattle.fm_object.specs.Words.{◌>>=◌, after, number_at, signed_at, name_at}
 
 -- ---- one line, and the bytes behind it
@@ -22,6 +23,18 @@ pub record UnitHead : Type 0 where
   pub cells : ℕ
   pub entries : ℕ
   pub code : ℕ
+
+-- its numbers have 32 bits
+pub record HeadFits (u : UnitHead) : Type 0 where
+  pub heading : IsShort u.heading
+  pub extents : IsShort u.extents
+  pub cells : IsShort u.cells
+  pub entries : IsShort u.entries
+  pub code : IsShort u.code
+
+-- what the line of this unit says
+abbrev pub head_in : UnitImage → UnitHead
+head_in u = record { heading = u.heading; extents = length u.extents; cells = length u.cells; entries = length u.entries; code = length u.code }
 
 unfoldable pub count_line : List ℕ → List ℕ → Option (ℕ × List ℕ)
 count_line keyword bytes = do

@@ -145,6 +145,13 @@ pub record IsImage (i : Image) : Type 0 where
   pub types : ListFits (ListFits FieldFits) i.types
   pub units : ListFits UnitFits i.units
 
+-- the names of variables are names
+abbrev pub AreNamed : List Cell → Type 0
+AreNamed cs = AllByRecursion (λ (c : Cell). IsName c.name) cs
+
+abbrev pub HasNames : Image → Type 0
+HasNames i = AllByRecursion (λ (u : UnitImage). AreNamed u.cells) i.units
+
 -- the bytes are the text of this image
 abbrev pub IsObjectText : List ℕ → Image → Type 0
 IsObjectText bytes i = IsImage i × (bytes ≡ object_text i)

@@ -1,17 +1,22 @@
 //! Writing an object.
 
 ghost use Rattle.std.specs.Prelude.{◌≡◌, ◌++◌, ℕ, List, length, IfOk, OnOk};
-ghost use Rattle.std.specs.List.{flat_map};
-ghost use Rattle.fm_object.specs.Texts.{IsImage, IsObjectText, cell_text, entry_text, extent_text, field_text, instr_text, number, object_text, signed, type_text, unit_line, unit_text, word};
+ghost use Rattle.std.specs.List.{All, flat_map};
+ghost use Rattle.fm_object.specs.Reading.{HeadFits, head_in};
+ghost use Rattle.fm_object.specs.Texts.{AreNamed, CellFits, EntryFits, FieldFits, HasNames, InstrFits, IsName, IsObjectText, IsShort, ListFits, UnitFits, cell_text, entry_text, extent_text, field_text, instr_text, number, object_text, signed, type_text, unit_line, unit_text, word};
 
 use crate::image::{Cell, FieldImage, Image, UnitImage};
 use fm_base::{NoMemory, Seq};
 use fm_code::{Entry, Instr};
 use std::alloc::Global;
 
+/// The most lines of a kind.
+const MOST_LINES: usize = 4_294_967_295;
+
 /// A number of 32 bits, and the byte behind it.
 fn push_number(alloc: Global, out: &mut Vec<u8>, value: u32, end: u8) -> Result<(), NoMemory>
-    ensures { OnOk result (out.new.items ≡ out.old.items ++ number value end) }
+    ensures written { OnOk result (out.new.items ≡ out.old.items ++ number value end) }
+    ensures short { IsShort value }
 {
     out.extend_from_slice(value.to_string(alloc)?.as_bytes())?;
     out.push(end)?;
@@ -29,8 +34,13 @@ fn push_signed(alloc: Global, out: &mut Vec<u8>, value: i64, end: u8) -> Result<
 
 /// A number of lines, and the byte behind it.
 fn push_length(alloc: Global, out: &mut Vec<u8>, length: usize, end: u8) -> Result<(), NoMemory>
-    ensures { OnOk result (out.new.items ≡ out.old.items ++ number length end) }
+    ensures written { OnOk result (out.new.items ≡ out.old.items ++ number length end) }
+    ensures few { OnOk result (IsShort length) }
 {
+    // More lines have no number of 32 bits: told as want of memory.
+    if length > MOST_LINES {
+        return Err(NoMemory);
+    }
     out.extend_from_slice(length.to_string(alloc)?.as_bytes())?;
     out.push(end)?;
     Ok(())
@@ -52,14 +62,19 @@ trait Texts {
     // The text of one.
     ghost text: { Self.Item → List ℕ };
 
+    // What holds of one that has been written: it is within its ranges, where names are names.
+    ghost Fits: { Self.Item → Type 0 };
+
     /// The text of one.
     fn push_one(alloc: Global, out: &mut Vec<u8>, item: &Self::Item) -> Result<(), NoMemory>
-        ensures { OnOk result (out.new.items ≡ out.old.items ++ text item.now) };
+        ensures written { OnOk result (out.new.items ≡ out.old.items ++ text item.now) }
+        ensures fits { OnOk result (Fits item.now) };
 }
 
 /// The texts of all, one behind the other.
 fn push_all<T: Texts>(alloc: Global, out: &mut Vec<u8>, items: &[T::Item]) -> Result<(), NoMemory>
-    ensures { OnOk result (out.new.items ≡ out.old.items ++ flat_map T.text items.now) }
+    ensures written { OnOk result (out.new.items ≡ out.old.items ++ flat_map T.text items.now) }
+    ensures fits { OnOk result (All T.Fits items.now) }
 {
     'items: for item in items {
         T::push_one(alloc, out, item)?;
@@ -74,6 +89,8 @@ impl Texts for Fields {
     type Item = FieldImage;
 
     ghost text = { field_text };
+
+    ghost Fits = { FieldFits };
 
     fn push_one(alloc: Global, out: &mut Vec<u8>, item: &FieldImage) -> Result<(), NoMemory> {
         push_text(out, b"field ")?;
@@ -92,6 +109,8 @@ impl Texts for Extents {
 
     ghost text = { extent_text };
 
+    ghost Fits = { IsShort };
+
     fn push_one(alloc: Global, out: &mut Vec<u8>, item: &u32) -> Result<(), NoMemory> {
         push_text(out, b"extent ")?;
         push_number(alloc, out, *item, b'\n')
@@ -109,8 +128,9 @@ fn push_word(out: &mut Vec<u8>, text: &[u8], end: u8) -> Result<(), NoMemory>
 
 /// The last numbers of a cell.
 fn push_rest(alloc: Global, out: &mut Vec<u8>, item: &Cell) -> Result<(), NoMemory>
-    ensures { OnOk result (out.new.items ≡ out.old.items
+    ensures written { OnOk result (out.new.items ≡ out.old.items
         ++ (number item.now.words 32 ++ (number item.now.formal 32 ++ number item.now.back 10))) }
+    ensures fits { OnOk result (IsShort item.now.words × IsShort item.now.formal × IsShort item.now.back) }
 {
     push_number(alloc, out, item.words, b' ')?;
     push_number(alloc, out, item.formal, b' ')?;
@@ -124,6 +144,8 @@ impl Texts for Cells {
     type Item = Cell;
 
     ghost text = { cell_text };
+
+    ghost Fits = { λ c. IsName c.name → CellFits c };
 
     fn push_one(alloc: Global, out: &mut Vec<u8>, item: &Cell) -> Result<(), NoMemory> {
         push_text(out, b"cell ")?;
@@ -143,6 +165,8 @@ impl Texts for Entries {
 
     ghost text = { entry_text };
 
+    ghost Fits = { EntryFits };
+
     fn push_one(alloc: Global, out: &mut Vec<u8>, item: &Entry) -> Result<(), NoMemory> {
         push_text(out, b"entry ")?;
         push_number(alloc, out, item.line.0, b' ')?;
@@ -157,6 +181,8 @@ impl Texts for Instrs {
     type Item = Instr;
 
     ghost text = { instr_text };
+
+    ghost Fits = { InstrFits };
 
     fn push_one(alloc: Global, out: &mut Vec<u8>, item: &Instr) -> Result<(), NoMemory> {
         let (op, first, second) = item.parts();
@@ -175,6 +201,8 @@ impl Texts for Types {
 
     ghost text = { type_text };
 
+    ghost Fits = { ListFits FieldFits };
+
     fn push_one(alloc: Global, out: &mut Vec<u8>, item: &Seq<FieldImage>) -> Result<(), NoMemory> {
         push_text(out, b"type ")?;
         push_length(alloc, out, item.len(), b'\n')?;
@@ -184,7 +212,8 @@ impl Texts for Types {
 
 /// The line of a unit.
 fn push_unit_line(alloc: Global, out: &mut Vec<u8>, item: &UnitImage) -> Result<(), NoMemory>
-    ensures { OnOk result (out.new.items ≡ out.old.items ++ unit_line item.now) }
+    ensures written { OnOk result (out.new.items ≡ out.old.items ++ unit_line item.now) }
+    ensures fits { OnOk result (HeadFits (head_in item.now)) }
 {
     push_text(out, b"unit ")?;
     push_number(alloc, out, item.heading, b' ')?;
@@ -202,6 +231,8 @@ impl Texts for Units {
 
     ghost text = { unit_text };
 
+    ghost Fits = { λ u. AreNamed u.cells → UnitFits u };
+
     fn push_one(alloc: Global, out: &mut Vec<u8>, item: &UnitImage) -> Result<(), NoMemory> {
         push_unit_line(alloc, out, item)?;
         push_all::<Extents>(alloc, out, item.extents.as_slice())?;
@@ -215,12 +246,12 @@ impl Texts for Units {
 /// image.
 ///
 /// # Errors
-/// `NoMemory` is want of memory.
+/// `NoMemory` is want of memory, or a list of 4,294,967,296 items or more.
 pub fn write(alloc: Global, image: &Image) -> Result<Vec<u8>, NoMemory>
     // It is the text of the image.
     ensures text { IfOk result (λ v. v.items ≡ object_text image.now) }
-    // Where the image is within the ranges, that is what `read` asks for.
-    ensures readable { IsImage image.now → IfOk result (λ v. IsObjectText v.items image.now) }
+    // Where names are names, the image is within its ranges, which is what `read` asks for.
+    ensures readable { IfOk result (λ v. HasNames image.now → IsObjectText v.items image.now) }
 {
     let mut out = Vec::new(alloc);
     push_text(&mut out, b"fmc object 1\ntypes ")?;
