@@ -20,9 +20,11 @@ status is 1 where there is a finding.
 import glob
 import os
 import re
+import signal
 import subprocess
 import sys
 import tempfile
+import time
 
 TOP = os.path.dirname(os.path.dirname(os.path.abspath(__file__)))
 sys.path.insert(0, os.path.join(TOP, "extras"))
@@ -33,7 +35,7 @@ from player.texts import Failed, Program, Trace, answer
 
 PLAIN_STATES = 2_000
 RUNS = [("--workers", "1"), ("--workers", "1", "--slice", "1"), ("--workers", "1", "--slice", "7"), ()]
-TURNS, TRIES, STATES, STEPS = "20000", 20, 300, 40_000
+TURNS, TRIES, STATES, STEPS, BREAK = "20000", 20, 300, 40_000, 3
 QUIET = Progress("bench")
 LOOK = os.path.join(TOP, "extras/look")
 
@@ -185,6 +187,12 @@ def try_end(tries, name, end, source):
     tries.note("ends", status in (0, 1, 2) and report == end.report, f"{name}: an end is told otherwise by replay")
 
 
+def explored(program, tries):
+    found = ends.Tries(program, 1)
+    found.explore(tries, QUIET)
+    return found.found()
+
+
 def searched(program, has_rule=True, states=STATES):
     search = ends.Search(program, states, STEPS, has_rule)
     search.search(QUIET)
@@ -194,7 +202,7 @@ def searched(program, has_rule=True, states=STATES):
 def try_ends(tries, name, source, program):
     """Schedules at random come to no end that the search doesn't find."""
     ends.TRY_STEPS = STEPS
-    found, _ = ends.explore(program, TRIES, 1, QUIET)
+    found = explored(program, TRIES)
     search = searched(program)
     for end in [*found, *search.found()]:
         try_end(tries, name, end, source)
@@ -206,7 +214,7 @@ def try_ends(tries, name, source, program):
 def try_wanted(tries, name, source, wanted):
     """A program has so many ends, by both ways to find them."""
     program = Program(source)
-    found, _ = ends.explore(program, 200, 1, QUIET)
+    found = explored(program, 200)
     all_ends = searched(program).ends
     tries.note("wanted ends", len(found) == wanted, f"{name}: --explore finds {len(found)} ends and not {wanted}")
     tries.note("wanted ends", len(all_ends) == wanted, f"{name}: --all finds {len(all_ends)} ends and not {wanted}")
@@ -257,6 +265,19 @@ def try_calls(tries, source):
             tries.note("calls", is_well, f"look {words}: {status} {told} {errors}")
 
 
+def try_break(tries, words, wanted, source):
+    """A call that goes on for long, and is broken off."""
+    with tempfile.TemporaryDirectory() as folder:
+        with open(os.path.join(folder, "my.f"), "wb") as file:
+            file.write(source)
+        call = subprocess.Popen([LOOK, *words, "my.f"], cwd=folder, stdout=subprocess.PIPE, stderr=subprocess.PIPE)
+        time.sleep(BREAK)
+        call.send_signal(signal.SIGINT)
+        told, errors = call.communicate()
+    is_well = call.returncode == 130 and wanted in told and b"look: broken off behind " in errors
+    tries.note("calls", is_well, f"look {words}, broken off: {call.returncode} {told} {errors}")
+
+
 def race_of_language():
     with open(os.path.join(TOP, "docs/LANGUAGE.md"), encoding="utf-8") as file:
         return re.search(r"```fortran\n( +PROGRAM RACE\n.*?)```", file.read(), re.S).group(1).encode()
@@ -288,6 +309,8 @@ def main():
             is_whole = try_plain(tries, name, Program(text.lstrip("\n").encode()), 20_000)
             tries.note("small programs", is_whole, f"{name}: too many states")
     try_calls(tries, read(os.path.join(examples, "deadlock.f")))
+    try_break(tries, ["--explore", "1000000"], b"schedules at random", read(os.path.join(examples, "merger.f")))
+    try_break(tries, ["--all"], b"cut off, since it was broken off", read(os.path.join(examples, "gallery/workers.f")))
     print(", ".join(f"{count} {what}" for what, count in tries.counts.items()) + f"; {tries.wrong} wrong")
     sys.exit(1 if tries.wrong else 0)
 
