@@ -279,7 +279,7 @@ def announce(rt, why, progress, room):
     if os.path.exists(f"{OUT}/{PROGRAM}"):
         say(f"{why}: building it; of its {of}, those that changed are proved, and those above them, {lanes} at once")
         return
-    say(f"{why}: the first build proves {of}, {lanes} at once, in {time_of(progress.ahead())}")
+    say(f"{why}: the first build proves {of}, {lanes} at once, in {time_of(progress.ahead())} on a fast machine")
     say(f"if it is cut off, {later(rt)}")
     advise(lanes, room)
 
