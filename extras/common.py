@@ -9,7 +9,7 @@ RULES = os.path.join(TOP, "docs/RULES.md")
 
 def fmc():
     """The program that decides: that of the variable FMC, or else the script of this repository."""
-    return os.environ.get("FMC", os.path.join(TOP, "fmc"))
+    return os.environ.get("FMC") or os.path.join(TOP, "fmc")
 
 
 def call(words, text, timeout=None):

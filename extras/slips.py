@@ -56,11 +56,14 @@ def behind_columns(source):
 
 def commented(source):
     """Statements with a C in column 1: CONTINUE, CHANNEL, and CALL with a list or of a unit of the source."""
-    names = {unit.name for unit in units(statements(source))}
+    names = None
     for number, row in enumerate(rows_of(source), 1):
         text = row[:72].rstrip()
         found = COMMENTED.match(text)
-        if found and (not found.group(2) or found.group(3) or found.group(2).upper() in names):
+        if found and found.group(2) and not found.group(3):
+            names = names or {unit.name for unit in units(statements(source))}
+            found = found.group(2).upper() in names
+        if found:
             yield Finding("comment", number, 0, len(text), f"a C in column 1 makes a comment: {text}")
 
 
@@ -351,6 +354,8 @@ def faulty(unit, guarded, guard):
 
 def conditions(words):
     """Each two operands of one .AND. or .OR. of a condition, in both orders, and which of the two it is."""
+    if ".AND." not in words and ".OR." not in words:
+        return
     for at, word in enumerate(words):
         if word == "(":
             yield from conditions(words[at + 1 : closing(words, at) - 1])

@@ -6,6 +6,8 @@ lawful gets the class "" or a part that is empty.
 import re
 
 TOKEN = re.compile(r"'(?:[^']|'')*'?|\.[A-Z]+\.|[A-Z][A-Z0-9_]*|\d+|\*\*|.", re.S)
+SIGN = re.compile(r"'(?:[^']|'')*'?|[()=,]", re.S)
+CAPITALS = {32: None, **{small: small - 32 for small in range(97, 123)}}
 ALONE = ("END", "ENDIF", "ENDDO", "ENDPROCESSES", "ENDPROCESSDO", "ELSE", "CONTINUE", "RETURN", "STOP", "PROCESSES",
          "IMPLICITNONE")
 FRONTS = ("ELSEIF(", "DOWHILE(", "GOTO", "ENDCHANNEL(", "CHANNEL(", "MERGER(", "SEND(", "RECEIVE(", "MOVEPORT(",
@@ -48,14 +50,20 @@ def is_continuation(row):
     return not is_comment(row) and row[5:6] not in ("", " ", "0")
 
 
-def squeezed(text, places):
+def squeezed(text):
     """A text without the blanks outside its character constants and with capitals there, and its characters' places."""
-    kept, where, is_open = [], [], False
-    for sign, place in zip(text, places):
-        is_open ^= sign == "'"
-        if is_open or sign != " ":
-            kept.append(sign if is_open or not "a" <= sign <= "z" else sign.upper())
-            where.append(place)
+    kept, where, begin = [], [], 0
+    for number, piece in enumerate(text.split("'")):
+        if number:
+            kept.append("'")
+            where.append(begin - 1)
+        if number % 2:
+            kept.append(piece)
+            where.extend(range(begin, begin + len(piece)))
+        else:
+            kept.append(piece.translate(CAPITALS))
+            where.extend(begin + at for at, sign in enumerate(piece) if sign != " ")
+        begin += len(piece) + 1
     return "".join(kept), where
 
 
@@ -121,17 +129,16 @@ class Part:
     @staticmethod
     def class_of(text, first):
         """The class of a text, "" of none, and where its words begin."""
-        words = tokens(text, first)
         rest = text[first:]
-        if rest.startswith("IF("):
-            end = closing(words, 1)
-            if end < len(words) and words[end] != "=":
-                return "IF", first + 2
-        level, top = 0, []
-        for word in words:
-            level += (word == "(") - (word == ")")
+        level, top, is_if = 0, set(), rest.startswith("IF(")
+        for it in SIGN.finditer(rest):
+            sign = it.group()
+            level += (sign == "(") - (sign == ")")
             if level == 0:
-                top.append(word)
+                if is_if and sign == ")" and rest[it.end() : it.end() + 1] not in ("", "="):
+                    return "IF", first + 2
+                is_if = False
+                top.add(sign)
         if "=" in top:
             if "," not in top:
                 return "ASSIGNMENT", first
@@ -156,7 +163,7 @@ class Statement(Part):
         self.label = rows[0][1][:5].replace(" ", "")
         spread = "".join(row[6:72].ljust(66) for _, row in rows)
         self.spread = spread.rstrip(" ")
-        self.text, where = squeezed(spread, range(len(spread)))
+        self.text, where = squeezed(spread)
         self.places = [(rows[at // 66][0], at % 66 + 6) for at in where]
         self.offsets = where
         super().__init__(self.text, 0)
