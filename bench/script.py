@@ -3,6 +3,7 @@
 
     bench/script.py [BINARY]
     bench/script.py --real
+    bench/script.py --first [FOLDER]
 
 Puts the script into a tree of 70 small crates, in a folder whose name has a blank, with an `rt` that only acts as if
 it proved. Tries builds: the first one, two at once, one that goes on, fails, is killed or is stopped by a signal or a
@@ -12,11 +13,17 @@ beside the program. It needs no toolchain.
 
 With --real it builds, by the toolchain, a small program over the two lowest crates: for the first time, again after
 a change, and again after nothing is left but what the toolchain keeps.
+
+With --first it runs the first build in FOLDER, by default in this clone, which wants a toolchain that has kept
+nothing. It prints the minutes, the processor minutes, the most memory of all processes together, once a second, and
+that of the largest check.
 """
+import collections
 import glob
 import os
 import pty
 import re
+import resource
 import select
 import shutil
 import signal
@@ -24,6 +31,8 @@ import subprocess
 import sys
 import tempfile
 import time
+
+import gate
 
 TOP = os.path.dirname(os.path.dirname(os.path.abspath(__file__)))
 COUNT = 70
@@ -103,8 +112,8 @@ def plant(tree):
     """The tree, in a folder whose name has a blank, with a link to its script."""
     names = [f"fm_{number}" for number in range(COUNT)] + ["fmc_cli"]
     below = {"fmc_cli": ": fm_2 fm_1 serde # others", "fm_2": " may_wait=5: fm_1 fm_0", "fm_1": ": fm_0"}
-    # the lowest crate stands last
-    write(f"{tree}/a b/crates.txt", "# crates: all\n\n" + "".join(f"{it}{below.get(it, ':')}\n" for it in reversed(names)))
+    lowest_last = "".join(f"{it}{below.get(it, ':')}\n" for it in reversed(names))
+    write(f"{tree}/a b/crates.txt", f"# crates: all\n\n{lowest_last}")
     for name in names:
         for file in [f"src/{number}.rt" for number in range(6)] + [f"specs/{number}.antt" for number in range(6)]:
             write(f"{tree}/a b/crates/{name}/{file}")
@@ -507,7 +516,37 @@ def real():
         return good
 
 
+def sizes(root):
+    """The bytes of memory that the processes below one take: of all, and of each crate's check."""
+    checks, every = collections.Counter(), 0
+    for number in gate.below(root, {it: parent for it, parent, *_ in gate.processes()}):
+        words = gate.read(f"/proc/{number}/statm").split()
+        size = int(words[1]) * os.sysconf("SC_PAGE_SIZE") if words else 0
+        what = gate.what_is(number)
+        every += size
+        checks.update({what[0]: size} if what else {})
+    return every, checks
+
+
+def first_build(folder):
+    """Runs the first build in a folder, prints what it takes, and gives its status."""
+    began, most, largest = time.monotonic(), 0, collections.Counter()
+    ran = subprocess.Popen([f"{folder}/fmc", "make", "1"], stdin=subprocess.DEVNULL, stdout=subprocess.DEVNULL)
+    while ran.poll() is None:
+        every, checks = sizes(ran.pid)
+        most = max(most, every)
+        # the greater of both for each crate
+        largest |= checks
+        time.sleep(1)
+    minutes, used = (time.monotonic() - began) / 60, resource.getrusage(resource.RUSAGE_CHILDREN)
+    print(f"{minutes:.1f} minutes, {(used.ru_utime + used.ru_stime) / 60:.1f} processor minutes")
+    print(f"{most / 1e9:.2f} GB together;", *(f"{it} {size / 1e9:.2f}" for it, size in largest.most_common(8)))
+    return ran.returncode
+
+
 def main():
+    if sys.argv[1:2] == ["--first"]:
+        sys.exit(first_build(os.path.abspath(sys.argv[2] if len(sys.argv) > 2 else TOP)))
     if sys.argv[1:] == ["--real"]:
         sys.exit(not real())
     built = f"{TOP}/crates/fmc_cli/out/fmc_cli"
