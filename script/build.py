@@ -30,8 +30,8 @@ from progress import Progress, Screen, say, table_of_seconds, time_of  # noqa: E
 PROGRAM = "fmc_cli"
 OUT = f"{TOP}/crates/{PROGRAM}/out"
 LOG = f"{OUT}/build.log"
-# The memory of the largest check, and of all checks at once (COSTS.md, "The first build").
-CHECK, CHECKS = 1_900_000_000, 6_000_000_000
+# The memory of a large check, and of all checks at once (COSTS.md, "The first build").
+CHECK, CHECKS = 2_000_000_000, 6_000_000_000
 # The free disk that rt wants to work, and to keep what is proved.
 WORKS, KEEPS = 3_000_000_000, 5_000_000_000
 # How much of the log of a crate that failed is shown.
