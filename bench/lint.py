@@ -138,6 +138,14 @@ SLIPS = [
      + "      PROCESS LOOK(N)\n      PRINT *, N\n      END\n" + READER, ["open 7"]),
     ("a parent that closes it", TWO % (MADE + "\n      SEND(OUT) 1\n      ENDCHANNEL(OUT)", "LOOK(1)")
      + "      PROCESS LOOK(N)\n      PRINT *, N\n      END\n" + READER, []),
+    ("a port given twice", SENDS.replace("PROCESSCALL READER", "PROCESSCALL SENDER(OUT)\n        PROCESSCALL READER")
+     + SENDER.replace("SEND(Q) 1", "ENDCHANNEL(Q)") + READER, ["given 8"]),
+    ("a port given in a PROCESSDO", SENDS.replace("PROCESSCALL SENDER(OUT)", "PROCESSDO I = 1, 2\n        "
+     "PROCESSCALL SENDER(OUT)\n        ENDPROCESSDO") + SENDER.replace("SEND(Q) 1", "ENDCHANNEL(Q)") + READER,
+     ["given 8"]),
+    ("a port given in two blocks", main_of("CHANNEL(IN=IP, OUT=IQ)\nDO I = 1, 2\nPROCESSES\nPROCESSCALL SENDER(IQ)\n"
+     "ENDPROCESSES\nENDDO\nPROCESSES\nPROCESSCALL SENDER(IQ)\nENDPROCESSES",
+                                           "INPORT (INTEGER) IP\nOUTPORT (INTEGER) IQ") + SENDER, []),
     ("two that change", main_of("PROCESSES\nPROCESSCALL A(N)\nPROCESSCALL A(N)\nENDPROCESSES\nPRINT *, N")
      + "      PROCESS A(N)\n      N = N + 1\n      END\n", ["undone 3"]),
     ("two that read", main_of("N = 1\nPROCESSES\nPROCESSCALL A(N)\nPROCESSCALL A(N)\nENDPROCESSES")

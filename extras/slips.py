@@ -9,7 +9,7 @@ import re
 from source import INTRINSICS, closing, in_parentheses, is_comment, is_name, parted, rows_of, statements, units
 
 KINDS = ("columns", "comment", "words", "sign", "unset", "unread", "unused", "uncalled", "unreached", "quotient",
-         "loop", "both", "open", "undone")
+         "loop", "both", "open", "given", "undone")
 CLOSERS = ("END", "ELSE", "ELSEIF", "ENDIF", "ENDDO", "ENDPROCESSES", "ENDPROCESSDO")
 DECLARING = re.compile(r"(INTEGER|LOGICAL|REAL|DOUBLE *PRECISION|COMPLEX|CHARACTER|PARAMETER|DIMENSION|DATA|COMMON|SAVE"
                        r"|INPORT|OUTPORT)(\*\d+)? +[A-Z]", re.I)
@@ -444,6 +444,25 @@ def open_ports(program):
                                        f"ENDCHANNEL({outport}) before this")
 
 
+def given(program):
+    """A port that a process block gives twice: the second process gets NULL."""
+    for unit in program.units:
+        for _, calls in blocks(unit):
+            before = {}
+            for one, is_many in calls:
+                for part in parted(in_parentheses(one.words, 1)[0]):
+                    if not is_place(part) or part[0] not in unit.ports:
+                        continue
+                    port, process = "".join(part), str(one.words[0])
+                    if port in before:
+                        yield at_word("given", one, part[0], f"{port} is given to {before[port]} before: "
+                                      f"{process} gets NULL")
+                    elif is_many and len(part) == 1:
+                        yield at_word("given", one, part[0], f"the first {process} of the PROCESSDO gets {port}: "
+                                      "the others get NULL")
+                    before[port] = process
+
+
 def undone(program):
     """A variable that comes back from several processes of a block, one of which changes it."""
     for unit in program.units:
@@ -473,7 +492,7 @@ def find(source, is_lawful=True):
     if is_lawful:
         program = Program(source)
         for look in (two_words, signs, never, uncalled, unreached, quotients, loop_variables, both_sides, open_ports,
-                     undone):
+                     given, undone):
             found += look(program)
     joined = {(it.line, it.begin) for it in found if it.kind == "words"}
     unique = {str(it): it for it in found if it.kind != "unread" or (it.line, it.begin) not in joined}
