@@ -265,8 +265,9 @@ def failures(it):
     it.ends("processors", start(it.tree, jobs="0"), ["FMC_JOBS is", "'0'"], 125)
     write(f"{it.tree}/broken", "fm_1")
     it.made += 1
-    told = ["fm_1 isn't proved", "    goal 19\n    rt: fm_1 NOT PROVED", "rt check in crates/fm_1", "build.log"]
-    told += ["this toolchain is another kit", f"the program of before is {program}"]
+    told = ["fm_1 isn't proved", "    goal 19\n    rt: fm_1 NOT PROVED", "rt ci fm_1 proves it alone", "build.log\n"]
+    told += ["this toolchain is another kit", "1 of 4 crates are proved: the next call goes on from there"]
+    told += [f"the program of before is {program}"]
     it.ends("a crate that isn't proved", start(it.tree), told, 125)
     it.judge("only last lines", "goal 5\n" not in start(it.tree).communicate("")[1])
     it.made += 1

@@ -238,19 +238,21 @@ def versions(rt):
         say(f"this toolchain is {here}, and these sources are proved with {told[1]}")
 
 
-def explain(failed, block, status, rt, lanes):
+def explain(failed, block, status, rt, progress):
     """Says what failed, with the last lines of it, and what helps."""
     what = f"{failed} isn't proved" if failed else "rt didn't build the program"
     say(f"{what}; the last lines of its log:")
     for line in block[-LINES:]:
         print(f"    {line.rstrip()}", file=sys.stderr)
+    lanes = progress.lanes
     if status == -signal.SIGKILL or any("most likely for memory" in it for it in block):
-        say(f"killed, most likely for memory: {gigabytes(lanes * CHECK)} free are wanted for {lanes} at once, and with")
-        say(f"FMC_JOBS=1, one after the other, {gigabytes(CHECK)}")
+        less = f" for {lanes} at once; FMC_JOBS=1 wants {gigabytes(CHECK)}" if lanes > 1 else ""
+        say(f"killed, most likely for memory: {gigabytes(lanes * CHECK)} free are wanted{less}")
     elif failed:
-        say(f"rt check in crates/{failed} shows what isn't proved")
+        say(f"rt ci {failed} proves it alone, over what is kept")
     versions(rt)
-    say(f"the whole log is {LOG}; {later(rt)}")
+    say(f"the whole log is {LOG}")
+    say(f"{progress.count()} crates are proved: {later(rt)}")
 
 
 def put(room):
@@ -294,7 +296,7 @@ def build(rt, why):
         copy(below, lines, room)
         failed, block, status = run(rt, room, screen)
         if failed or status or not os.path.isfile(f"{room}/crates/{PROGRAM}/out/{PROGRAM}"):
-            explain(failed, block, status, rt, progress.lanes)
+            explain(failed, block, status, rt, progress)
             return False
         put(room)
     except Stopped:
