@@ -4,8 +4,8 @@
     bench/definitions.py [FOLDER]
 
 Of FOLDER, by default of this repository: each file of definitions, crates/*/specs/*.antt, stands in docs/DEFINITIONS.md
-as CRATE/specs/FILE, FILE, .., and no other does; what a row of a table there says that a file defines stands in it;
-each boundary of docs/ARCHITECTURE.md, a row `A, B to C, D`, is in crates.txt; each call in a row of docs/PROMISES.md is
+as CRATE/specs/FILE, FILE, .., and no other does; what a row of a table there says that a file defines stands in it, and
+each call that a row of the pages names as `CALL` of CRATE is a function, a type or a trait there; each boundary of docs/ARCHITECTURE.md, a row `A, B to C, D`, is in crates.txt; each call in a row of docs/PROMISES.md is
 a function there, and each clause in it is one of the row's calls, or a word of a file of definitions, and so of the
 section of docs/DEFINITIONS.md on what each call promises; there stands each call that a crate lets others make, is lent
 something for writing, and may answer want of memory; and each crate that a page names is one.
@@ -23,6 +23,8 @@ NAME = re.compile(r"\bfm(?:c(?:_[a-z]+)?|_[a-z_]*[a-z])\b")
 WORD = re.compile(r"`([^`]+)`")
 CALL = re.compile(r"^ *(?:pub(?:\(crate\))? )?fn (\w+)|^ *ensures (\w+) \{", re.M)
 SMALL = re.compile(r"[a-z]\w*$")
+PLACES = re.compile(r"((?:`[\w:]+`,? )+)of (fm_[a-z_]*[a-z]|fmc)\b")
+DECLARED = re.compile(r"^ *(?:pub(?:\(crate\))? )?(?:fn|struct|enum|trait|type) (\w+)", re.M)
 SECTION = re.compile(r"^## What each call promises.*?(?=^## )", re.M | re.S)
 USED = re.compile(r"^pub use (?:\w+::)*(?:\{([^}]*)\}|(\w+));", re.M)
 OWNER = re.compile(r"^(pub trait|impl(?:<.*?>+)?) ([\w<>:, ]+ for )?(\w+)")
@@ -90,6 +92,17 @@ def wrong_crates(folder, below):
             yield f"{os.path.basename(path)} names the crate {name}, which isn't there"
 
 
+def wrong_places(folder, below, pages):
+    """What rows of the pages name as that of a crate, and that isn't there."""
+    there = {it: set(DECLARED.findall("".join(map(read, glob.glob(f"{folder}/crates/{it}/src/*.rt"))))) for it in below}
+    for name in pages:
+        for cells in rows(read(f"{folder}/docs/{name}")):
+            for words, crate in PLACES.findall(" | ".join(cells)):
+                for word in WORD.findall(words):
+                    if word.split("::")[-1] not in there.get(crate, set()):
+                        yield f"{name}: {crate} has no {word}"
+
+
 def clauses(folder):
     """Of each function of the crates the names of its clauses, those of functions of one name together."""
     found, last = {}, set()
@@ -148,7 +161,7 @@ def main():
     page = read(f"{folder}/docs/DEFINITIONS.md")
     section = "".join(SECTION.findall(page))
     wrong = [*wrong_files(folder, SECTION.sub("", page)), *wrong_promises(folder, section), *unpromised(folder, below, section),
-             *wrong_boundaries(below, read(f"{folder}/docs/ARCHITECTURE.md")), *wrong_crates(folder, below),
+             *wrong_places(folder, below, ["ARCHITECTURE.md", "DEFINITIONS.md", "HACKING.md"]), *wrong_boundaries(below, read(f"{folder}/docs/ARCHITECTURE.md")), *wrong_crates(folder, below),
              *wrong_promises(folder, read(f"{folder}/docs/PROMISES.md"))]
     print("\n".join(wrong) or "the pages name what stands in the crates")
     sys.exit(1 if wrong else 0)
