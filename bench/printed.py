@@ -21,7 +21,7 @@ import sys
 
 TOP = os.path.dirname(os.path.dirname(os.path.abspath(__file__)))
 PART = re.compile(r"(^<!-- printed by bench/printed\.py: (\w+) -->\n).*?(^<!-- end of \2 -->$)", re.M | re.S)
-SENTENCE = re.compile(r"^.*?[.:](?= [A-Z`(0-9]|$)")
+SENTENCE = re.compile(r"^.*?\.(?= [A-Z`(0-9]|$)")
 SECTION = re.compile(r"# ([^:]+): (.*)")
 
 
@@ -34,13 +34,13 @@ def rooms(folder):
     """Each section of crates.txt: its name, what it says of it, and its crates with those that they stand on."""
     found = []
     for line in read(f"{folder}/crates.txt").split("\n"):
-        if SECTION.fullmatch(line) and "below" not in line:
+        if SECTION.fullmatch(line):
             found.append((*SECTION.fullmatch(line).groups(), []))
         elif ":" in line and not line.startswith("#"):
             name, _, below = line.partition(":")
             found = found or [("", "", [])]
             found[-1][2].append((name.split()[0], below.split()))
-    return found
+    return [it for it in found if it[2]]
 
 
 def comment_of(text, sign):
