@@ -9,6 +9,7 @@ lines `<!-- printed by bench/printed.py: NAME -->` and `<!-- end of NAME -->`. T
     rooms        the sections of crates.txt, and of each crate the first sentence of its src/lib.rt or src/main.rt
     definitions  by rooms each file crates/*/specs/*.antt with the first sentence of its comment, and what stands behind
                  `Source:` in it, but for "this profile" alone
+    laws         the laws of each crate: its public functions without arguments and answer
     scripts      each script of bench/ with the first sentence of its comment
 
 --check, the default, says which lists differ from what is printed, and which crate of crates.txt stands above one that
@@ -22,6 +23,7 @@ import sys
 TOP = os.path.dirname(os.path.dirname(os.path.abspath(__file__)))
 PART = re.compile(r"(^<!-- printed by bench/printed\.py: (\w+) -->\n).*?(^<!-- end of \2 -->$)", re.M | re.S)
 SENTENCE = re.compile(r"^.*?\.(?= [A-Z`(0-9]|$)")
+LAW = re.compile(r"^pub fn (\w+)(?:<.*>)?\(\)$", re.M)
 SECTION = re.compile(r"# ([^:]+): (.*)")
 
 
@@ -89,6 +91,15 @@ def all_definitions(folder):
             yield f"### {name}\n\n| File | What it says | Source |\n|---|---|---|\n" + "\n".join(lines) + "\n"
 
 
+def all_laws(folder):
+    """The laws of each crate that has some."""
+    yield "| Crate | Laws |\n|---|---|"
+    for crate in [it for _, _, crates in rooms(folder) for it, _ in crates]:
+        names = [it for path in sorted(glob.glob(f"{folder}/crates/{crate}/src/*.rt")) for it in LAW.findall(read(path))]
+        if names:
+            yield f"| `{crate}` | {', '.join(f'`{it}`' for it in names)} |"
+
+
 def all_scripts(folder):
     """The scripts of bench/."""
     yield "| Script | What it prints or tries |\n|---|---|"
@@ -97,7 +108,7 @@ def all_scripts(folder):
         yield f"| `{os.path.basename(path)}` | {first_sentence(lines)} |"
 
 
-PARTS = {"rooms": all_rooms, "definitions": all_definitions, "scripts": all_scripts}
+PARTS = {"rooms": all_rooms, "definitions": all_definitions, "laws": all_laws, "scripts": all_scripts}
 
 
 def with_parts(folder, page):
