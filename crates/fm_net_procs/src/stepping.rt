@@ -159,11 +159,9 @@ impl<E: Drop, L: Drop, W: Drop, P: JoiningProc<Event = E, Look = L, Work = W>> P
         let block = self.entries.next_block(actor.number);
         let Done { children, cost } = self.perform_one(alloc, program, actor, event)?;
         let started = children.len();
-        if started != 0 {
-            let work = &mut self.work;
-            self.entries
-                .start_all(alloc, program, work, actor, block, children)?;
-        }
+        let work = &mut self.work;
+        self.entries
+            .start_all(alloc, program, work, actor, block, children)?;
         Ok(Stepped {
             block,
             started,
