@@ -65,9 +65,6 @@ fn kept(alloc: Global, children: Vec<Box<Process>>) -> Result<Vec<CodeProcess>, 
     ensures { IfOk result (λ v. map code_of v.items ≡ map boxed_of children.items) }
 {
     let mut all = Vec::new(alloc);
-    if children.is_empty() {
-        return Ok(all);
-    }
     'children: for held in children {
         all.push(CodeProcess { held })?;
     }

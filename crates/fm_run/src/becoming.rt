@@ -150,9 +150,7 @@ pub(crate) fn candidates<N: Net>(
     let parent = parent_to_ask(net, parents, ended, number)?;
     push_some(&mut numbers, parent)?;
     push_new(&mut numbers, before, net.count())?;
-    if numbers.len() > 1 {
-        numbers.sort()?;
-    }
+    numbers.sort()?;
     Ok(numbers)
 }
 
