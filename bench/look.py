@@ -35,7 +35,7 @@ from player.texts import Failed, Program, Trace, answer
 
 PLAIN_STATES = 2_000
 RUNS = [("--workers", "1"), ("--workers", "1", "--slice", "1"), ("--workers", "1", "--slice", "7"), ()]
-TURNS, TRIES, STATES, STEPS, BREAK = "20000", 20, 300, 40_000, 3
+TURNS, TRIES, STATES, STEPS, BREAK = "20000", 20, 300, 40_000, 1
 QUIET = Progress("bench")
 LOOK = os.path.join(TOP, "extras/look")
 
@@ -265,13 +265,21 @@ def try_calls(tries, source):
             tries.note("calls", is_well, f"look {words}: {status} {told} {errors}")
 
 
+def seconds_of(pid):
+    """The processor time of a process."""
+    with open(f"/proc/{pid}/stat", encoding="latin-1") as file:
+        user, system = file.read().rsplit(")", 1)[1].split()[11:13]
+    return (int(user) + int(system)) / os.sysconf("SC_CLK_TCK")
+
+
 def try_break(tries, words, wanted, source):
     """A call that goes on for long, and is broken off."""
     with tempfile.TemporaryDirectory() as folder:
         with open(os.path.join(folder, "my.f"), "wb") as file:
             file.write(source)
         call = subprocess.Popen([LOOK, *words, "my.f"], cwd=folder, stdout=subprocess.PIPE, stderr=subprocess.PIPE)
-        time.sleep(BREAK)
+        while call.poll() is None and seconds_of(call.pid) < BREAK:
+            time.sleep(0.1)
         call.send_signal(signal.SIGINT)
         told, errors = call.communicate()
     is_well = call.returncode == 130 and wanted in told and b"look: broken off behind " in errors
