@@ -3,12 +3,17 @@
 
     bench/definitions.py [FOLDER]
 
-Of FOLDER, by default of this repository: each file of definitions, crates/*/specs/*.antt, stands in docs/DEFINITIONS.md
-as CRATE/specs/FILE, FILE, .., and no other does; what a row of a table there says that a file defines stands in it, and
-each call that a row of the pages names as `CALL` of CRATE is a function, a type or a trait there; each boundary of docs/ARCHITECTURE.md, a row `A, B to C, D`, is in crates.txt; each call in a row of docs/PROMISES.md is
-a function there, and each clause in it is one of the row's calls, or a word of a file of definitions, and so of the
-section of docs/DEFINITIONS.md on what each call promises; there stands each call that a crate lets others make, is lent
-something for writing, and may answer want of memory; and each crate that a page names is one.
+Of FOLDER, by default of this repository:
+
+- Each file of definitions, crates/*/specs/*.antt, stands in docs/DEFINITIONS.md as CRATE/specs/FILE, FILE, .., and no
+  other does; what a row of a table there says that a file defines stands in it.
+- What a page names as `NAME` of CRATE is a function, a type or a trait there, or a word of its definitions.
+- Each call in a row of docs/PROMISES.md and docs/ARCHITECTURE.md is a function there, and each clause in it is one of
+  the row's calls, or a word of a file of definitions; so in the section of docs/DEFINITIONS.md on what each call
+  promises. There stands each call that a crate lets others make, is lent something for writing, and may answer want of
+  memory.
+- Each crate that a page names is one.
+
 Prints what is wrong, and has status 1 then.
 """
 import glob
@@ -23,7 +28,7 @@ NAME = re.compile(r"\bfm(?:c(?:_[a-z]+)?|_[a-z_]*[a-z])\b")
 WORD = re.compile(r"`([^`]+)`")
 CALL = re.compile(r"^ *(?:pub(?:\(crate\))? )?fn (\w+)|^ *ensures (\w+) \{", re.M)
 SMALL = re.compile(r"[a-z]\w*$")
-PLACES = re.compile(r"((?:`[\w:]+`,? )+)of (fm_[a-z_]*[a-z]|fmc)\b")
+PLACES = re.compile(r"((?:`[\w:]+`,? )+)of `?(fm_[a-z_]*[a-z]|fmc)\b")
 DECLARED = re.compile(r"^ *(?:pub(?:\(crate\))? )?(?:fn|struct|enum|trait|type) (\w+)", re.M)
 SECTION = re.compile(r"^## What each call promises.*?(?=^## )", re.M | re.S)
 USED = re.compile(r"^pub use (?:\w+::)*(?:\{([^}]*)\}|(\w+));", re.M)
@@ -51,7 +56,7 @@ def files_in(text):
 def rows(text):
     """The cells of each row of the tables, but for heads and rulers."""
     for line in text.split("\n"):
-        if line.startswith("| ") and not line.startswith(("| File", "| Name", "| Boundary")):
+        if line.startswith("| ") and not line.startswith(("| File", "| Name")):
             yield [it.strip() for it in line.strip("|").split(" | ")]
 
 
@@ -75,16 +80,6 @@ def wrong_files(folder, page):
                 yield f"DEFINITIONS says that {cells[column] or files} has {word}"
 
 
-def wrong_boundaries(below, page):
-    """The boundaries of the architecture that crates.txt doesn't have."""
-    for cells in rows(page):
-        lower, to, upper = cells[0].partition(" to ")
-        for above in NAME.findall(upper) if to else []:
-            for name in NAME.findall(lower):
-                if name not in below.get(above, []):
-                    yield f"ARCHITECTURE: {above} doesn't stand on {name}"
-
-
 def wrong_crates(folder, below):
     """The crates that pages name and that aren't there."""
     for path in sorted([f"{folder}/README.md", *glob.glob(f"{folder}/docs/*.md")]):
@@ -92,15 +87,17 @@ def wrong_crates(folder, below):
             yield f"{os.path.basename(path)} names the crate {name}, which isn't there"
 
 
-def wrong_places(folder, below, pages):
-    """What rows of the pages name as that of a crate, and that isn't there."""
-    there = {it: set(DECLARED.findall("".join(map(read, glob.glob(f"{folder}/crates/{it}/src/*.rt"))))) for it in below}
-    for name in pages:
-        for cells in rows(read(f"{folder}/docs/{name}")):
-            for words, crate in PLACES.findall(" | ".join(cells)):
-                for word in WORD.findall(words):
-                    if word.split("::")[-1] not in there.get(crate, set()):
-                        yield f"{name}: {crate} has no {word}"
+def wrong_places(folder, below):
+    """What pages name as that of a crate, and that isn't there."""
+    there = {}
+    for it in below:
+        there[it] = set(DECLARED.findall("".join(map(read, glob.glob(f"{folder}/crates/{it}/src/*.rt")))))
+        there[it].update(re.findall(r"\w+", "".join(map(read, glob.glob(f"{folder}/crates/{it}/specs/*.antt")))))
+    for path in sorted([f"{folder}/README.md", *glob.glob(f"{folder}/docs/*.md")]):
+        for words, crate in PLACES.findall(read(path)):
+            for word in WORD.findall(words):
+                if word.split("::")[-1] not in there.get(crate, set()):
+                    yield f"{os.path.basename(path)}: {crate} has no {word}"
 
 
 def clauses(folder):
@@ -115,19 +112,19 @@ def clauses(folder):
     return found
 
 
-def wrong_promises(folder, page):
-    """What the rows of the promises cite that isn't there: a call, or a clause of none of the row's calls."""
+def wrong_promises(folder, name, page):
+    """What the rows of a page cite that isn't there: a call, or a clause of none of the row's calls."""
     found = clauses(folder)
     words = set(re.findall(r"\w+", "".join(read(path) for path in glob.glob(f"{folder}/crates/*/specs/*.antt"))))
     for cells in rows(page):
         if len(cells) < 3:
             continue
         calls = [it.split("::")[-1] for it in WORD.findall(cells[-2])]
-        yield from (f"PROMISES: there is no call {it}" for it in calls if SMALL.match(it) and it not in [*found, "fmc", "may_wait"] and not NAME.match(it))
+        yield from (f"{name}: there is no call {it}" for it in calls if SMALL.match(it) and it not in [*found, "fmc", "may_wait"] and not NAME.match(it))
         here = set().union(*(found.get(it, set()) for it in calls), calls)
         for word in WORD.findall(cells[-1]):
             if word not in here and word not in words:
-                yield f"PROMISES: {', '.join(calls)} has no clause {word}"
+                yield f"{name}: {', '.join(calls)} has no clause {word}"
 
 
 def calls_of(folder, crate):
@@ -160,9 +157,10 @@ def main():
     below = crates(folder)
     page = read(f"{folder}/docs/DEFINITIONS.md")
     section = "".join(SECTION.findall(page))
-    wrong = [*wrong_files(folder, SECTION.sub("", page)), *wrong_promises(folder, section), *unpromised(folder, below, section),
-             *wrong_places(folder, below, ["ARCHITECTURE.md", "DEFINITIONS.md", "HACKING.md"]), *wrong_boundaries(below, read(f"{folder}/docs/ARCHITECTURE.md")), *wrong_crates(folder, below),
-             *wrong_promises(folder, read(f"{folder}/docs/PROMISES.md"))]
+    wrong = [*wrong_files(folder, SECTION.sub("", page)), *wrong_promises(folder, "DEFINITIONS", section),
+             *unpromised(folder, below, section), *wrong_places(folder, below), *wrong_crates(folder, below)]
+    for name in "ARCHITECTURE", "PROMISES":
+        wrong += wrong_promises(folder, name, read(f"{folder}/docs/{name}.md"))
     print("\n".join(wrong) or "the pages name what stands in the crates")
     sys.exit(1 if wrong else 0)
 

@@ -27,7 +27,7 @@ import tempfile
 
 TOP = os.path.dirname(os.path.dirname(os.path.abspath(__file__)))
 PAGES = ["README.md", "docs/LANGUAGE.md", "docs/RULES.md", "docs/TOUR.md", "docs/LINKS.md", "docs/PROMISES.md",
-         "docs/OBJECT.md", "docs/LINT.md", "examples/gallery/README.md"]
+         "docs/OBJECT.md", "docs/LINT.md", "docs/ARCHITECTURE.md", "examples/gallery/README.md"]
 FENCE = re.compile(r"^```(\w*) ?([^\n]*)\n(.*?)^```$", re.M | re.S)
 HEADING = re.compile(r"^ +PROGRAM\b", re.M | re.I)
 UNIT = re.compile(r"(?:^[^\n]*\n)*?^[ \d]{6} *END\n", re.M)
