@@ -1,8 +1,14 @@
--- How many pieces are out with workers that still work, what that says to a worker who finds none ready, and what is played meanwhile.
+-- How many pieces are out with workers that still work, what that says to a worker who finds none ready, what is played meanwhile, and
+-- which answers of the table decide what a worker does.
 -- Source: this profile.
-use Rattle.std.specs.Prelude.{◌≡◌, ◌<◌, ◌+◌, ℕ, List, min}
+use Rattle.std.specs.Prelude.{◌≡◌, ◌<◌, ◌+◌, ◌⊎◌, ℕ, Bool, true, false, Option, Some, None, Result, Ok, Err, MatchBool, List, min}
+use Rattle.fm_base.specs.declared.memory.NoMemory.{NoMemory}
 use Rattle.fm_base.specs.declared.schedule.Turn.{Turn}
 use Rattle.fm_workers.specs.Histories.{HasGrown}
+use Rattle.fm_workers.specs.declared.shared.Given.{Given}
+use Rattle.fm_workers.specs.declared.shared.Phase.{Phase}
+use Rattle.fm_workers.specs.declared.shared.Phase.TheVariants.{Going, Ended, Spent}
+use Rattle.fm_pool.specs.declared.desk.Desk.{Desk}
 use Rattle.fm_pool.specs.declared.desk.Next.{Next}
 use Rattle.fm_pool.specs.declared.desk.Next.TheVariants.{Runs, Goes, Waits, Stops}
 
@@ -19,3 +25,49 @@ IsPassed (Runs piece) old new = new ≡ old
 IsPassed Goes old new = HasGrown old new
 IsPassed Waits old new = new ≡ old
 IsPassed Stops old new = new ≡ old
+
+-- ---- what a worker does, by what the table answers: a is the table before, and c the table after
+
+-- nothing is done
+abbrev pub IsSame : {T : Type 0} → T → T → Type 0
+IsSame a c = c ≡ a
+
+module _ {T : Type 0} (turns : ℕ → T → Result Bool NoMemory → T → Type 0) (light : Bool) (worker : ℕ) where
+  -- the table was asked to make a piece by itself, and answered; where it isn't to be asked, it made none
+  abbrev pub IsMade : Result Bool NoMemory → T → T → Type 0
+  IsMade answer a c = MatchBool light (turns worker a answer c) ((answer ≡ Ok false) × (c ≡ a))
+
+module _ {T P : Type 0} (takes : ℕ → T → Result (Option P) NoMemory → T → Type 0) (leaves : T → T → Type 0) (nobody : Type 0) (worker : ℕ) where
+  -- the table gave a piece out, which the worker computes; or it gave none, and the worker waits, or it stops as nobody has a piece; or
+  -- memory lacked, and the worker stops
+  abbrev pub IsTaken : Next P → T → T → Type 0
+  IsTaken next a c =
+      ((piece : P) × (next ≡ Runs piece) × takes worker a (Ok (Some piece)) c)
+      ⊎ (((next ≡ Waits) × takes worker a (Ok None) c)
+      ⊎ (((next ≡ Stops) × nobody × takes worker a (Ok None) c)
+      ⊎ ((b : T) × (e : NoMemory) × (next ≡ Stops) × takes worker a (Err e) b × leaves b c)))
+
+module _ {T P : Type 0} (takes : ℕ → T → Result (Option P) NoMemory → T → Type 0) (turns : ℕ → T → Result Bool NoMemory → T → Type 0) (leaves : T → T → Type 0) (nobody : Type 0) (light : Bool) (worker : ℕ) where
+  -- the table made a piece by itself, and the worker goes on; or it made none, and was asked for one to take; or memory lacked, and the
+  -- worker stops
+  abbrev pub IsGoing : Next P → T → T → Type 0
+  IsGoing next a c =
+      ((next ≡ Goes) × IsMade turns light worker (Ok true) a c)
+      ⊎ (((b : T) × IsMade turns light worker (Ok false) a b × IsTaken takes leaves nobody worker next b c)
+      ⊎ ((b : T) × (e : NoMemory) × (next ≡ Stops) × IsMade turns light worker (Err e) a b × leaves b c))
+
+  -- the table is over, and the worker stops; or the table goes on
+  abbrev pub IsNext : (tells : T → Phase → Type 0) → Next P → T → T → Type 0
+  IsNext tells next a c = ((next ≡ Stops) × (tells a Ended ⊎ tells a Spent) × (c ≡ a)) ⊎ (tells a Going × IsGoing next a c)
+
+module _ {T P : Type 0} (takes : ℕ → T → Result (Option P) NoMemory → T → Type 0) (turns : ℕ → T → Result Bool NoMemory → T → Type 0) (tells : T → Phase → Type 0) (light : Bool) (worker : ℕ) where
+  -- so at a desk, where nothing is done for want of memory
+  abbrev pub IsNextAt : Next P → Desk T → Desk T → Type 0
+  IsNextAt next a c = IsNext takes turns IsSame (a.working ≡ 0) light worker tells next a.table c.table
+
+module _ {T D : Type 0} (gives : D → T → Result Given (D × NoMemory) → T → Type 0) (leaves : T → T → Type 0) where
+  -- what a piece came to was given, and the table answered, so the worker goes on; or memory lacked, and it stops
+  abbrev pub IsBrought : D → (goes_on : Bool) → T → T → Type 0
+  IsBrought done goes_on a c =
+      MatchBool goes_on ((given : Given) × gives done a (Ok given) c)
+      ((b : T) × (e : D × NoMemory) × gives done a (Err e) b × leaves b c)

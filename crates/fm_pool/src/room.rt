@@ -65,8 +65,8 @@ impl<T: SharedTable> Room<T> {
         None
     }
 
-    // Takes the lock, and is let in by who keeps it.
-    fn come_in<'b, R: Wait>(&'b self, rt: &R) -> MutexGuard<'b, Desk<T>> {
+    /// Takes the lock, and is let in by who keeps it.
+    pub fn come_in<'b, R: Wait>(&'b self, rt: &R) -> MutexGuard<'b, Desk<T>> {
         self.coming.fetch_add(1, Ordering::SeqCst);
         let desk = self.desk.lock(rt);
         self.coming.fetch_sub(1, Ordering::SeqCst);
@@ -104,7 +104,8 @@ impl<T: SharedTable> Room<T> {
         unreachable!()
     }
 
-    fn wait_for_change<'b, R: Wait>(
+    /// Leaves the lock until something changes, and takes it again.
+    pub fn wait_for_change<'b, R: Wait>(
         &'b self,
         rt: &R,
         held: MutexGuard<'b, Desk<T>>,
@@ -115,9 +116,9 @@ impl<T: SharedTable> Room<T> {
         desk
     }
 
-    // Leaves the lock for a moment to those that come in, if there are any; and where the table goes on with a process for this worker
-    // while another one is ready, also to one that is idle, which it wakes.
-    fn let_in<'b, R: Wait>(
+    /// Leaves the lock for a moment to those that come in, if there are any; and where the table goes on with a process for this worker
+    /// while another one is ready, also to one that is idle, which it wakes.
+    pub fn let_in<'b, R: Wait>(
         &'b self,
         rt: &R,
         worker: u32,
@@ -149,13 +150,17 @@ impl<T: SharedTable> Room<T> {
         desk
     }
 
-    /// Gives what a piece came to, or leaves the piece where there was no memory to compute it, and wakes the others. False
-    /// where the worker is to stop.
+    /// Gives what a piece came to, or leaves the piece where there was no memory to compute it. False where the worker is to
+    /// stop, which wakes all others; else it wakes one that waits.
     pub fn bring<R: Wait>(&self, rt: &R, alloc: Global, done: Result<T::Done, NoMemory>) -> bool {
-        let mut desk = self.desk.lock(rt);
+        let mut desk = self.come_in(rt);
         let given = desk.bring(alloc, done);
         drop(desk);
-        self.changed.notify_all();
+        if given {
+            self.changed.notify_one();
+        } else {
+            self.changed.notify_all();
+        }
         given
     }
 
