@@ -13,6 +13,7 @@ impl<T: SharedTable> Held<T> {
     /// As the table's.
     pub fn take(&mut self, alloc: Global, worker: u32) -> Result<Option<T::Piece>, NoMemory>
         ensures same { self.new.place ≡ self.old.place }
+        ensures does { T.take_does worker self.old.table result self.new.table }
         ensures history { T.history_of self.new.table ≡ T.history_of self.old.table }
     {
         self.table.take(alloc, worker)
@@ -21,6 +22,7 @@ impl<T: SharedTable> Held<T> {
     /// As the table's.
     pub fn give(&mut self, alloc: Global, done: T::Done) -> Result<Given, (T::Done, NoMemory)>
         ensures same { self.new.place ≡ self.old.place }
+        ensures does { T.give_does done self.old.table result self.new.table }
         ensures given { IfOk result
             (λ g. IsGiven g (T.process_of done) (T.history_of self.old.table) (T.history_of self.new.table)) }
         ensures unchanged { OnErr result (T.history_of self.new.table ≡ T.history_of self.old.table) }
@@ -33,6 +35,7 @@ impl<T: SharedTable> Held<T> {
     /// at the place that ends the history.
     pub fn turn_light(&mut self, alloc: Global, worker: u32) -> Result<bool, NoMemory>
         ensures same { self.new.place ≡ self.old.place }
+        ensures does { T.turn_does worker self.old.table result self.new.table }
         ensures grown { IfOk result (λ _. HasGrown (T.history_of self.old.table) (T.history_of self.new.table)) }
         ensures none { IfOk result (λ r. r ≡ false → T.history_of self.new.table ≡ T.history_of self.old.table) }
         ensures unchanged { OnErr result (T.history_of self.new.table ≡ T.history_of self.old.table) }
@@ -45,13 +48,16 @@ impl<T: SharedTable> Held<T> {
     /// As the table's.
     pub fn recall(&mut self)
         ensures same { self.new.place ≡ self.old.place }
+        ensures does { T.recall_does self.old.table self.new.table }
         ensures history { T.history_of self.new.table ≡ T.history_of self.old.table }
     {
         self.table.recall();
     }
 
     /// As the table's.
-    pub fn phase(&self) -> Phase {
+    pub fn phase(&self) -> Phase
+        ensures { T.phase_tells self.now.table result }
+    {
         self.table.phase()
     }
 }
