@@ -5,7 +5,7 @@ use Rattle.std.specs.List.{AllByRecursion, flat_map}
 use Rattle.fm_object.specs.declared.image.Cell.{Cell}
 use Rattle.fm_object.specs.declared.image.Image.{Image}
 use Rattle.fm_object.specs.declared.image.UnitImage.{UnitImage}
-use Rattle.fm_object.specs.Texts.{CellFits, EntryFits, FieldFits, InstrFits, IsImage, IsObjectText, IsShort, ListFits, UnitFits, cell_text, entry_text, extent_text, field_text, head_text, instr_text, number, object_text, type_text, types_line, unit_line, unit_text, units_line}
+use Rattle.fm_object.specs.Texts.{AreNamed, CellFits, EntryFits, FieldFits, HasNames, InstrFits, IsImage, IsObjectText, IsShort, ListFits, UnitFits, cell_text, entry_text, extent_text, field_text, head_text, instr_text, number, object_text, type_text, types_line, unit_line, unit_text, units_line}
 use Rattle.fm_verify_law.specs.Typed.{CellsAreTyped, Typed, UnitIsTyped}
 use Rattle.fm_execute_law.proofs.SameLines.{Anything, IsNamed, Tells, all_tell, any_all, cell_tells, entry_tells, extent_tells, field_tells, instr_tells, same_line}
 use Rattle.fm_execute_law.proofs.SameWords.{same_keyword}
@@ -26,7 +26,7 @@ unit_numbers u = u.heading ∷ length u.extents ∷ length u.cells ∷ length u.
 
 -- the names of its variables are names
 abbrev UnitIsNamed : UnitImage → Type 0
-UnitIsNamed u = AllByRecursion IsNamed u.cells
+UnitIsNamed u = AreNamed u.cells
 
 unit_grouped : (a b c d e r : List ℕ) → (a ++ (b ++ (c ++ (d ++ e)))) ++ r ≡ a ++ (b ++ (c ++ (d ++ (e ++ r))))
 unit_grouped a b c d e r = simp append_assoc
@@ -59,7 +59,7 @@ unit_tells = λ u v r s named fits e.
 
 -- ---- the whole
 
-same_image : (i j : Image) → AllByRecursion UnitIsNamed i.units → IsImage j → object_text i ≡ object_text j → i ≡ j
+same_image : (i j : Image) → HasNames i → IsImage j → object_text i ≡ object_text j → i ≡ j
 same_image i j named fits e =
     let mine = flat_map unit_text i.units in
     let theirs = flat_map unit_text j.units in
@@ -76,7 +76,7 @@ same_image i j named fits e =
 
 -- ---- of an image that makes sense
 
-cells_named : (types word : ℕ) (cs : List Cell) → CellsAreTyped types word cs → AllByRecursion IsNamed cs
+cells_named : (types word : ℕ) (cs : List Cell) → CellsAreTyped types word cs → AreNamed cs
 cells_named types word [] typed = tt
 cells_named types word (c ∷ cs) typed = (typed.0.name, cells_named types (word + c.words) cs typed.1)
 
@@ -84,7 +84,10 @@ units_named : (i : Image) (us : List UnitImage) → AllByRecursion (UnitIsTyped 
 units_named i [] typed = tt
 units_named i (u ∷ us) typed = (cells_named (length i.types) 0 u.cells typed.0.cells, units_named i us typed.1)
 
+pub typed_named : (i : Image) → Typed i → HasNames i
+typed_named i typed = units_named i i.units typed.each
+
 pub same_object : (bytes : List ℕ) (i j : Image) → Typed i → bytes ≡ object_text i → IsObjectText bytes j → IsObjectText bytes i
 same_object bytes i j typed is object =
-    let same : i ≡ j = same_image i j (units_named i i.units typed.each) object.0 (sym is ∙ object.1) in
+    let same : i ≡ j = same_image i j (typed_named i typed) object.0 (sym is ∙ object.1) in
     subst (IsObjectText bytes) (sym same) object

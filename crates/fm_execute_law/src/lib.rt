@@ -2,8 +2,8 @@
 //!
 //! An image is run by what it says (`fm_image_play`), and a program by its meaning. Where the image is that of a program and its code the
 //! two do and show the same. A text is that of one image, so what is executed of the text that was compiled of a program is a run of the
-//! program, though nobody knows of that image that its numbers are within their ranges. Each function here has an empty body: its contract
-//! is a law.
+//! program, whether or not the numbers of that image are known to be within their ranges. Each function here has an empty body: its
+//! contract is a law.
 #![tactic(auto)]
 
 ghost use Rattle.std.specs.Prelude.{◌≡◌, ℕ, List};
