@@ -10,7 +10,7 @@ use Rattle.fm_base.specs.Verdict.{IsClean, IsRefusal}
 use Rattle.fm_base.specs.declared.rule.CheckFail.{CheckFail}
 use Rattle.fm_base.specs.declared.name.Line.{Line}
 use Rattle.fm_cards.specs.Cards.{cards_of}
-use Rattle.fm_sched.specs.Schedule.{IsLegal, Settles}
+use Rattle.fm_sched.specs.Schedule.{IsEnding, IsLegal, Settles}
 use Rattle.fm_tree.specs.declared.program_unit.Placed.{Placed}
 use Rattle.fm_tree.specs.declared.program_unit.Unit.{Unit}
 use Rattle.fm_symbols.specs.declared.names.UnitNames.{UnitNames}
@@ -25,11 +25,13 @@ use Rattle.fm_mean.specs.Steps.{step, first}
 use Rattle.fm_mean.proofs.Laws.{settles}
 use Rattle.fm_mean.proofs.Telling.{each_told}
 use Rattle.fm_mean.specs.Outcome.{outcome_of}
+use Rattle.fm_flow_law.specs.Flow.{IsFlowSafe}
 use Rattle.fm_flow_law.proofs.Promise.{safe_comes_to_its_end}
 use Rattle.fm_rules.specs.declared.program.Program.{Program}
 use Rattle.fm_rules.specs.Program.{IsChecked}
 use Rattle.fm_gen.specs.Programs.{code_of}
 use Rattle.fm_image.specs.ImageOf.{image_of}
+use Rattle.fm_image_names.proofs.Variables.{checked_named}
 use Rattle.fm_object.specs.Texts.{object_text}
 use Rattle.fm_verdict.specs.Program.{IsCheckedOf}
 use Rattle.fm_verdict.specs.Verdict.{IsBroken, IsBrokenForm, AreStatementsOf}
@@ -76,7 +78,15 @@ pub object_says : (b : List ℕ) (ss : List Placed) (p : Program) (r : Reply) �
     → r.ran.exit ≡ Done → IsObjectReply p r → IsReply command.Compile b r
 object_says b ss p r le h k checked e u =
     subst (λ (x : Exit). Says command.Compile b x r.ran.history.items (places_in r.ran) (bytes_of r.text)) (sym e)
-    (record { within = le; clean = h; statements = ss; read = k; told = object_text (image_of p (code_of p)); tells = record { program = p; checked = checked; object = refl }; unplayed = u })
+    (record {
+      within = le;
+      clean = h;
+      statements = ss;
+      read = k;
+      told = object_text (image_of p (code_of p));
+      tells = record { program = p; checked = checked; object = (u.fits (checked_named b p (record { statements = ss; read = k; clean = h; checked = checked })), refl) };
+      unplayed = u.unplayed;
+    })
 
 -- the first race of a checked program
 pub race_of : (ss : List Placed) (us : List Unit) (ns : List UnitNames) (race : Option Line) → us ≡ units_of ss → ns ≡ names_of (units_of ss) → ∥ IsRaceVerdict us (context_of us ns) race ∥₁ → IsFirstRaceOf ss race
@@ -127,6 +137,13 @@ not_deadlocked [] true ends is = cc is
 not_deadlocked [] false ends is = false≢true (ends refl)
 not_deadlocked (f ∷ fs) ended ends is = cc is
 
+-- so a program of which no sentence of the flow check holds doesn't end deadlocked
+pub ends_safe : (program : Program) (cs : List Place) (exit : Exit) → IsEnding (step program) (first program) cs → exit ≡ exit_of (outcome_of program (cost_of program cs) (state_after program cs))
+    → IsFlowSafe program → exit ≢ Deadlocked
+ends_safe program cs exit ends exit_is safe is =
+    let o = outcome_of program (cost_of program cs) (state_after program cs) in
+    not_deadlocked o.faults o.main_ended (safe_comes_to_its_end program safe cs (cost_of program cs) ends) (sym exit_is ∙ is)
+
 -- what a run says, by how it ended
 run_by : (b : List ℕ) (program : Program) (asked : Asked) (history : List Turn) (places cs : List Place) (e : Ending) → length b ≤ source_limit → IsHistoryOf b program asked.turns history places cs → EndsSo program asked.turns cs e
     → (asked.chosen ≡ [] → e ≡ ending.Spent → (IsDeterministic program → ⊥) → IsFair (play_of program) history places) → SaysRun asked b (exit_in e) history places (text_in asked history places e)
@@ -143,8 +160,7 @@ run_by b program asked history places cs (ending.Ended o) le kept h fair =
       text_is = ap (asked.tells history places) h.2;
       tells_each = each_told program cs (kept.legal, h.0) (cost_of program cs);
       one_outcome = λ det. settles program det cs (kept.legal, h.0);
-      safe = λ safe is. not_deadlocked (outcome_of program (cost_of program cs) (state_after program cs)).faults (outcome_of program (cost_of program cs) (state_after program cs)).main_ended
-          (safe_comes_to_its_end program safe cs (cost_of program cs) (kept.legal, h.0)) (sym (ap exit_of h.2) ∙ is);
+      safe = ends_safe program cs (exit_of o) (kept.legal, h.0) (ap exit_of h.2);
     })
 run_by b program asked history places cs ending.Spent le kept h fair =
     record {

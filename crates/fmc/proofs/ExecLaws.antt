@@ -9,9 +9,11 @@ use Rattle.fm_object.specs.declared.image.Image.{Image}
 use Rattle.fm_object.specs.declared.image.UnitImage.{UnitImage}
 use Rattle.fm_object.proofs.MalformedLaws.{no_line_of_an_object, one_first_line, one_object_text}
 use Rattle.fm_verify_law.specs.Typed.{IsBad, One, UnitIsTyped, Whole}
+use Rattle.fm_gen.specs.Programs.{code_of}
+use Rattle.fm_image.specs.ImageOf.{image_of}
 use Rattle.fm_image_law.proofs.Laid.{one_of}
 use Rattle.fm_image_play.specs.Executed.{IsExecuted, IsUnverified}
-use Rattle.fm_execute_law.proofs.Programs.{text_executes}
+use Rattle.fm_execute_law.proofs.Programs.{object_executes}
 use Rattle.fm_image_play.specs.Play.{image_play}
 use Rattle.fm_run.specs.Orders.{places_of}
 use Rattle.fm_run.specs.declared.run.Ending.{Ending}
@@ -25,7 +27,7 @@ use Rattle.fmc.specs.declared.answer.Exit.TheVariants as exits
 use Rattle.fmc.specs.declared.answer.Reply.{Reply}
 use Rattle.fmc.specs.Answer.{IsPlayedExit, Says, SaysRun, report_asked}
 use Rattle.fmc.specs.Exits.{is_decided}
-use Rattle.fmc.specs.Compiled.{ExecTellsRun}
+use Rattle.fmc.specs.Compiled.{ExecRuns, ExecTellsRun}
 use Rattle.fmc.specs.Executes.{IsExecutedSo, SaysExec, bad_object_text, object_limit, ran_text, unverified_text}
 use Rattle.fmc.specs.OneAnswer.{HasOneAnswer, HaveOneCause, IsOneAnswer}
 use Rattle.fmc.specs.Outcomes.{IsUnplayed, exit_in}
@@ -91,15 +93,30 @@ module _ (source bytes : List ℕ) (c : IsTextOfSource source bytes) where
   tells_run : (turns : ℕ) (vars : Bool) (exit : Exit) (h : List Turn) (ps : List Place) (t : List ℕ) → IsExecutedSo turns vars exit bytes h ps t → SaysRun (report_asked turns vars []) source exit h ps t
   tells_run turns vars exit h ps t k =
       let r = k.ran.run in
-      let told = text_executes c.program bytes c.is_text turns r k.ran.executed in
+      let told = object_executes c.program bytes c.object turns r k.ran.executed in
       let text : t ≡ text_in (report_asked turns vars []) r.history.items (places_of r.paths.items) r.ending =
       k.text_is ∙ sym (same_text turns vars r.history.items (places_of r.paths.items) r.ending) in
       rw (k.exit_is, k.ran.history_is, k.ran.places_are, text)
       (run_says source (report_asked turns vars []) r c.within (record { program = c.program; lawful = c.lawful; runs = told.runs; fair = λ none spent free. told.fair }))
 
+  abbrev own : Image
+  own = image_of c.program (code_of c.program)
+
+  finds_run : (turns : ℕ) (vars : Bool) (exit : Exit) (h : List Turn) (ps : List Place) (t : List ℕ) → Finds turns vars bytes exit h ps t
+      → IsPlayedExit exit ⊎ (((exit ≡ exits.TooLong) × (object_limit < length bytes)) ⊎ ((exit ≡ exits.NoMemory) ⊎ (exit ≡ exits.ReadFault)))
+  finds_run turns vars exit h ps t (inl k) = inl k.0
+  finds_run turns vars exit h ps t (inr (inl k)) = absurd (no_line_of_an_object bytes own c.object k.1.line k.1.malformed)
+  finds_run turns vars exit h ps t (inr (inr (inl k))) = absurd (typed_or_bad bytes own c.object c.sense k.1.unit k.1.unverified)
+  finds_run turns vars exit h ps t (inr (inr (inr (inl k)))) = inr (inl (k.0, k.1))
+  finds_run turns vars exit h ps t (inr (inr (inr (inr k)))) = inr (inr k.0)
+
 pub tells_the_run : (source bytes : List ℕ) (h : List Turn) (ps : List Place) → Says command.Compile source exits.Done h ps bytes → ExecTellsRun source bytes
 tells_the_run source bytes h ps compiled = λ turns vars exit i qs t k played.
     tells_run source bytes (compiled_text source h ps bytes compiled) turns vars exit i qs t (ran_of turns vars bytes exit i qs t (found turns vars bytes exit i qs t k) played)
+
+pub runs_what_is_compiled : (source bytes : List ℕ) (h : List Turn) (ps : List Place) → Says command.Compile source exits.Done h ps bytes → ExecRuns bytes
+runs_what_is_compiled source bytes h ps compiled = λ turns vars exit i qs t k.
+    finds_run source bytes (compiled_text source h ps bytes compiled) turns vars exit i qs t (found turns vars bytes exit i qs t k)
 
 -- ---- one cause
 

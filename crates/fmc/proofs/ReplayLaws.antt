@@ -45,7 +45,7 @@ use Rattle.fmc.specs.Outcomes.{IsRefusedFor, IsUnplayed, source_limit, cost_of, 
 use Rattle.fmc.specs.Exits.{is_decided, is_end}
 use Rattle.fmc.specs.Replay.{ComesTo, CostsMore, EndsProgram, HasCome, IsLacking, IsReplayed, SaysReplay, SaysTable, told_after, trace_limit}
 use Rattle.fmc.specs.Answer.{IsEnded, IsPlayedExit, IsSpent, Says, SaysRun, SaysTrace, report_asked, trace_asked}
-use Rattle.fmc.proofs.AnswerLaws.{end_by, told_by_trace}
+use Rattle.fmc.proofs.AnswerLaws.{end_by, ends_safe, told_by_trace}
 
 -- ---- histories of runs
 
@@ -145,13 +145,16 @@ front_comes vars program setup ts count exit text le kept all (inr (inr says)) =
     let paid = k.cost_is in
     let shown : outcome_of program (told_cost a) (stand_of a).state ≡ outcome_of program (cost_of program k.choices) (state_after program k.choices) =
     ap₂ (λ (n : ℕ) (s : State Proc). outcome_of program n s) k.cost_is k.state_is in
+    let final : IsFinal (step program) (state_after program k.choices) = subst (IsFinal (step program)) k.state_is says.2 in
+    let exit_is : exit ≡ exit_of (outcome_of program (cost_of program k.choices) (state_after program k.choices)) = says.0 ∙ ap exit_of shown in
     comes_ended vars exit program setup.turns ts text (ap is_end says.0 ∙ end_by (outcome_of program (told_cost a) (stand_of a).state).faults (outcome_of program (told_cost a) (stand_of a).state).main_ended) (record {
       choices = k.choices;
       steps = subst (λ (us : List Turn). AreSteps program us k.choices) (whole ts count (told_cost a) setup.turns within all) k.steps;
-      final = subst (IsFinal (step program)) k.state_is says.2;
+      final = final;
       in_turns = omega (arith, within, paid);
-      exit_is = says.0 ∙ ap exit_of shown;
+      exit_is = exit_is;
       text_is = says.3 ∙ ap (report_text vars) shown;
+      safe = ends_safe program k.choices exit (k.steps.legal, final) exit_is;
     })
 
 pub table_comes : (vars : Bool) (program : Program) (setup : Setup) (ts : List Turn) (a : Told) (exit : Exit) (text : List ℕ) → HasCome program setup ts a None → IsKept a → SaysTable vars a exit text → ComesTo vars exit program setup.turns ts text
@@ -442,6 +445,7 @@ ended_again setup vars b exit h ps text end k read within =
           in_turns = k.in_turns;
           exit_is = k.exit_is;
           text_is = refl;
+          safe = k.safe;
         });
         unplayed = record { no_turns = refl; no_places = refl; text_is = refl };
       },

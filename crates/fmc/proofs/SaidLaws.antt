@@ -454,15 +454,24 @@ no_risk : (risk : Option Line) → codes "no deadlock\n" ≡ flow_text risk → 
 no_risk None e = refl
 no_risk (Some line) e = absurd (false≢true (sym (ap (λ (t : List ℕ). bytes_eq t (codes "no deadlock\n")) e)))
 
--- and of it no run ends with main waiting
-pub excludes_deadlock : (b : List ℕ) (before : List Turn) (starts : List Place) → ((p q : Program) → IsCheckedOf b p → IsCheckedOf b q → p ≡ q) → Says command.Flow b Done before starts (codes "no deadlock\n")
-    → (asked : Asked) (h : List Turn) (ps : List Place) (t : List ℕ) → SaysRun asked b Deadlocked h ps t → ⊥
-excludes_deadlock b before starts one k asked h ps t run =
-    let flow = k.tells in
-    let p = flow.1.program in
-    let safe : IsFlowSafe p = subst (IsFlowVerdict p) (no_risk flow.0 (k.unplayed.text_is ∙ flow.2)) flow.1.verdict in
-    let lawful : IsCheckedOf b p = record { statements = k.statements; read = k.read; clean = k.clean; checked = flow.1.checked } in
-    run.safe (subst IsFlowSafe (one p run.program lawful run.kept.lawful) safe) refl
+module _ (b : List ℕ) (before : List Turn) (starts : List Place) (one : (p q : Program) → IsCheckedOf b p → IsCheckedOf b q → p ≡ q) (k : Says command.Flow b Done before starts (codes "no deadlock\n")) where
+  told_safe : (q : Program) → IsCheckedOf b q → IsFlowSafe q
+  told_safe q lawful =
+      let flow = k.tells in
+      let p = flow.1.program in
+      let safe : IsFlowSafe p = subst (IsFlowVerdict p) (no_risk flow.0 (k.unplayed.text_is ∙ flow.2)) flow.1.verdict in
+      let own : IsCheckedOf b p = record { statements = k.statements; read = k.read; clean = k.clean; checked = flow.1.checked } in
+      subst IsFlowSafe (one p q own lawful) safe
+
+  -- and of it no run ends with main waiting
+  pub excludes_deadlock : (asked : Asked) (h : List Turn) (ps : List Place) (t : List ℕ) → SaysRun asked b Deadlocked h ps t → ⊥
+  excludes_deadlock asked h ps t run = run.safe (told_safe run.program run.kept.lawful) refl
+
+  -- nor a replay of a trace of it
+  pub excludes_replayed : (vars : Bool) (bytes : List ℕ) (trace : Trace) → IsTraceText bytes trace → trace.source ≡ b → (h : List Turn) (ps : List Place) (t : List ℕ) → Says (command.Replay vars) bytes Deadlocked h ps t → ⊥
+  excludes_replayed vars bytes trace read its h ps t run =
+      let source : run.trace.source ≡ b = ap (λ (a : Trace). a.source) (one_trace_text bytes run.trace trace run.read read) ∙ its in
+      run.comes.safe (told_safe run.program (subst (λ (s : List ℕ). IsCheckedOf s run.program) source run.lawful)) refl
 
 -- a command that doesn't read meets no read fault
 pub no_read_fault : (c : Command) (b : List ℕ) (exit : Exit) (h : List Turn) (ps : List Place) (t : List ℕ) → is_reading c ≡ false → Says c b exit h ps t → exit ≡ ReadFault → ⊥

@@ -29,7 +29,7 @@ use Rattle.fm_rules.specs.declared.program.Program.{Program}
 use Rattle.fm_rules.specs.Program.{IsChecked}
 use Rattle.fm_gen.specs.Programs.{code_of}
 use Rattle.fm_image.specs.ImageOf.{image_of}
-use Rattle.fm_object.specs.Texts.{object_text}
+use Rattle.fm_object.specs.Texts.{IsObjectText}
 use Rattle.fm_flow_law.specs.Flow.{IsFlowSafe, IsFlowVerdict}
 use Rattle.fm_verdict.specs.Verdict.{IsBroken, AreStatementsOf}
 use Rattle.fm_verdict.specs.Program.{IsCheckedOf}
@@ -175,11 +175,11 @@ flow_text (Some line) = codes "may deadlock: line " ++ decimal line.0 ++ 10 ∷ 
 abbrev pub TellsFlow : List Placed → List ℕ → Type 0
 TellsFlow statements told = (risk : Option Line) × IsFlowOf statements risk × (told ≡ flow_text risk)
 
--- the whole text of an object, and nothing else: that of the image of the program of the statements and its code
+-- the whole text of an object, and nothing else: that of the image of the program of the statements and its code, within its ranges
 pub record TellsObject (statements : List Placed) (told : List ℕ) : Type 0 where
   pub program : Program
   pub checked : IsChecked statements program.units program.names
-  pub object : told ≡ object_text (image_of program (code_of program))
+  pub object : IsObjectText told (image_of program (code_of program))
 
 -- nothing was played
 abbrev pub IsNoHistory : List Turn → List Place → Type 0

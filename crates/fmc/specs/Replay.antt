@@ -1,6 +1,6 @@
 -- What `replay` answers for the bytes of a trace.
 -- Source: this profile.
-use Rattle.std.specs.Prelude.{◌≡◌, ◌⊎◌, ℕ, ◌+◌, ◌<◌, ◌≤◌, Bool, Option, Some, None, List, [], ◌∷◌, ◌++◌, length, replicate, slice_get, take, codes}
+use Rattle.std.specs.Prelude.{◌≡◌, ◌≢◌, ◌⊎◌, ℕ, ◌+◌, ◌<◌, ◌≤◌, Bool, Option, Some, None, List, [], ◌∷◌, ◌++◌, length, replicate, slice_get, take, codes}
 use Rattle.std.specs.Fmt.{decimal}
 use Rattle.fm_base.specs.declared.schedule.Setup.{Setup}
 use Rattle.fm_base.specs.declared.schedule.Turn.{Turn}
@@ -10,6 +10,7 @@ use Rattle.fm_net.specs.Starts.{starts_of}
 use Rattle.fm_rules.specs.declared.program.Program.{Program}
 use Rattle.fm_mean.specs.Outcome.{outcome_of}
 use Rattle.fm_mean.specs.Steps.{language, step, first}
+use Rattle.fm_flow_law.specs.Flow.{IsFlowSafe}
 use Rattle.fm_replay_law.specs.Entries.{AreSteps}
 use Rattle.fm_report.specs.Report.{report_text, spent_text}
 use Rattle.fm_verdict.specs.Program.{IsCheckedOf}
@@ -35,6 +36,8 @@ pub record EndsProgram (vars : Bool) (exit : Exit) (program : Program) (turns : 
   pub in_turns : cost_of program choices ≤ turns
   pub exit_is : exit ≡ exit_of (outcome_of program (cost_of program choices) (state_after program choices))
   pub text_is : text ≡ report_text vars (outcome_of program (cost_of program choices) (state_after program choices))
+  -- where no sentence of the flow check holds, main has ended, or a process faulted
+  pub safe : IsFlowSafe program → exit ≢ Deadlocked
 
 -- the entries up to one of them cost more than the turns
 pub record CostsMore (program : Program) (turns : ℕ) (entries : List Turn) (text : List ℕ) : Type 0 where

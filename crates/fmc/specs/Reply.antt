@@ -10,8 +10,8 @@ use Rattle.fm_rules.specs.declared.program.Program.{Program}
 use Rattle.fm_mean.specs.Determinism.{IsDeterministic}
 use Rattle.fm_flow_law.specs.Flow.{IsFlowVerdict}
 use Rattle.fm_gen.specs.Programs.{code_of}
-use Rattle.fm_image.specs.ImageOf.{image_of}
-use Rattle.fm_object.specs.Texts.{object_text}
+use Rattle.fm_image.specs.ImageOf.{NamesAreNames, image_of}
+use Rattle.fm_object.specs.Texts.{IsImage, object_text}
 use Rattle.fm_verdict.specs.Program.{IsCheckedOf}
 use Rattle.fm_run.specs.Programs.{Follows, IsRun, play_of}
 use Rattle.fm_run.specs.declared.run.Run as run
@@ -85,9 +85,10 @@ pub record IsFlowReply (program : Program) (r : Reply) : Type 0 where
   pub verdict : IsFlowVerdict program risk
   pub unplayed : IsUnplayed r.ran.history.items (places_in r.ran) (bytes_of r.text) (flow_text risk)
 
--- the reply is the object text of the program; nothing was played
-abbrev pub IsObjectReply : Program → Reply → Type 0
-IsObjectReply program r = IsUnplayed r.ran.history.items (places_in r.ran) (bytes_of r.text) (object_text (image_of program (code_of program)))
+-- the reply is the object text of the program, whose image is within its ranges where names are names; nothing was played
+pub record IsObjectReply (program : Program) (r : Reply) : Type 0 where
+  pub fits : NamesAreNames program → IsImage (image_of program (code_of program))
+  pub unplayed : IsUnplayed r.ran.history.items (places_in r.ran) (bytes_of r.text) (object_text (image_of program (code_of program)))
 
 -- the reply is that of a run of the source, with its summary
 abbrev pub IsSummary : List ℕ → (turns : ℕ) → Reply → Type 0

@@ -6,7 +6,7 @@ ghost use Rattle.fm_net.specs.Machine.{Place};
 ghost use Rattle.fm_words.specs.declared.command.Command.TheVariants as command;
 ghost use Rattle.fmc.specs.declared.answer.Exit.TheVariants as exits;
 ghost use Rattle.fmc.specs.Answer.{Says};
-ghost use Rattle.fmc.specs.Compiled.{ExecTellsRun, IsCompiledOf};
+ghost use Rattle.fmc.specs.Compiled.{ExecRuns, ExecTellsRun, IsCompiledOf};
 ghost use Rattle.fmc.specs.OneAnswer.{HasOneAnswer, HaveOneCause};
 ghost use Rattle.fmc.specs.Plain.{PlainOrNot};
 
@@ -19,16 +19,18 @@ pub fn replay_has_one_answer()
     fm_front::one_program();
 }
 
-/// What `compile` writes of a source is the text of the image of the source's program and its code. The image makes sense, and its
-/// code is the program's: what executes the one executes the other. No unit of it is found to make no sense.
+/// What `compile` writes of a source is the text of the image of the source's program and its code. The image is within its ranges and
+/// makes sense, and its code is the program's: what executes the one executes the other. So `exec` finds no malformed line in the text,
+/// and no unit that makes no sense.
 pub fn compiled_makes_sense()
     ensures { (source : List ℕ) (history : List Turn) (places : List Place) (text : List ℕ) → Says command.Compile source exits.Done history places text → IsCompiledOf source text }
 {}
 
-/// Where `compile` wrote the bytes of a source, and `exec` runs them, it says what `run` says of the source: the same exit and the same
-/// report, of a schedule of the program that is fair.
+/// Where `compile` wrote the bytes of a source, `exec` runs them, unless they are over its limit, no memory is found, or reading them
+/// fails. Then it says what `run` says of the source: the same exit and the same report, of a schedule of the program that is fair.
 pub fn exec_tells_the_run()
-    ensures { (source bytes : List ℕ) (history : List Turn) (places : List Place) → Says command.Compile source exits.Done history places bytes → ExecTellsRun source bytes }
+    ensures runs { (source bytes : List ℕ) (history : List Turn) (places : List Place) → Says command.Compile source exits.Done history places bytes → ExecRuns bytes }
+    ensures tells { (source bytes : List ℕ) (history : List Turn) (places : List Place) → Says command.Compile source exits.Done history places bytes → ExecTellsRun source bytes }
 {}
 
 /// Two answers of `exec` to the same bytes are one, with the same turns and the same question, where the bytes decide each, and memory was

@@ -6,8 +6,8 @@ ghost use Rattle.fm_cards.specs.Cards.{cards_of};
 ghost use Rattle.fm_rules.specs.Program.{AreShaped};
 ghost use Rattle.fm_verdict.specs.Verdict.{AreStatementsOf, IsBroken, IsBrokenForm};
 ghost use Rattle.fm_gen.specs.Programs.{code_of};
-ghost use Rattle.fm_image.specs.ImageOf.{image_of};
-ghost use Rattle.fm_object.specs.Texts.{object_text};
+ghost use Rattle.fm_image.specs.ImageOf.{NamesAreNames, image_of};
+ghost use Rattle.fm_object.specs.Texts.{IsImage, object_text};
 ghost use Rattle.fmc.specs.Listing.{listed_text};
 ghost use Rattle.fm_run.specs.Orders.{places_of};
 ghost use Rattle.fm_words.specs.declared.command.Command.TheVariants as command;
@@ -357,7 +357,8 @@ fn try_flow(alloc: Global, bytes: &[u8]) -> Result<Reply, NoMemory>
 
 /// The object text of the image of a program and its code.
 fn object_of(alloc: Global, program: &Program) -> Result<Vec<u8>, NoMemory>
-    ensures { IfOk result (λ v. v.items ≡ object_text (image_of program.now (code_of program.now))) }
+    ensures text { IfOk result (λ v. v.items ≡ object_text (image_of program.now (code_of program.now))) }
+    ensures fits { IfOk result (λ _. NamesAreNames program.now → IsImage (image_of program.now (code_of program.now))) }
 {
     let code = generate(alloc, program)?;
     let image = image(alloc, program, &code)?;

@@ -8,6 +8,8 @@ ghost use Rattle.fm_io.specs.Causes.{Rose};
 ghost use Rattle.fm_io.specs.Streams.{WritesFront};
 ghost use Rattle.fm_front.specs.Laws.{OneVerdict};
 ghost use Rattle.fm_verdict.specs.Verdict.{IsBroken};
+ghost use Rattle.fm_trace.specs.Texts.{IsTraceText};
+ghost use Rattle.fm_trace.specs.declared.trace.Trace.{Trace};
 ghost use Rattle.fm_words.specs.Words.{command_of};
 ghost use Rattle.fm_words.specs.declared.command.Command.{Command};
 ghost use Rattle.fm_words.specs.declared.command.Command.TheVariants as command;
@@ -286,10 +288,13 @@ pub fn replay_tells_the_run()
 {}
 
 /// Where `flow` writes `no deadlock` of a source, no run of it ends with main waiting, under whatever schedule: not `run`, nor
-/// `trace`, nor a schedule of the caller's.
+/// `trace`, nor a schedule of the caller's, nor `replay` of a trace of it, whoever wrote that.
 pub fn flow_excludes_deadlock()
-    ensures { (source : List ℕ) (before : List Turn) (starts : List Place) → Says command.Flow source Exit.Done before starts (codes "no deadlock\n")
+    ensures runs { (source : List ℕ) (before : List Turn) (starts : List Place) → Says command.Flow source Exit.Done before starts (codes "no deadlock\n")
         → (asked : Asked) (history : List Turn) (places : List Place) (text : List ℕ) → SaysRun asked source Exit.Deadlocked history places text → ⊥ }
+    ensures replays { (source : List ℕ) (before : List Turn) (starts : List Place) → Says command.Flow source Exit.Done before starts (codes "no deadlock\n")
+        → (vars : Bool) (b : List ℕ) (trace : Trace) → IsTraceText b trace → trace.source ≡ source
+        → (history : List Turn) (places : List Place) (text : List ℕ) → Says (command.Replay vars) b Exit.Deadlocked history places text → ⊥ }
 {
     fm_front::one_program();
 }

@@ -1,5 +1,8 @@
-use Rattle.fmc.proofs.SaidLaws.{excludes_deadlock}
+use Rattle.fmc.proofs.SaidLaws.{excludes_deadlock, excludes_replayed}
 use Rattle.fmc.proofs.top.flow_excludes_deadlock.Goals as goal
 
-pub returns : goal.returns
-returns c = λ source before starts says asked history places text run. excludes_deadlock source before starts (c.one_program.ensures.program source) says asked history places text run
+pub returns-clause-runs : goal.returns-clause-runs
+returns-clause-runs c = λ source before starts says. excludes_deadlock source before starts (c.one_program.ensures.program source) says
+
+pub returns-clause-replays : goal.returns-clause-replays
+returns-clause-replays c = λ source before starts says. excludes_replayed source before starts (c.one_program.ensures.program source) says
