@@ -1,6 +1,7 @@
 //! The workers, each with a lane and with ways into the lanes of the others.
 
-ghost use Rattle.std.specs.Prelude.{◌≤◌};
+ghost use Rattle.std.specs.Prelude.{◌≡◌, ◌≤◌, ◌<◌, length};
+ghost use Rattle.fm_steal_pool.specs.Workers.{HandsOn, HasPutNothing};
 
 use fm_base::NoMemory;
 use fm_steal::{Lane, Thief, lane};
@@ -24,14 +25,52 @@ pub struct Worker<P> {
 }
 
 impl<P> Worker<P> {
-    /// The first piece of another worker's lane, if one has a piece.
-    pub fn steal<R: Wait>(&mut self, rt: &R) -> Option<P> {
-        'others: for other in self.others.iter_mut() {
-            if let Some((_, piece)) = other.steal(rt) {
-                return Some(piece);
+    /// The first piece of its own lane, if it has one.
+    pub fn first(&mut self) -> Option<P>
+        ensures hands { HandsOn self.old self.new result }
+        ensures same { HasPutNothing self.old self.new }
+    {
+        match self.lane.pop() {
+            Some((_, piece)) => Some(piece),
+            None => None,
+        }
+    }
+
+    /// The first piece of its own lane, or else of another worker's.
+    pub fn reach<R: Wait>(&mut self, rt: &R) -> Option<P>
+        ensures hands { HandsOn self.old self.new result }
+        ensures same { HasPutNothing self.old self.new }
+    {
+        match self.first() {
+            Some(piece) => Some(piece),
+            None => self.steal(rt),
+        }
+    }
+
+    /// The first piece of another worker's lane, if one has a piece. It tries each.
+    pub fn steal<R: Wait>(&mut self, rt: &R) -> Option<P>
+        ensures hands { HandsOn self.old self.new result }
+        ensures same { HasPutNothing self.old self.new }
+    {
+        'others: for place in 0..self.others.len() {
+            match self.steal_at(rt, place) {
+                Some(piece) => return Some(piece),
+                None => {}
             }
         }
         None
+    }
+
+    // The first piece of the lane to which the way at this place leads, if it has one.
+    fn steal_at<R: Wait>(&mut self, rt: &R, place: usize) -> Option<P>
+        requires { place < length self.old.others.items }
+        ensures hands { HandsOn self.old self.new result }
+        ensures same { HasPutNothing self.old self.new }
+    {
+        match self.others[place].steal(rt) {
+            Some((_, piece)) => Some(piece),
+            None => None,
+        }
     }
 }
 

@@ -1,5 +1,9 @@
 //! What a worker does in its turns of the lock, and between them.
 
+ghost use Rattle.std.specs.Prelude.{None};
+ghost use Rattle.fm_pool.specs.Desks.{IsNextAt};
+ghost use Rattle.fm_steal_pool.specs.Workers.{Hands, HandsOn, IsFilled, IsSameWorker, hand_of};
+
 use crate::crew::Worker;
 use fm_pool::{Desk, Next, Room};
 use fm_workers::{Gate, SharedTable};
@@ -9,73 +13,102 @@ use std::sync::Wait;
 // How many pieces a worker takes in one turn of the lock.
 const MOST_AT_ONCE: u32 = 8;
 
-// What a worker does after a turn of the lock.
-enum Filled<P> {
-    // It takes a piece from its lane.
-    Lane,
-    // It computes a piece that its lane refused.
-    Runs(P),
-    // It steals, or waits until something changes.
-    Waits,
-    // It has nothing more to do.
-    Stops,
-}
-
-// Takes pieces into the worker's lane. Where `light` says so, the table makes those pieces by itself that aren't worth giving out.
+// Takes pieces into the worker's lane, until the desk gives out no other one, or the lane refuses one, which comes back. Where `light` says
+// so, the table makes those pieces by itself that aren't worth giving out.
 fn fill<T: SharedTable>(
     alloc: Global,
     worker: &mut Worker<T::Piece>,
     desk: &mut Desk<T>,
     light: bool,
-) -> Filled<T::Piece> {
-    'pieces: for taken in 0..MOST_AT_ONCE {
+) -> Next<T::Piece>
+    ensures filled { IsFilled (IsNextAt T.take_does T.turn_does T.phase_tells light worker.old.number)
+        worker.old worker.new result desk.old desk.new }
+    ensures hands { HandsOn worker.old worker.new None }
+    ensures same { IsSameWorker worker.old worker.new }
+{
+    'pieces: for _ in 0..MOST_AT_ONCE {
         match desk.next(alloc, worker.number, light) {
             Next::Runs(piece) => match worker.lane.put(piece) {
                 Ok(_) => {}
-                Err(refused) => return Filled::Runs(refused),
+                Err(refused) => return Next::Runs(refused),
             },
-            Next::Goes => {}
-            Next::Waits => return if taken == 0 {
-                Filled::Waits
-            } else {
-                Filled::Lane
-            },
-            Next::Stops => return if taken == 0 {
-                Filled::Stops
-            } else {
-                Filled::Lane
-            },
+            Next::Goes => return Next::Goes,
+            Next::Waits => return Next::Waits,
+            Next::Stops => return Next::Stops,
         }
     }
-    Filled::Lane
+    Next::Goes
 }
 
-// The next piece, when there is one: of its own lane, of the table, or of another lane. None where the worker is to stop.
+// What a worker with an empty lane does next, by what it finds at the desk: it takes pieces of the table, and computes the first one; where
+// the table has none ready, it steals.
+fn found<T: SharedTable, R: Wait>(
+    rt: &R,
+    alloc: Global,
+    worker: &mut Worker<T::Piece>,
+    desk: &mut Desk<T>,
+    light: bool,
+) -> Next<T::Piece>
+    ensures hands { Hands worker.old worker.new (hand_of result) }
+    ensures same { IsSameWorker worker.old worker.new }
+{
+    match fill(alloc, worker, desk, light) {
+        Next::Runs(refused) => Next::Runs(refused),
+        Next::Goes => match worker.first() {
+            Some(piece) => Next::Runs(piece),
+            None => Next::Goes,
+        },
+        Next::Waits => match worker.reach(rt) {
+            Some(piece) => Next::Runs(piece),
+            None => Next::Waits,
+        },
+        Next::Stops => match worker.first() {
+            Some(piece) => Next::Runs(piece),
+            None => Next::Stops,
+        },
+    }
+}
+
+// The next piece, when there is one. None where the worker is to stop. A worker whose lane is empty steals while the desk is free for others;
+// and at the desk it steals once more before it waits.
 fn next<T: SharedTable, R: Wait>(
     rt: &R,
     alloc: Global,
     room: &Room<T>,
     worker: &mut Worker<T::Piece>,
     light: bool,
-) -> Option<T::Piece> {
+) -> Option<T::Piece>
+    ensures { Hands worker.old worker.new result }
+{
+    match worker.reach(rt) {
+        Some(piece) => Some(piece),
+        None => next_at(rt, alloc, room, worker, light),
+    }
+}
+
+// The next piece for a worker with an empty lane, at the desk. Who leaves with a piece wakes one that waits, who may find another piece and
+// wakes the next one then; who stops wakes all.
+fn next_at<'b, T: SharedTable, R: Wait>(
+    rt: &R,
+    alloc: Global,
+    room: &'b Room<T>,
+    worker: &mut Worker<T::Piece>,
+    light: bool,
+) -> Option<T::Piece>
+    ensures { Hands worker.old worker.new result }
+{
+    let mut desk = room.come_in(rt);
     'turns: for _ in rt.forever() {
-        if let Some((_, piece)) = worker.lane.pop() {
-            return Some(piece);
-        }
-        let mut desk = room.desk.lock(rt);
-        match fill(alloc, worker, &mut *desk, light) {
-            Filled::Lane => room.changed.notify_all(),
-            Filled::Runs(piece) => {
-                room.changed.notify_all();
+        match found(rt, alloc, worker, &mut *desk, light) {
+            Next::Runs(piece) => {
+                drop(desk);
+                room.changed.notify_one();
                 return Some(piece);
             }
-            Filled::Waits => {
-                if let Some(piece) = worker.steal(rt) {
-                    return Some(piece);
-                }
-                let _woken = room.changed.wait(rt, desk);
-            }
-            Filled::Stops => {
+            Next::Goes => desk = room.let_in(rt, worker.number, desk),
+            Next::Waits => desk = room.wait_for_change(rt, desk),
+            Next::Stops => {
+                drop(desk);
                 room.changed.notify_all();
                 return None;
             }
