@@ -19,8 +19,10 @@ use Rattle.fm_nodes_rounds.specs.Rounds.{is_step}
 use Rattle.fm_nodes_rounds.specs.declared.hosts.NodeEvent.{NodeEvent}
 use Rattle.fm_nodes_rounds.specs.declared.hosts.NodeEvent.TheVariants.{Step, Send, Answer, Deliver, Lose, Restart}
 use Rattle.fm_nodes.specs.Nodes.{Hosted, IsDone, IsHosted, IsRestarted}
+use Rattle.fm_nodes_run.specs.Made.{IsMade}
 use Rattle.fm_nodes_run.specs.Played.{HasNoStep, IsWithin, played_of}
 use Rattle.fm_nodes_run.proofs.Costs.{step_costs}
+use Rattle.fm_nodes_run.proofs.Made.{made_first, made_same, made_tried, made_done}
 
 -- ---- what the network does
 
@@ -57,16 +59,25 @@ pub within_first : (h : Hosted) (turns : ℕ) → h.run ≡ first_run (first_pro
 within_first h turns e = record {
   some_steps = subst HaveSteps (sym (ap (λ (r : Run Proc). r.history) e)) tt;
   front_within = front_none (play_of h.program) turns h.run.history h.run.order (ap (λ (r : Run Proc). r.history) e);
+  made = made_first h.program h.run e;
 }
 
-pub within_still : (old new : Hosted) (turns : ℕ) → new.program ≡ old.program → HasNoStep old.run new.run → IsWithin (played_of old turns) → IsWithin (played_of new turns)
-within_still old new turns program same within = record {
+made_by : (old new : Hosted) → new.program ≡ old.program → IsMade old.program new.run → IsMade new.program new.run
+made_by old new program made = subst (λ (p : Program). IsMade p new.run) (sym program) made
+
+within_still : (old new : Hosted) (turns : ℕ) → new.program ≡ old.program → HasNoStep old.run new.run → IsMade old.program new.run → IsWithin (played_of old turns) → IsWithin (played_of new turns)
+within_still old new turns program same made within = record {
   some_steps = subst HaveSteps (sym same.history) within.some_steps;
   front_within =
       subst (λ (p : Program). IsFrontWithin p turns new.run.history new.run.order) (sym program)
       (subst (λ (hs : List Turn). IsFrontWithin old.program turns hs new.run.order) (sym same.history)
       (subst (λ (ps : List Place). IsFrontWithin old.program turns old.run.history ps) (sym same.order) within.front_within));
+  made = made_by old new program made;
 }
+
+pub within_moved : (old new : Hosted) (turns : ℕ) → new.program ≡ old.program → (event : NodeEvent) → is_step event ≡ false → (r : Result Bool NoMemory) → IsDone old event new.run r
+    → IsWithin (played_of old turns) → IsWithin (played_of new turns)
+within_moved old new turns program event other r is within = within_still old new turns program (moves old event other new.run r is) (made_done old new.run event r is within.made) within
 
 -- a history with the steps of its entries, as runs have it
 pub kept_of : (h : Hosted) → IsHosted h → HaveSteps h.run.history → run.IsPlayedBy h.program h.run.history h.run.order (state_of h.run.hosts) h.run.used
@@ -97,6 +108,7 @@ module _ (old new : Hosted) (program : new.program ≡ old.program) (hosted : Is
         subst (λ (p : Program). IsFrontWithin p turns new.run.history new.run.order) (sym program)
         (front_more (play_of old.program) old.run.history old.run.order (state_of old.run.hosts) old.run.used (kept_of old hosted within.some_steps)
         (one_step_of does.number) _ new.run.history does.history_is new.run.order does.order_is turns in_turns);
+    made = made_by old new program (made_tried old.program old.run new.run q (Ok true) does within.made);
   }
 
 -- ---- a try to step
@@ -124,5 +136,5 @@ module _ (old new : Hosted) (program : new.program ≡ old.program) (hosted : Is
 
   pub within_tried : (r : Result Bool NoMemory) → IsTried (language old.program) q old.run new.run r → (turns : ℕ) → IsWithin (played_of old turns) → old.run.used ≤ turns → IsWithin (played_of new turns)
   within_tried (Ok true) is turns within in_turns = within_step old new program hosted q is turns within in_turns
-  within_tried (Ok false) is turns within in_turns = within_still old new turns program (unchanged old.run new.run is.1) within
-  within_tried (Err want) is turns within in_turns = within_still old new turns program (unchanged old.run new.run is) within
+  within_tried (Ok false) is turns within in_turns = within_still old new turns program (unchanged old.run new.run is.1) (made_same old.program old.run new.run is.1 within.made) within
+  within_tried (Err want) is turns within in_turns = within_still old new turns program (unchanged old.run new.run is) (made_same old.program old.run new.run is within.made) within

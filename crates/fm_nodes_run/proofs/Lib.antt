@@ -1,3 +1,4 @@
 mod Costs
 mod Keeping
+mod Made
 mod Runs

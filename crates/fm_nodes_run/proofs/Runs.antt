@@ -18,7 +18,9 @@ use Rattle.fm_nodes_rounds.specs.declared.driving.Driven.{Driven}
 use Rattle.fm_nodes_rounds.specs.declared.driving.Driven.TheVariants as driven
 use Rattle.fm_nodes.specs.Nodes.{Hosted, IsHosted}
 use Rattle.fm_nodes_run.specs.Ends.{EndsAs}
+use Rattle.fm_nodes_run.specs.Made.{GoesByLinks}
 use Rattle.fm_nodes_run.specs.Played.{IsWithin, played_of}
+use Rattle.fm_nodes_run.proofs.Made.{links_of}
 
 -- no process has a step any more, within the turns, where the rounds say so; and they cost more where it is said that they are spent
 abbrev pub IsOverAt : Hosted → (turns : ℕ) → Driven → Type 0
@@ -53,3 +55,11 @@ comes_to_run h turns hosted within d over r history paths told =
           (subst (λ (ps : List Place). IsFrontWithin h.program turns h.run.history ps) (sym paths) within.front_within);
       ends = ends h turns played.choices played.there played.used_is d r.ending over told;
     }
+
+-- and it came of events over links
+pub goes_by_links : (h : Hosted) (turns : ℕ) → IsHosted h → IsWithin (played_of h turns) → (r : run.Run) → r.history.items ≡ h.run.history → places_of r.paths.items ≡ h.run.order → GoesByLinks h.program r
+goes_by_links h turns hosted within r history paths = record {
+  events = within.made.events;
+  steps = ap₂ (λ (hs : List Turn) (ps : List Place). choices_of hs ps) history paths ∙ within.made.steps;
+  links = links_of h.program hosted.plain within.made.events;
+}

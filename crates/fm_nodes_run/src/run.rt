@@ -10,6 +10,7 @@ ghost use Rattle.fm_run.specs.Programs.{IsRun};
 ghost use Rattle.fm_nodes_plain.specs.Lines.{IsFirstUnplain, IsPlainVerdict};
 ghost use Rattle.fm_nodes.specs.Fails.{OnNotPlain};
 ghost use Rattle.fm_nodes_run.specs.Ends.{EndsAs};
+ghost use Rattle.fm_nodes_run.specs.Made.{GoesByLinks};
 
 use crate::playing::Playing;
 use fm_base::{NoMemory, Plan};
@@ -55,7 +56,8 @@ fn ending_of(nodes: &Nodes, driven: Driven) -> Result<Ending, NoMemory>
 fn run_in(playing: Playing, driven: Driven) -> Result<Run, NoMemory>
     requires ended { driven ≡ Driven.Ended → IsFinal (step playing.hosted.program) (state_of playing.hosted.run.hosts) × (playing.hosted.run.used ≤ playing.turns) }
     requires spent { driven ≡ Driven.Spent → playing.turns < playing.hosted.run.used }
-    ensures { IfOk result (λ r. IsRun playing.hosted.program playing.turns r) }
+    ensures run { IfOk result (λ r. IsRun playing.hosted.program playing.turns r) }
+    ensures links { IfOk result (λ r. GoesByLinks playing.hosted.program r) }
 {
     let nodes = playing.into_nodes();
     nodes.is_played();
@@ -72,14 +74,16 @@ fn run_in(playing: Playing, driven: Driven) -> Result<Run, NoMemory>
 fn drive_nodes(alloc: Global, nodes: Nodes, number: u64, turns: u64) -> Result<Run, NoMemory>
     requires first { nodes.run ≡ first_run (first_proc nodes.program) }
     requires turns { turns ≤ 1000000000 }
-    ensures { IfOk result (λ r. IsRun nodes.program turns r) }
+    ensures run { IfOk result (λ r. IsRun nodes.program turns r) }
+    ensures links { IfOk result (λ r. GoesByLinks nodes.program r) }
 {
     let mut playing = Playing::new(alloc, nodes, turns);
     let driven = drive(alloc, &mut playing, seed_of(number), turns)?;
     run_in(playing, driven)
 }
 
-/// The run of a program on 1 + N mod 4 hosts, whose rounds lose and repeat packets by the number N; or why there is none.
+/// The run of a program on 1 + N mod 4 hosts, whose rounds lose and repeat packets by the number N; or why there is none. Over each
+/// channel it goes by a link: what its reader took is a prefix of what its writer sent.
 pub fn run_on_hosts(
     alloc: Global,
     program: Arc<Program>,
@@ -89,6 +93,7 @@ pub fn run_on_hosts(
 ) -> Result<Run, NodesFail>
     requires { turns ≤ 1000000000 }
     ensures run { IfOk result (λ r. IsRun (arc_value program) turns r) }
+    ensures links { IfOk result (λ r. GoesByLinks (arc_value program) r) }
     ensures plain { IfOk result (λ r. ∥ IsPlainVerdict (arc_value program) None ∥₁) }
     ensures not_plain { IfErr result (λ e. OnNotPlain e (λ line. ∥ IsFirstUnplain (arc_value program) line ∥₁)) }
 {
