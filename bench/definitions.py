@@ -16,6 +16,7 @@ Of FOLDER, by default of this repository:
 
 Prints what is wrong, and has status 1 then.
 """
+import functools
 import glob
 import os
 import re
@@ -37,6 +38,7 @@ HEAD = re.compile(r"^( *)(pub )?fn (\w+)")
 WANT = re.compile(r"-> .*(?:NoMemory|AllocFailed|ReadFail)\b")
 
 
+@functools.cache
 def read(path):
     with open(path, encoding="utf-8") as file:
         return file.read()
@@ -100,6 +102,13 @@ def wrong_places(folder, below):
                     yield f"{os.path.basename(path)}: {crate} has no {word}"
 
 
+@functools.cache
+def words_of_definitions(folder):
+    """The words of all files of definitions."""
+    return set(re.findall(r"\w+", "".join(map(read, glob.glob(f"{folder}/crates/*/specs/*.antt")))))
+
+
+@functools.cache
 def clauses(folder):
     """Of each function of the crates the names of its clauses, those of functions of one name together."""
     found, last = {}, set()
@@ -114,8 +123,7 @@ def clauses(folder):
 
 def wrong_promises(folder, name, page):
     """What the rows of a page cite that isn't there: a call, or a clause of none of the row's calls."""
-    found = clauses(folder)
-    words = set(re.findall(r"\w+", "".join(read(path) for path in glob.glob(f"{folder}/crates/*/specs/*.antt"))))
+    found, words = clauses(folder), words_of_definitions(folder)
     for cells in rows(page):
         if len(cells) < 3:
             continue
