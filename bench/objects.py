@@ -25,7 +25,7 @@ import check
 TOP = os.path.dirname(os.path.dirname(os.path.abspath(__file__)))
 PROGRAMS = "loop", "cross", "matrix", "calls"
 MOST_OF_RUN, MOST_GROWTH = 1.05, 13
-VERIFIES = "fm_verified::"
+VERIFIES = "fm_verify::"
 
 
 def counted(binary, words, text, name=None):

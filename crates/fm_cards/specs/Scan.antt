@@ -1,5 +1,6 @@
 -- What the reader of rows does step by step, and what it gives with the rows that are left. No contract of a public
 -- function names this file: proofs/ScanLaws leads from here to the definitions.
+-- Source: this profile, after ANSI X3.9-1978, section 3 (lines and statements).
 use Rattle.std.specs.Prelude.{ℕ, ◌+◌, ◌-◌, ◌*◌, Bool, false, not, Option, Some, None, List, [], ◌∷◌, ◌++◌, map, drop, take, ◌==◌, if◌then◌else◌}
 use Rattle.std.specs.List.{flat_map}
 use Rattle.std.specs.Char.{to_ascii_uppercase}

@@ -42,8 +42,8 @@
 --   Begin                                                                      the next address
 --   Stop, Join                                                                 Join: its address
 --
--- Words are told of a Word (Word in s) only where the frame has so many. Send, Receive, Merger and Cut take operands that stand above
--- the port's place.
+-- Where the frame has all words of a span s, a Word can be known to be the number of one of them (Word in s). Send, Receive, Merger and
+-- Cut take a port's place, and the operands that stand above it.
 --
 -- An instruction that ends its statement takes all that is left but results. The list where it goes is empty; where Refer goes,
 -- the results stand there, and one more.

@@ -1,3 +1,5 @@
+mod Payments
+mod Shapes
 mod Lists
 mod Kept
 mod Spelled

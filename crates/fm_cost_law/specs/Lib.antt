@@ -1,2 +1,4 @@
+pub mod Quiet
+pub mod Shapes
 pub mod Words
 pub mod Steps

@@ -17,7 +17,7 @@ use Rattle.fm_symbols.specs.declared.context.Context.{Context}
 use Rattle.fm_rules.specs.declared.calls.Call.{Call}
 use Rattle.fm_rules.specs.Calls.{all_calls, call_graph, graph_of, target_of}
 use Rattle.fm_rules.specs.Recursion.{IsRecursion}
-use Rattle.fm_calls.specs.Components.{same_name}
+use Rattle.fm_call_graph.specs.Components.{same_name}
 use Rattle.fm_det.specs.Search.{all_back_calls, back_calls, is_back}
 use Rattle.fm_rules.proofs.Lists.{at_head, behind_head, head_or_behind, in_map, not_in_none}
 

@@ -14,8 +14,8 @@ use Rattle.fm_rules.specs.declared.calls.Call.{Call}
 use Rattle.fm_rules.specs.Calls.{all_calls, call_graph, calls_of, graph_of, target_of}
 use Rattle.fm_rules.specs.Main.{main_of}
 use Rattle.fm_rules.specs.Race.{IsRace, IsRaceVerdict, is_racy}
-use Rattle.fm_calls.specs.Least.{lower_if}
-use Rattle.fm_calls.proofs.Lowest.{IsLowest, lowest_if, lowest_same}
+use Rattle.fm_call_graph.specs.Least.{lower_if}
+use Rattle.fm_call_graph.proofs.Lowest.{IsLowest, lowest_if, lowest_same}
 use Rattle.fm_det.specs.Search.{racy_from, racy_in, racy_in_unit}
 use Rattle.fm_rules.proofs.Lists.{at_head, behind_head, head_or_behind, not_in_none, some_same}
 

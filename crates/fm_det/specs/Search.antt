@@ -1,4 +1,5 @@
 -- What is looked through for the least place.
+-- Source: this profile.
 use Rattle.std.specs.Prelude.{ℕ, ◌+◌, Bool, false, if◌then◌else◌, Option, List, [], ◌∷◌, ◌++◌, slice_get, slice_index_or}
 use Rattle.fm_base.specs.declared.name.Line.{Line}
 use Rattle.fm_base.specs.declared.rule.Refusal.{Refusal}
@@ -9,8 +10,8 @@ use Rattle.fm_tree.specs.declared.program_unit.Unit.{Unit}
 use Rattle.fm_symbols.specs.declared.context.Scope.{Scope}
 use Rattle.fm_rules.specs.declared.calls.Call.{Call}
 use Rattle.fm_rules.specs.Race.{is_racy}
-use Rattle.fm_calls.specs.Components.{same_name}
-use Rattle.fm_calls.specs.Least.{lower_if}
+use Rattle.fm_call_graph.specs.Components.{same_name}
+use Rattle.fm_call_graph.specs.Least.{lower_if}
 
 -- the call leads back to its unit
 abbrev pub is_back : List ℕ → ℕ → Call → Bool

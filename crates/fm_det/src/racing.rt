@@ -2,11 +2,11 @@
 
 ghost use Rattle.std.specs.Prelude.{◌≡◌, None, slice_get, IfOk};
 ghost use Rattle.fm_rules.specs.Race.{are_several, is_array_symbol, is_racy, is_whole_array, names_array, IsRaceVerdict};
-ghost use Rattle.fm_calls.specs.Least.{lower_if};
+ghost use Rattle.fm_call_graph.specs.Least.{lower_if};
 ghost use Rattle.fm_det.specs.Search.{racy_from, racy_in, racy_in_unit};
 
 use fm_base::{Line, Name, NoMemory};
-use fm_calls::{all_calls, flag_at, graph_of, lower_if};
+use fm_call_graph::{all_calls, flag_at, graph_of, lower_if};
 use fm_graph::reached;
 use fm_rules::main_of;
 use fm_symbols::{Context, Symbol};

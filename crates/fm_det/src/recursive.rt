@@ -7,7 +7,7 @@ ghost use Rattle.fm_rules.specs.Recursion.{IsRecursion};
 ghost use Rattle.fm_det.specs.Search.{all_back_calls, back_calls, is_back};
 
 use fm_base::{NoMemory, Refusal, Rule, Seq, keep_earlier};
-use fm_calls::{all_calls, graph_of, same_name};
+use fm_call_graph::{all_calls, graph_of, same_name};
 use fm_graph::components;
 use fm_rules::Call;
 use fm_symbols::Context;

@@ -3,7 +3,7 @@ use Rattle.std.proofs.Common.{◌≡◌, ℕ, zero, suc, List, refl, subst}
 use Rattle.fm_object.specs.declared.image.Image.{Image}
 use Rattle.fm_object.specs.Texts.{IsObjectText}
 use Rattle.fm_object.proofs.MalformedLaws.{one_object_text}
-use Rattle.fm_verify_law.specs.Typed.{IsBad, One, Typed, UnitIsTyped, Whole}
+use Rattle.fm_image_typed.specs.Typed.{IsBad, One, Typed, UnitIsTyped, Whole}
 use Rattle.fm_image_law.proofs.Laid.{one_of}
 use Rattle.fm_execute.specs.declared.fail.ExecuteFail.{ExecuteFail}
 use Rattle.fm_execute.specs.declared.fail.ExecuteFail.TheVariants as fails

@@ -3,9 +3,9 @@
 use Rattle.std.specs.Prelude.{◌≡◌, ℕ, List, Result, Ok, Err}
 use Rattle.fm_object.specs.declared.image.Image.{Image}
 use Rattle.fm_object.specs.Texts.{IsFirstMalformed}
-use Rattle.fm_verify_law.specs.Typed.{IsBad}
+use Rattle.fm_image_typed.specs.Typed.{IsBad}
 use Rattle.fm_run.specs.declared.run.Run.{Run}
-use Rattle.fm_image_play.specs.Executed.{IsRunOf, IsUnverified}
+use Rattle.fm_execute_image.specs.Executed.{IsRunOf, IsUnverified}
 use Rattle.fm_execute.specs.declared.fail.ExecuteFail.{ExecuteFail}
 use Rattle.fm_execute.specs.declared.fail.ExecuteFail.TheVariants as fails
 

@@ -5,8 +5,8 @@ use Rattle.fm_object.specs.declared.image.Image.{Image}
 use Rattle.fm_proc_language.specs.Needs.{is_local, need_of}
 use Rattle.fm_proc_language.specs.Processes.{CodeProc, has_ended}
 use Rattle.fm_procs.specs.Readings.{awaits}
-use Rattle.fm_image_play.specs.Play.{IsBare, IsLive, good_play}
-use Rattle.fm_image_play.proofs.Played.{lawful_play, live_alike, needs_alike}
+use Rattle.fm_execute_image.specs.Play.{IsBare, IsLive, good_play}
+use Rattle.fm_execute_image.proofs.Played.{lawful_play, live_alike, needs_alike}
 use Rattle.fm_run_code.specs.Coded.{IsCoded}
 
 pub image_coded : (i : Image) → IsCoded (good_play i) (IsBare i) (IsLive i)

@@ -1,17 +1,17 @@
 //! Executes an image.
 
 ghost use Rattle.std.specs.Prelude.{[], IfOk};
-ghost use Rattle.fm_image_play.specs.Play.{image_play};
+ghost use Rattle.fm_execute_image.specs.Play.{image_play};
 ghost use Rattle.fm_run.specs.Orders.{places_of};
 ghost use Rattle.fm_run.specs.Runs.{Follows, IsRun};
 ghost use Rattle.fm_run_law.specs.Fair.{IsFair};
-ghost use Rattle.fm_image_play.specs.Executed.{IsNeverStuck};
+ghost use Rattle.fm_execute_image.specs.Executed.{IsNeverStuck};
 
 use crate::images::Images;
 use fm_base::NoMemory;
 use fm_run::{Run, run_program};
 use fm_run_code::CodeNet;
-use fm_verified::Verified;
+use fm_verify::Verified;
 use std::alloc::Global;
 
 /// How many local steps a piece has at most.

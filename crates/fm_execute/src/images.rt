@@ -1,14 +1,14 @@
 //! Images that make sense, as a kind of source of what runs as stack code.
 
-ghost use Rattle.fm_image_play.specs.Play.{IsBare, IsLive, good_play};
+ghost use Rattle.fm_execute_image.specs.Play.{IsBare, IsLive, good_play};
 ghost use Rattle.fm_execute.specs.Coded.{image_coded};
 
 use fm_base::NoMemory;
-use fm_image_play::{first_stacks, outcome};
+use fm_execute_image::{first_stacks, outcome};
 use fm_mean::Outcome;
 use fm_procs::CodeProcs;
 use fm_run_code::Coded;
-use fm_verified::Verified;
+use fm_verify::Verified;
 use std::alloc::Global;
 
 /// Images that make sense.

@@ -3,16 +3,16 @@
 ghost use Rattle.std.specs.Prelude.{◌≡◌, ◌<◌, ◌^◌, IfErr, IfOk, length};
 ghost use Rattle.fm_object.specs.declared.image.Image as declared_image;
 ghost use Rattle.fm_object.specs.Texts.{IsObjectText};
-ghost use Rattle.fm_verify_law.specs.Typed.{Typed};
+ghost use Rattle.fm_image_typed.specs.Typed.{Typed};
 ghost use Rattle.fm_execute.specs.declared.fail.ExecuteFail.TheVariants as fails;
-ghost use Rattle.fm_image_play.specs.Executed.{IsExecuted};
+ghost use Rattle.fm_execute_image.specs.Executed.{IsExecuted};
 ghost use Rattle.fm_execute.specs.Causes.{IsCause, IsRefused, RunsIt};
 
 use crate::executing::execute;
 use crate::fail::ExecuteFail;
 use fm_object::{Image, ObjectFail, read};
 use fm_run::Run;
-use fm_verified::{Verified, VerifyFail, verify};
+use fm_verify::{Verified, VerifyFail, verify};
 use std::alloc::Global;
 
 // The image whose text the bytes are.

@@ -8,7 +8,7 @@ use Rattle.fm_run.specs.declared.run.Ending.TheVariants.{Ended, Spent}
 use Rattle.fm_run.specs.declared.run.Run.{Run}
 use Rattle.fm_run.specs.Plays.{Play, first, step}
 use Rattle.fm_run.specs.Runs.{EndsSo, IsRun}
-use Rattle.fm_image_play.proofs.Runs.{same_cost}
+use Rattle.fm_execute_image.proofs.Runs.{same_cost}
 
 module _ (p q : Play) (Relates : q.Proc → p.Proc → Type 0) (IsLive : State p.Proc → Type 0) (alike : AreAlike Relates IsLive p.speaks q.speaks)
     (begins : StandsFor Relates IsLive (first q) (first p)) (shows : (used : ℕ) (s : State p.Proc) (t : State q.Proc) → StandsFor Relates IsLive t s → p.shows used s ≡ q.shows used t)

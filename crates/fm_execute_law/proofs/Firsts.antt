@@ -25,9 +25,9 @@ use Rattle.fm_image.specs.Types.{types_of}
 use Rattle.fm_gen.specs.Programs.{code_of}
 use Rattle.fm_gen.specs.Units.{unit_of_code}
 use Rattle.fm_gen.proofs.ProgramLaws.{unit_there}
-use Rattle.fm_verify.proofs.Codes.{same_code, unit_same}
-use Rattle.fm_verify.proofs.Images.{all_coded, as_many}
-use Rattle.fm_verify_law.specs.Typed.{nodes}
+use Rattle.fm_compile_law.proofs.Codes.{same_code, unit_same}
+use Rattle.fm_compile_law.proofs.Images.{all_coded, as_many}
+use Rattle.fm_image_typed.specs.Typed.{nodes}
 use Rattle.fm_image_law.specs.Image as law
 use Rattle.fm_image_law.specs.Image.{main_from}
 use Rattle.fm_outcome_code.specs.Shown as own

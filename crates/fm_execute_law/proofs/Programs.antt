@@ -23,8 +23,8 @@ use Rattle.fm_run.proofs.Programs.{law_of}
 use Rattle.fm_run_law.specs.Alike.{FollowsAs, RunsAs}
 use Rattle.fm_run_law.specs.Fair.{IsRunInTurn}
 use Rattle.fm_run_law.proofs.Reached.{run_is_fair}
-use Rattle.fm_image_play.specs.Play.{image_play}
-use Rattle.fm_verify.proofs.Makes.{makes_sense}
+use Rattle.fm_execute_image.specs.Play.{image_play}
+use Rattle.fm_compile_law.proofs.Makes.{makes_sense}
 use Rattle.fm_execute_law.specs.Compiled.{ExecutesAs, IsTextOf}
 use Rattle.fm_execute_law.proofs.Back.{run_back}
 use Rattle.fm_execute_law.proofs.Firsts.{first_same}

@@ -6,7 +6,7 @@ use Rattle.fm_object.specs.declared.image.Cell.{Cell}
 use Rattle.fm_object.specs.declared.image.Image.{Image}
 use Rattle.fm_object.specs.declared.image.UnitImage.{UnitImage}
 use Rattle.fm_object.specs.Texts.{AreNamed, CellFits, EntryFits, FieldFits, HasNames, InstrFits, IsImage, IsObjectText, IsShort, ListFits, UnitFits, cell_text, entry_text, extent_text, field_text, head_text, instr_text, number, object_text, type_text, types_line, unit_line, unit_text, units_line}
-use Rattle.fm_verify_law.specs.Typed.{CellsAreTyped, Typed, UnitIsTyped}
+use Rattle.fm_image_typed.specs.Typed.{CellsAreTyped, Typed, UnitIsTyped}
 use Rattle.fm_execute_law.proofs.SameLines.{Anything, IsNamed, Tells, all_tell, any_all, cell_tells, entry_tells, extent_tells, field_tells, instr_tells, same_line}
 use Rattle.fm_execute_law.proofs.SameWords.{same_keyword}
 

@@ -12,7 +12,7 @@ use Rattle.fm_run.specs.Pieces.{IsFull, after_steps, is_local_at, is_local_in}
 use Rattle.fm_run.specs.Plays.{Play, first, language, step}
 use Rattle.fm_run.specs.Runs.{Follows, FollowsFrom, Stand, after_entry, first_stand, place_of, steps_of}
 use Rattle.fm_run_law.proofs.Pieces.{legal_part}
-use Rattle.fm_image_play.proofs.Following.{same_tail}
+use Rattle.fm_execute_image.proofs.Following.{same_tail}
 
 module _ (p q : Play) (Relates : q.Proc → p.Proc → Type 0) (IsLive : State p.Proc → Type 0) (alike : AreAlike Relates IsLive p.speaks q.speaks)
     (begins : StandsFor Relates IsLive (first q) (first p))

@@ -20,9 +20,9 @@ use Rattle.fm_image.specs.ImageOf.{cells_image, image_of, units_image}
 use Rattle.fm_image.specs.Types.{kind_number, types_of}
 use Rattle.fm_gen_relation.specs.Standing.{item_by, values_in}
 use Rattle.fm_gen.specs.Programs.{code_of}
-use Rattle.fm_verify.proofs.Images.{all_coded, as_many}
+use Rattle.fm_compile_law.proofs.Images.{all_coded, as_many}
 use Rattle.fm_proc_language.specs.Slots.{Slots, port_in}
-use Rattle.fm_image_play.specs.Outcome.{cell_shown, cells_in, cells_shown, frame_shown, words_shown}
+use Rattle.fm_execute_image.specs.Outcome.{cell_shown, cells_in, cells_shown, frame_shown, words_shown}
 
 abbrev entry : List ℕ → Shown → List ℕ × Shown
 entry name x = (name, x)

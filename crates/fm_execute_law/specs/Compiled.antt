@@ -5,7 +5,7 @@ use Rattle.fm_rules.specs.declared.program.Program.{Program}
 use Rattle.fm_gen.specs.Programs.{code_of}
 use Rattle.fm_image.specs.ImageOf.{NamesAreNames, image_of}
 use Rattle.fm_object.specs.Texts.{object_text}
-use Rattle.fm_image_play.specs.Executed.{IsExecuted}
+use Rattle.fm_execute_image.specs.Executed.{IsExecuted}
 use Rattle.fm_run.specs.Programs.{play_of}
 use Rattle.fm_run.specs.declared.run.Run.{Run}
 use Rattle.fm_run_law.specs.Fair.{IsRunInTurn}

@@ -1,6 +1,6 @@
 //! What is executed of a program's image is a run of the program.
 //!
-//! An image is run by what it says (`fm_image_play`), and a program by its meaning. Where the image is that of a program and its code the
+//! An image is run by what it says (`fm_execute_image`), and a program by its meaning. Where the image is that of a program and its code the
 //! two do and show the same. A text is that of one image, so what is executed of the text that was compiled of a program is a run of the
 //! program, whether or not the numbers of that image are known to be within their ranges. Each function here has an empty body: its
 //! contract is a law.
@@ -14,13 +14,13 @@ ghost use Rattle.fm_mean.specs.Names.{unit_at};
 ghost use Rattle.fm_mean.specs.Outcome.{shown_of};
 ghost use Rattle.fm_object.specs.declared.image.Image as declared_image;
 ghost use Rattle.fm_object.specs.Texts.{IsObjectText, object_text};
-ghost use Rattle.fm_verify_law.specs.Typed.{Typed};
+ghost use Rattle.fm_image_typed.specs.Typed.{Typed};
 ghost use Rattle.fm_image.specs.ImageOf.{image_of};
 ghost use Rattle.fm_gen_relation.specs.Standing.{values_in};
 ghost use Rattle.fm_gen.specs.Programs.{code_of};
 ghost use Rattle.fm_proc_language.specs.Slots.{Slots, port_in};
-ghost use Rattle.fm_image_play.specs.Outcome.{frame_shown};
-ghost use Rattle.fm_image_play.specs.Play.{image_play};
+ghost use Rattle.fm_execute_image.specs.Outcome.{frame_shown};
+ghost use Rattle.fm_execute_image.specs.Play.{image_play};
 ghost use Rattle.fm_run.specs.Programs.{play_of};
 ghost use Rattle.fm_run_law.specs.Alike.{FollowsAs, RunsAs};
 ghost use Rattle.fm_execute_law.specs.Compiled.{ExecutesAs, IsTextOf};

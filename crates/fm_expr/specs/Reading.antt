@@ -1,5 +1,6 @@
 -- The machine of this crate's reader, which goes over the tokens once and keeps what stands open on a stack. It is
 -- private: what it finds is said in Longest.
+-- Source: the usual reader of expressions with a stack (operator precedence), for the operators of ANSI X3.9-1978, section 6.
 use Rattle.std.specs.Prelude.{ℕ, ◌+◌, Bool, true, false, Option, Some, None, List, [], ◌∷◌, ◌++◌, reverse, nat_lt, nat_le, if◌then◌else◌}
 use Rattle.fm_base.specs.declared.token.Op.{Op}
 use Rattle.fm_base.specs.declared.token.Op.TheVariants as ops

@@ -14,8 +14,8 @@ use Rattle.fm_tree.specs.declared.statement.Stmt.TheVariants as stmt
 use Rattle.fm_symbols.specs.ByName.{ByName}
 use Rattle.fm_symbols.specs.declared.names.Variable.{Variable}
 use Rattle.fm_rules.proofs.Lists.{at_head, behind_head, head_or_behind, not_in_none}
-use Rattle.fm_calls.specs.Least.{lower_if}
-use Rattle.fm_calls.proofs.Lowest.{IsLowest, lowest_if, lowest_same}
+use Rattle.fm_call_graph.specs.Least.{lower_if}
+use Rattle.fm_call_graph.proofs.Lowest.{IsLowest, lowest_if, lowest_same}
 use Rattle.fm_mean.specs.Names.{ProgramUnit, same_name}
 use Rattle.fm_mean.proofs.Members.{name_is, same_names}
 use Rattle.fm_flow_law.specs.Flow.{DeclaresWidePort, any_bounded, any_port, is_port, is_wide, names_port, sends_ports}

@@ -10,8 +10,8 @@ use Rattle.fm_graph.proofs.Reach.{reach_edge}
 use Rattle.fm_tree.specs.declared.program_unit.Entry.{Entry}
 use Rattle.fm_rules.specs.declared.program.Program.{Program}
 use Rattle.fm_rules.proofs.Lists.{at_head, behind_head, head_or_behind, not_in_none, some_same}
-use Rattle.fm_calls.specs.Least.{lower_if}
-use Rattle.fm_calls.proofs.Lowest.{IsLowest, lowest_same}
+use Rattle.fm_call_graph.specs.Least.{lower_if}
+use Rattle.fm_call_graph.proofs.Lowest.{IsLowest, lowest_same}
 use Rattle.fm_mean.specs.Names.{ProgramUnit, main_number, unit_at}
 use Rattle.fm_mean.proofs.MainUnit.{main_there}
 use Rattle.fm_flow_law.specs.Cycles.{IsOnCycle}

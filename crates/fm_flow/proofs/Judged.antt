@@ -5,7 +5,7 @@ use Rattle.fm_base.specs.declared.name.Line.{Line}
 use Rattle.fm_tree.specs.declared.program_unit.Entry.{Entry}
 use Rattle.fm_tree.specs.declared.statement.Stmt.{Stmt}
 use Rattle.fm_tree.specs.declared.statement.Stmt.TheVariants as stmt
-use Rattle.fm_calls.specs.Least.{lower_if}
+use Rattle.fm_call_graph.specs.Least.{lower_if}
 use Rattle.fm_rules.specs.declared.program.Program.{Program}
 use Rattle.fm_mean.specs.Names.{ProgramUnit, unit_at}
 use Rattle.fm_mean.proofs.Sorts.{named_at}

@@ -15,7 +15,7 @@ use Rattle.fm_rules.specs.declared.program.Program.{Program}
 use Rattle.fm_rules.specs.FunctionTitles as facts
 use Rattle.fm_rules.specs.Names.{unit_names}
 use Rattle.fm_rules.proofs.Lists.{at_head, behind_head, head_or_behind, in_map, not_in_none, some_same}
-use Rattle.fm_calls.specs.Components.{same_name}
+use Rattle.fm_call_graph.specs.Components.{same_name}
 use Rattle.fm_mean.specs.Names.{ProgramUnit, context, unit_at, unit_with}
 use Rattle.fm_mean.proofs.Unbroken.{Unbroken, from_rules}
 use Rattle.fm_flow_law.specs.Flow.{Makes, calls_inside, is_making, keeps_outport}

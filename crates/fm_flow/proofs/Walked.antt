@@ -4,8 +4,8 @@ use Rattle.std.proofs.lemmas.List.{append-nil}
 use Rattle.fm_base.specs.declared.name.Line.{Line}
 use Rattle.fm_tree.specs.declared.program_unit.Entry.{Entry}
 use Rattle.fm_rules.proofs.Lists.{some_same}
-use Rattle.fm_calls.specs.Least.{lower_if}
-use Rattle.fm_calls.proofs.Lowest.{IsLowest, lowest_if, lowest_same}
+use Rattle.fm_call_graph.specs.Least.{lower_if}
+use Rattle.fm_call_graph.proofs.Lowest.{IsLowest, lowest_if, lowest_same}
 
 -- what is known goes on from entry to entry, and a test of it tells whether an entry counts
 abbrev pub walk : {S : Type 0} → (test : S → Entry → Bool) (next : S → Entry → S) → S → Option Line → List Entry → Option Line

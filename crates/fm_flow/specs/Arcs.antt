@@ -1,7 +1,7 @@
 -- Graphs by lists of arcs.
 -- Source: this profile.
 use Rattle.std.specs.Prelude.{ℕ, Bool, List, [], ◌∷◌, ◌++◌, replicate, slice_get, slice_index_or, slice_set}
-use Rattle.fm_calls.specs.Components.{same_name}
+use Rattle.fm_call_graph.specs.Components.{same_name}
 
 abbrev pub with_arc : List (List ℕ) → ℕ × ℕ → List (List ℕ)
 with_arc g arc = slice_set g arc.0 (slice_index_or g arc.0 [] ++ arc.1 ∷ [])

@@ -10,7 +10,7 @@ use Rattle.fm_tree.specs.declared.statement.Stmt.{Stmt}
 use Rattle.fm_tree.specs.declared.statement.Stmt.TheVariants as stmt
 use Rattle.fm_symbols.specs.ByName.{ByName}
 use Rattle.fm_symbols.specs.declared.names.Variable.{Variable}
-use Rattle.fm_calls.specs.Least.{lower_if}
+use Rattle.fm_call_graph.specs.Least.{lower_if}
 use Rattle.fm_rules.specs.declared.program.Program.{Program}
 use Rattle.fm_mean.specs.Names.{ProgramUnit}
 use Rattle.fm_flow_law.specs.Flow.{channel_in, channel_out, channel_ports, given, is_once, is_port, is_processes, is_simple, any_bounded, sends_ports, started}

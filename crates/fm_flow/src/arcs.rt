@@ -4,7 +4,7 @@ ghost use Rattle.std.specs.Prelude.{◌≡◌, ◌+◌, [], replicate, OnOk, IfO
 ghost use Rattle.fm_flow.specs.Arcs.{graph_by, is_together, with_arc};
 
 use fm_base::{NoMemory, Seq};
-use fm_calls::same_name;
+use fm_call_graph::same_name;
 use std::alloc::Global;
 
 /// The number of a node.

@@ -8,7 +8,7 @@ ghost use Rattle.fm_flow.specs.Walks.{any_key, is_wide_by, ports_from, wide_from
 
 use crate::ports::is_port;
 use fm_base::{Line, NoMemory};
-use fm_calls::lower_if;
+use fm_call_graph::lower_if;
 use fm_finmap::NameMap;
 use fm_symbols::Variable;
 use fm_tree::{Bound, Decl, Field, Kind, Placed, PortType, Stmt};

@@ -3,7 +3,7 @@
 ghost use Rattle.std.specs.Prelude.{◌≡◌, false, true, slice_set};
 ghost use Rattle.fm_flow.specs.Marks.{all_flags, any_flag, comes_again, marked};
 
-use fm_calls::flag_at;
+use fm_call_graph::flag_at;
 
 fn mark(flags: &mut Vec<bool>, number: usize)
     ensures { flags.new.items ≡ slice_set flags.old.items number true }

@@ -9,7 +9,7 @@ ghost use Rattle.fm_flow.specs.Walks.{arcs_back, arcs_to, body_arcs, entry_arcs,
 use crate::arcs::{graph_by, is_together, node};
 use crate::ports::{channel_in, channel_out, given};
 use fm_base::{Line, NoMemory, Seq};
-use fm_calls::lower_if;
+use fm_call_graph::lower_if;
 use fm_graph::components;
 use fm_plain_frame::UnitView;
 use fm_tree::{Entry, Stmt};

@@ -10,7 +10,7 @@ ghost use Rattle.fm_flow.specs.Walks.{foreign_from, is_foreign_at, is_risky_at, 
 use crate::marks::{all_flags, any_flag, comes_again, mark_all};
 use crate::ports::{channel_out, channel_ports, given};
 use fm_base::{Line, NoMemory};
-use fm_calls::{flag_at, lower_if};
+use fm_call_graph::{flag_at, lower_if};
 use fm_plain_frame::{UnitView, unit_named};
 use fm_tree::{Entry, Simple, Stmt};
 use std::alloc::Global;

@@ -8,7 +8,7 @@ ghost use Rattle.fm_flow.specs.Units.{any_making, arcs_from, call_arc, is_risky,
 use crate::arcs::{graph_by, is_together, node};
 use crate::ports::is_outport;
 use fm_base::{NoMemory, Seq};
-use fm_calls::all_calls;
+use fm_call_graph::all_calls;
 use fm_graph::components;
 use fm_rules::{Call, Program};
 use fm_symbols::{UnitNames, Variable};

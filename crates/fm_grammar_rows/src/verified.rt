@@ -1,7 +1,7 @@
 //! Objects judged: one of a program with a process and a function, and the same with one line bent.
 
 use fm_object::read;
-use fm_verified::{VerifyFail, verify};
+use fm_verify::{VerifyFail, verify};
 use std::test::Fail;
 
 // A PROGRAM that starts a process, receives a number from it, gives it to a function, and prints what that gives.

@@ -1,4 +1,5 @@
 -- What a node reaches, while it is looked for: flags of the nodes that are seen, and nodes to be looked at.
+-- Source: the usual search of a graph with marks and a list of nodes to visit.
 use Rattle.std.specs.Prelude.{◌≡◌, ℕ, ◌+◌, ◌<◌, ◌⊎◌, Bool, true, false, if◌then◌else◌, List, [], ◌∷◌, ◌++◌, length, slice_index_or, slice_set, Contains}
 use Rattle.fm_graph.specs.Graph.{IsEdge, Reaches, edges_of}
 

@@ -9,19 +9,19 @@ use Rattle.fm_code_kinds.specs.Effects.{cells_of}
 use Rattle.fm_code_kinds.specs.Shapes.{words_of}
 use Rattle.fm_object.specs.declared.image.Image.{Image}
 use Rattle.fm_object.specs.declared.image.UnitImage.{UnitImage}
-use Rattle.fm_verify_law.specs.Codes.{code_of, unit_of}
-use Rattle.fm_verify_law.specs.Shapes.{shape_of, shapes_of}
-use Rattle.fm_verify_law.specs.Typed.{Typed}
-use Rattle.fm_code_keeps.specs.Rooms.{cells_at, is_port_word}
-use Rattle.fm_code_keeps.specs.Standing.{HasWords, IsStanding}
-use Rattle.fm_code_keeps.specs.Weights.{body_ports, weight}
-use Rattle.fm_code_keeps.proofs.Masks.{masked_small, nulls_weigh, weight-append}
-use Rattle.fm_code_keeps.proofs.Sorted.{frame_weighs}
+use Rattle.fm_image_typed.specs.Codes.{code_of, unit_of}
+use Rattle.fm_image_typed.specs.Shapes.{shape_of, shapes_of}
+use Rattle.fm_image_typed.specs.Typed.{Typed}
+use Rattle.fm_code_preserves.specs.Rooms.{cells_at, is_port_word}
+use Rattle.fm_code_preserves.specs.Standing.{HasWords, IsStanding}
+use Rattle.fm_code_preserves.specs.Weights.{body_ports, weight}
+use Rattle.fm_code_preserves.proofs.Masks.{masked_small, nulls_weigh, weight-append}
+use Rattle.fm_code_preserves.proofs.Sorted.{frame_weighs}
 use Rattle.fm_proc_language.specs.Slots.{no_slots, port_in}
 use Rattle.fm_proc_language.specs.Processes.{Running, held}
-use Rattle.fm_proc_ports.specs.Moves.{same_word}
-use Rattle.fm_proc_ports.proofs.Children.{none_used}
-use Rattle.fm_proc_good.specs.Good.{BodyIsGood, HasGoodBody, IsGood}
+use Rattle.fm_proc_invariant.specs.Moves.{same_word}
+use Rattle.fm_proc_invariant.proofs.Children.{none_used}
+use Rattle.fm_proc_invariant.specs.Good.{BodyIsGood, HasGoodBody, IsGood}
 use Rattle.fm_image_law.specs.Image.{body_by, body_in, first_body, first_process, main_from}
 use Rattle.fm_image_law.proofs.Laid.{code_laid, there}
 

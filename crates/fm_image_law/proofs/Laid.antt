@@ -10,11 +10,11 @@ use Rattle.fm_code_kinds.specs.Shapes.{cell_span, is_word}
 use Rattle.fm_object.specs.declared.image.Cell as image_cell
 use Rattle.fm_object.specs.declared.image.Image.{Image}
 use Rattle.fm_object.specs.declared.image.UnitImage.{UnitImage}
-use Rattle.fm_verify_law.specs.Codes.{code_of, ports_of, unit_of}
-use Rattle.fm_verify_law.specs.Shapes.{addresses_of, cell_of, shape_of, shapes_of}
-use Rattle.fm_verify_law.specs.Typed.{BeginAt, CellsAreTyped, Typed, UnitIsTyped}
-use Rattle.fm_verify_law.proofs.Codes.{typed_code}
-use Rattle.fm_code_keeps.specs.Rooms.{AreLaid, IsLaidCode, IsLaidUnit, port_spans}
+use Rattle.fm_image_typed.specs.Codes.{code_of, ports_of, unit_of}
+use Rattle.fm_image_typed.specs.Shapes.{addresses_of, cell_of, shape_of, shapes_of}
+use Rattle.fm_image_typed.specs.Typed.{BeginAt, CellsAreTyped, Typed, UnitIsTyped}
+use Rattle.fm_image_typed.proofs.Codes.{typed_code}
+use Rattle.fm_code_preserves.specs.Rooms.{AreLaid, IsLaidCode, IsLaidUnit, port_spans}
 
 some_is : {A : Type 0} (x y : A) → ◌≡◌ {A = Option A} (Some x) (Some y) → x ≡ y
 some_is x y e = cc

@@ -5,19 +5,19 @@ use Rattle.fm_sched.specs.Schedule.{IsLegal, play}
 use Rattle.fm_code.specs.declared.body.Body.{Body}
 use Rattle.fm_code.specs.Statements.{is_stuck}
 use Rattle.fm_code_kinds.specs.declared.sorts.Shapes.{Shapes}
-use Rattle.fm_code_keeps.proofs.Keeps.{never_stuck}
+use Rattle.fm_code_preserves.proofs.Keeps.{never_stuck}
 use Rattle.fm_net.specs.Machine.{Place, State}
 use Rattle.fm_net.specs.Language.{Language, language_step}
 use Rattle.fm_net.specs.Owned.{main_alone}
 use Rattle.fm_net.specs.Correspondence.{AreAlike, BothOrNeither, StandsFor}
-use Rattle.fm_net_good.specs.Good.{Good, IsBare, IsLawfulWhere, good_language}
-use Rattle.fm_net_good.proofs.Good.{Anyway, goods_alike}
+use Rattle.fm_net_invariant.specs.Good.{Good, IsBare, IsLawfulWhere, good_language}
+use Rattle.fm_net_invariant.proofs.Good.{Anyway, goods_alike}
 use Rattle.fm_object.specs.declared.image.Image.{Image}
 use Rattle.fm_proc_language.specs.Processes.{CodeProc, Ended, Faulted, Joining, Phase, Running, code_language}
-use Rattle.fm_proc_good.specs.Good.{HasGoodBody, IsGood}
-use Rattle.fm_proc_good.proofs.Lawful.{lawful_where}
-use Rattle.fm_verify_law.specs.Shapes.{shapes_of}
-use Rattle.fm_verify_law.specs.Typed.{Typed}
+use Rattle.fm_proc_invariant.specs.Good.{HasGoodBody, IsGood}
+use Rattle.fm_proc_invariant.proofs.Lawful.{lawful_where}
+use Rattle.fm_image_typed.specs.Shapes.{shapes_of}
+use Rattle.fm_image_typed.specs.Typed.{Typed}
 use Rattle.fm_image_law.specs.Image.{GoesOn, first, first_process, step}
 use Rattle.fm_image_law.proofs.First.{first_good}
 

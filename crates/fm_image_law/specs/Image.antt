@@ -12,8 +12,8 @@ use Rattle.fm_object.specs.declared.image.Image.{Image}
 use Rattle.fm_object.specs.declared.image.UnitImage.{UnitImage}
 use Rattle.fm_proc_language.specs.Slots.{no_slots}
 use Rattle.fm_proc_language.specs.Processes.{CodeProc, Ended, Faulted, Joining, Phase, Running, code_language}
-use Rattle.fm_verify_law.specs.Codes.{code_of, unit_of}
-use Rattle.fm_verify_law.specs.Typed.{is_main, nodes}
+use Rattle.fm_image_typed.specs.Codes.{code_of, unit_of}
+use Rattle.fm_image_typed.specs.Typed.{is_main, nodes}
 
 -- the number of the PROGRAM among the units, from this number on
 abbrev pub main_from : ℕ → List UnitImage → Option ℕ

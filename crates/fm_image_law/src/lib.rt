@@ -10,14 +10,14 @@ ghost use Rattle.std.specs.FinMap.{get};
 ghost use Rattle.fm_sched.specs.Schedule.{IsLegal, play};
 ghost use Rattle.fm_code.specs.Statements.{is_stuck};
 ghost use Rattle.fm_code.specs.declared.body.Body as declared_body;
-ghost use Rattle.fm_code_keeps.specs.Rooms.{IsLaidCode};
+ghost use Rattle.fm_code_preserves.specs.Rooms.{IsLaidCode};
 ghost use Rattle.fm_object.specs.declared.image.Image as declared_image;
 ghost use Rattle.fm_net.specs.Machine.{Place};
 ghost use Rattle.fm_proc_language.specs.Processes.{CodeProc, held};
-ghost use Rattle.fm_proc_good.specs.Good.{IsGood};
-ghost use Rattle.fm_verify_law.specs.Codes.{code_of};
-ghost use Rattle.fm_verify_law.specs.Shapes.{shapes_of};
-ghost use Rattle.fm_verify_law.specs.Typed.{Typed};
+ghost use Rattle.fm_proc_invariant.specs.Good.{IsGood};
+ghost use Rattle.fm_image_typed.specs.Codes.{code_of};
+ghost use Rattle.fm_image_typed.specs.Shapes.{shapes_of};
+ghost use Rattle.fm_image_typed.specs.Typed.{Typed};
 ghost use Rattle.fm_image_law.specs.Image.{GoesOn, first, first_process, step};
 
 /// The process with which an image begins that makes sense is good, and holds no port.

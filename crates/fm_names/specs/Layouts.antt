@@ -1,4 +1,5 @@
 -- A layout that grows by one variable after the other.
+-- Source: this profile.
 use Rattle.std.specs.Prelude.{◌≡◌, ℕ, ◌+◌, Bool, if◌then◌else◌, List, [], ◌∷◌, ◌++◌, Option, Some, None}
 use Rattle.fm_base.specs.declared.rule.Refusal.{Refusal}
 use Rattle.fm_tree.specs.declared.statement.Stmt.{Stmt}

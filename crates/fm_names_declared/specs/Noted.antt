@@ -1,4 +1,5 @@
 -- What a pass over a unit keeps: what was said of each name so far, and the least place that clashes.
+-- Source: this profile.
 use Rattle.std.specs.Prelude.{ℕ, ◌||◌, Bool, false, Option, Some, None, List, [], ◌∷◌}
 use Rattle.std.specs.FinMap.{get, insert}
 use Rattle.fm_base.specs.declared.rule.Rule.TheVariants.{E30}

@@ -1,4 +1,5 @@
 -- What a pass over the names of a unit keeps: the names that it met, each with its first line, in their order.
+-- Source: this profile.
 use Rattle.std.specs.Prelude.{ℕ, List, [], ◌∷◌}
 use Rattle.fm_base.specs.declared.name.Line.{Line}
 use Rattle.fm_finmap.specs.Table.{added}

@@ -19,8 +19,8 @@ use Rattle.fm_mean.proofs.Lawful.{lawful}
 use Rattle.fm_mean.proofs.Laws.{first_owned}
 use Rattle.fm_mean.proofs.Machines.{machines_along}
 use Rattle.fm_link_law.specs.Hosts.{Carried, answered, delivered, lost, restarted, sent, state_of}
-use Rattle.fm_nodes_law.specs.Plain.{IsPlainProgram}
-use Rattle.fm_nodes_law.proofs.Hosted.{asks_for_words}
+use Rattle.fm_nodes_plain.specs.Plain.{IsPlainProgram}
+use Rattle.fm_nodes_plain.proofs.Hosted.{asks_for_words}
 use Rattle.fm_nodes_hosts.specs.Ends.{end_host, holder, host_by, outlasts, restarted_run}
 use Rattle.fm_nodes_hosts.specs.Played.{IsSound}
 use Rattle.fm_nodes_hosts.specs.Runs.{Run, IsMoved, IsTried, with_hosts}

@@ -9,7 +9,7 @@ use Rattle.fm_mean.specs.Machines.{main_nodes}
 use Rattle.fm_mean.specs.Process.{Proc}
 use Rattle.fm_mean.specs.Steps.{first, language}
 use Rattle.fm_link_law.specs.Hosts.{answered, delivered, lost, sent}
-use Rattle.fm_nodes_law.specs.Plain.{IsPlainProgram}
+use Rattle.fm_nodes_plain.specs.Plain.{IsPlainProgram}
 use Rattle.fm_nodes_rounds.specs.declared.hosts.NodeEvent.{NodeEvent}
 use Rattle.fm_nodes_rounds.specs.declared.hosts.NodeEvent.TheVariants.{Step, Send, Answer, Deliver, Lose, Restart}
 use Rattle.fm_plain_frame.specs.Frames.{proc_of}

@@ -37,7 +37,7 @@ use Rattle.fm_mean.proofs.Meanings.{entry_in}
 use Rattle.fm_mean.proofs.Members.{In as Among, in_either}
 use Rattle.fm_mean.proofs.Sizes.{parts_of, the_names}
 use Rattle.fm_mean.proofs.Unbroken.{Unbroken, from_rules}
-use Rattle.fm_nodes_law.specs.Plain.{CarriesWords, HasWordsAlone, IsPlainProgram}
+use Rattle.fm_nodes_plain.specs.Plain.{CarriesWords, HasWordsAlone, IsPlainProgram}
 use Rattle.fm_nodes_plain.specs.Carriers.{carries_ports, declares_carrier, is_port}
 use Rattle.fm_nodes_plain.specs.Lines.{IsPlainVerdict, IsUnplainAt}
 

@@ -13,8 +13,8 @@ use Rattle.fm_rules.specs.declared.calls.Call.{Call}
 use Rattle.fm_rules.specs.Calls.{all_calls, call_graph, calls_of, graph_of, target_of}
 use Rattle.fm_rules.specs.Main.{main_of}
 use Rattle.fm_rules.proofs.Lists.{at_head, behind_head, head_or_behind, not_in_none, some_same}
-use Rattle.fm_calls.specs.Least.{lower_if}
-use Rattle.fm_calls.proofs.Lowest.{IsLowest, lowest_if, lowest_same}
+use Rattle.fm_call_graph.specs.Least.{lower_if}
+use Rattle.fm_call_graph.proofs.Lowest.{IsLowest, lowest_if, lowest_same}
 use Rattle.fm_nodes_plain.specs.Carriers.{IsCarrier, IsFirstCarrierOf, declares_carrier}
 use Rattle.fm_nodes_plain.specs.Search.{carriers_from, carriers_in, carriers_in_unit}
 

@@ -7,8 +7,8 @@ use Rattle.fm_symbols.specs.declared.context.Context.{Context}
 use Rattle.fm_rules.specs.Race.{IsRace, IsRaceVerdict}
 use Rattle.fm_rules.specs.declared.program.Program.{Program}
 use Rattle.fm_mean.specs.Names.{context}
-use Rattle.fm_calls.specs.Least.{lower_if}
-use Rattle.fm_calls.proofs.Lowest.{IsLow, IsLowest, lowest_if, lowest_same}
+use Rattle.fm_call_graph.specs.Least.{lower_if}
+use Rattle.fm_call_graph.proofs.Lowest.{IsLow, IsLowest, lowest_if, lowest_same}
 use Rattle.fm_nodes_plain.specs.Carriers.{IsCarrier, IsFirstCarrierOf}
 use Rattle.fm_nodes_plain.specs.Lines.{IsPlainVerdict, IsUnplainAt}
 use Rattle.fm_nodes_plain.specs.Search.{earlier}

@@ -1,3 +1,4 @@
+pub mod Plain
 pub mod Carriers
 pub mod Lines
 pub mod Search

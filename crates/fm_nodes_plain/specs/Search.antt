@@ -4,7 +4,7 @@ use Rattle.std.specs.Prelude.{ℕ, ◌+◌, Bool, true, false, if◌then◌else�
 use Rattle.fm_base.specs.declared.name.Line.{Line}
 use Rattle.fm_tree.specs.declared.program_unit.Placed.{Placed}
 use Rattle.fm_tree.specs.declared.program_unit.Unit.{Unit}
-use Rattle.fm_calls.specs.Least.{lower_if}
+use Rattle.fm_call_graph.specs.Least.{lower_if}
 use Rattle.fm_nodes_plain.specs.Carriers.{declares_carrier}
 
 abbrev pub carriers_in : Option Line → List Placed → Option Line

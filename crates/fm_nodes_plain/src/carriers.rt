@@ -6,7 +6,7 @@ ghost use Rattle.fm_nodes_plain.specs.Carriers.{carries_ports, declares_carrier,
 ghost use Rattle.fm_nodes_plain.specs.Search.{carriers_from, carriers_in, carriers_in_unit};
 
 use fm_base::{Line, NoMemory};
-use fm_calls::{all_calls, flag_at, graph_of, lower_if};
+use fm_call_graph::{all_calls, flag_at, graph_of, lower_if};
 use fm_graph::reached;
 use fm_rules::main_of;
 use fm_symbols::Context;

@@ -5,7 +5,7 @@
 ghost use Rattle.std.specs.Prelude.{◌≡◌, ℕ, None, Option};
 ghost use Rattle.fm_base.specs.declared.name.Line.{Line};
 ghost use Rattle.fm_rules.specs.declared.program.Program.{Program};
-ghost use Rattle.fm_nodes_law.specs.Plain.{IsPlainProgram};
+ghost use Rattle.fm_nodes_plain.specs.Plain.{IsPlainProgram};
 ghost use Rattle.fm_nodes_plain.specs.Lines.{IsPlainVerdict, IsUnplainAt};
 
 /// A program that has no such line is a plain program, which hosts can play.

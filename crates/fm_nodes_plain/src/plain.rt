@@ -6,7 +6,7 @@ ghost use Rattle.fm_nodes_plain.specs.Search.{earlier};
 
 use crate::carriers::first_carrier;
 use fm_base::{Line, NoMemory};
-use fm_calls::lower_if;
+use fm_call_graph::lower_if;
 use fm_rules::Program;
 use std::alloc::Global;
 

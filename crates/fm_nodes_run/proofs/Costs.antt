@@ -9,8 +9,8 @@ use Rattle.fm_mean.proofs.Laws.{each_costs, first_owned}
 use Rattle.fm_link_law.specs.Hosts.{Hosts, state_of}
 use Rattle.fm_link_law.specs.Steps.{hosts_step}
 use Rattle.fm_link_law.proofs.Stepping.{steps_forth}
-use Rattle.fm_nodes_law.specs.Plain.{IsPlainProgram}
-use Rattle.fm_nodes_law.proofs.Hosted.{asks_for_words}
+use Rattle.fm_nodes_plain.specs.Plain.{IsPlainProgram}
+use Rattle.fm_nodes_plain.proofs.Hosted.{asks_for_words}
 use Rattle.fm_nodes_hosts.specs.Played.{IsSound}
 use Rattle.fm_nodes_hosts.specs.Runs.{Run}
 use Rattle.fm_nodes_hosts.proofs.Playing.{plain_there}

@@ -18,8 +18,8 @@ use Rattle.fm_link_law.specs.Play as play
 use Rattle.fm_link_law.specs.Play.{HostEvent, came_of, stepped_to, happens, hosts_after, steps_of}
 use Rattle.fm_link_channels.specs.Links.{GoesByLink}
 use Rattle.fm_link_channels.proofs.Following.{goes_by_link}
-use Rattle.fm_nodes_law.specs.Plain.{IsPlainProgram, first_hosts}
-use Rattle.fm_nodes_law.proofs.Hosted.{asks_for_words, plays_program}
+use Rattle.fm_nodes_plain.specs.Plain.{IsPlainProgram, first_hosts}
+use Rattle.fm_nodes_plain.proofs.Hosted.{asks_for_words, plays_program}
 use Rattle.fm_nodes_hosts.specs.Ends.{outlasts}
 use Rattle.fm_nodes_hosts.specs.Runs.{Run, HasStepped, IsMoved, IsTried, first_run, one_step_of}
 use Rattle.fm_nodes_rounds.specs.declared.hosts.NodeEvent.{NodeEvent}

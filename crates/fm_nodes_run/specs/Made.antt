@@ -10,7 +10,7 @@ use Rattle.fm_run.specs.Orders.{places_of}
 use Rattle.fm_run.specs.declared.run.Run as told
 use Rattle.fm_link_law.specs.Play.{HostEvent, hosts_after, steps_of}
 use Rattle.fm_link_channels.specs.Links.{GoesByLink}
-use Rattle.fm_nodes_law.specs.Plain.{first_hosts}
+use Rattle.fm_nodes_plain.specs.Plain.{first_hosts}
 use Rattle.fm_nodes_hosts.specs.Runs.{Run}
 
 -- what happened so far: events that lead from main alone to these hosts, and whose steps are those that the history tells

@@ -91,7 +91,7 @@ impl Runner for Trees {
     ghost use Rattle.fm_mean.specs.Steps as steps;
     ghost use Rattle.fm_mean.proofs.Lawful.{lawful};
     ghost use Rattle.fm_mean.proofs.Laws.{first_owned};
-    ghost use Rattle.fm_nodes_law.proofs.Hosted.{asks_for_words};
+    ghost use Rattle.fm_nodes_plain.proofs.Hosted.{asks_for_words};
     ghost use Rattle.fm_nodes_plain.proofs.Declared.{told_program};
     ghost use Rattle.fm_plain_frame.specs.Frames.{proc_of};
     ghost use Rattle.fm_plain_replies.specs.Joins.{frames_in, left_frames};

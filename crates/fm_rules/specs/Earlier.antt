@@ -1,4 +1,5 @@
 -- Items of a list with those that stand before them.
+-- Source: this profile.
 use Rattle.std.specs.Prelude.{ℕ, List, map, take}
 use Rattle.std.specs.List.{enumerate_from}
 

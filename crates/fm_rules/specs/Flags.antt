@@ -1,4 +1,5 @@
 -- Which rules a judgement finds broken.
+-- Source: this profile.
 use Rattle.std.specs.Prelude.{◌||◌, Bool, false}
 use Rattle.fm_rules.specs.declared.flags.Flags.{Flags}
 

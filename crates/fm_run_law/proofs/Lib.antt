@@ -1,3 +1,5 @@
+pub mod Halves
+pub mod OneList
 pub mod Counts
 pub mod Along
 pub mod Pieces

@@ -7,7 +7,7 @@ use Rattle.fm_sched.proofs.Runs.{used-append-le}
 use Rattle.fm_net.specs.Machine.{Place}
 use Rattle.fm_net.specs.Starts.{choices_of}
 use Rattle.fm_net.proofs.Histories.{choices_stay}
-use Rattle.fm_replay_law.proofs.Halves.{halves}
+use Rattle.fm_run_law.proofs.Halves.{halves}
 use Rattle.fm_run.specs.Orders.{places_of}
 use Rattle.fm_run.specs.Pieces.{IsFull}
 use Rattle.fm_run.specs.Plays.{Play, first, step}

@@ -7,7 +7,7 @@ use Rattle.fm_net.specs.Machine.{Place}
 use Rattle.fm_net.specs.Starts.{choices_of, starts_along, starts_of}
 use Rattle.fm_net.proofs.Histories.{longer_at}
 use Rattle.fm_net.proofs.Orders.{starts_more}
-use Rattle.fm_replay_law.proofs.Halves.{parts}
+use Rattle.fm_run_law.proofs.Halves.{parts}
 use Rattle.fm_run.specs.Orders.{places_of}
 use Rattle.fm_run.specs.Plays.{IsLawfulPlay, Play, first, language, step}
 use Rattle.fm_run.specs.Runs.{Follows, FollowsFrom, IsRun, Stand, after_entries, after_entry, first_stand, place_of, steps_of}

@@ -1,3 +1,4 @@
+pub mod Entries
 pub mod Fair
 pub mod One
 pub mod Alike

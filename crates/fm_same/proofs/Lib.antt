@@ -1,1 +1,4 @@
 pub mod Tests
+mod SameBodies
+mod OnePrograms
+mod SamePrograms

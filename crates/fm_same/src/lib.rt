@@ -1,8 +1,21 @@
-//! Whether two values are the same. Each answer is exact, and takes no memory.
+//! Whether two values are the same: lists, bodies of stack code, checked programs. Each answer is exact, and takes no memory.
 #![tactic(auto)]
 
 ghost use Rattle.std.specs.Prelude.{Bool};
 ghost use Rattle.fm_same.specs.Same.{IsSameTest};
+
+mod body;
+mod code;
+mod instr;
+mod operands;
+mod parts;
+mod program;
+mod simple;
+mod statement;
+mod units;
+
+pub use body::same_body;
+pub use program::same_program;
 
 /// Whether two lists are the same, by a test of two items.
 pub fn same_items<T, F: Fn(&T, &T) -> bool>(first: &[T], second: &[T], is_same: F) -> bool

@@ -1,4 +1,5 @@
 -- What a reader returned is what its part reads, unless memory ran out.
+-- Source: this profile.
 use Rattle.std.specs.Prelude.{◌≡◌, Option, Some, None, Result, Ok, Err}
 use Rattle.fm_base.specs.declared.parse_fail.ParseFail.{ParseFail}
 use Rattle.fm_base.specs.declared.parse_fail.ParseFail.TheVariants.{Bad}

@@ -17,7 +17,7 @@ use fm_mean::Outcome;
 use fm_procs::no_procs;
 use fm_rules::Program;
 use fm_run::{Net, Player};
-use fm_same_body::same_body;
+use fm_same::same_body;
 use std::alloc::Global;
 use std::sync::Arc;
 

@@ -10,7 +10,7 @@ ghost use Rattle.fm_table.specs.Told.{is_out, numbers_out, ready_in, start_in, w
 use fm_code::Body;
 use fm_machine::Done;
 use fm_run::Queue;
-use fm_same_body::same_body;
+use fm_same::same_body;
 use std::collections::VecDeque;
 use std::sync::Arc;
 

@@ -27,7 +27,7 @@ use fm_machine::Done;
 use fm_mean::Outcome;
 use fm_rules::Program;
 use fm_run::History;
-use fm_same_program::same_program;
+use fm_same::same_program;
 use fm_workers::{Given, Phase};
 use std::alloc::Global;
 use std::marker::Model;

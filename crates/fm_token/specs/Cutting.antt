@@ -1,5 +1,6 @@
 -- The cut of a text and the tokens of a statement as functions, step by step. No contract of a public function names
 -- this file: proofs/CutLaws and proofs/TokenLaws lead from here to the definitions.
+-- Source: this profile, after ANSI X3.9-1978, section 3 (blanks have no meaning), for the tokens of Classes and Statements.
 use Rattle.std.specs.Prelude.{ℕ, suc, zero, ◌-◌, Bool, true, false, Option, Some, None, List, [], ◌∷◌, if◌then◌else◌, codes, take, drop, length}
 use Rattle.fm_base.specs.declared.token.Class.{Class}
 use Rattle.fm_base.specs.declared.token.Class.TheVariants.{LogicalIf, Nothing}

@@ -1,5 +1,6 @@
 -- What the code's passes do, byte by byte. No contract of a public function names this file: proofs/Passes and
 -- proofs/TokenAt lead from here to the definitions.
+-- Source: this profile, after ANSI X3.9-1978, section 3 (blanks have no meaning).
 use Rattle.std.specs.Prelude.{ℕ, ◌+◌, ◌-◌, ◌*◌, ◌^◌, pos, Bool, false, not, ◌&&◌, ◌||◌, Option, Some, None, List, [], ◌∷◌, ◌++◌, ◌==◌, if◌then◌else◌, nat_lt, map, find}
 use Rattle.std.specs.List.{list_all, prefix_len}
 use Rattle.std.specs.Option.{option_map}

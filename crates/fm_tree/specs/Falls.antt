@@ -1,4 +1,5 @@
 -- Each operand of an expression has fewer nodes than the expression.
+-- Source: this profile.
 use Rattle.std.specs.Prelude.{◌≤◌, ◌+◌, max, List, [], ◌∷◌}
 use Rattle.std.proofs.Common.{arith}
 use denote.Param.Weighed.{most}

@@ -1,4 +1,5 @@
 -- The type of a port in a field has fewer fields than the type with the field.
+-- Source: this profile.
 use Rattle.std.specs.Prelude.{◌≤◌, max, List, [], ◌∷◌}
 use Rattle.std.proofs.Common.{arith}
 use denote.Param.Weighed.{most}

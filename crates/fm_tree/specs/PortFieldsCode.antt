@@ -1,4 +1,5 @@
 -- A code of types of ports: the marks of their postfix order.
+-- Source: the postfix order of a tree, as usual.
 use Rattle.std.specs.Prelude.{◌≡◌, ℕ, ◌==◌, if◌then◌else◌, Option, None, List, [], ◌∷◌, ◌++◌, refl}
 use Rattle.std.specs.Coded.{Coded, code_by, coded_list, coded_option, coded×, coded_ℕ}
 use Rattle.std.proofs.Common.{ap, sym, ◌∙◌, append_assoc}

@@ -1,4 +1,5 @@
 -- The type of a port in memory as plain data.
+-- Source: this profile.
 use Rattle.std.specs.Prelude.{List, [], ◌∷◌}
 use Rattle.fm_tree.specs.PortFields.{PortFields, FieldKind, NoFields, FieldThen, Integer, Logical, In, Out}
 use Rattle.fm_tree.specs.declared.port_type.Field.{Field}

@@ -1,4 +1,5 @@
 -- An expression in memory as a plain tree.
+-- Source: this profile.
 use Rattle.fm_tree.specs.Tree.{Tree, Number, Truth, Named, Ref, Paren, Signed, Not, Binary, trees_from}
 use Rattle.fm_tree.specs.declared.expression.ExprNode.{ExprNode}
 use Rattle.fm_tree.specs.declared.expression.ExprNode.TheVariants as node

@@ -1,4 +1,5 @@
 -- Equality of expressions, of bounds and of the types of ports, as tests. Each test holds exactly of equal values.
+-- Source: this profile.
 use Rattle.std.specs.Prelude.{ℕ, ◌≡◌, nat_eq, ◌&&◌, Bool, true, false, List, refl}
 use Rattle.std.specs.Bool.{Decides}
 use Rattle.std.specs.Cmp.{IsPartialEquivalence, IsEquivalence, partial_equiv_from_equiv, first_so, second_so}

@@ -1,4 +1,5 @@
 -- A code of trees: the marks of their postfix order.
+-- Source: the postfix order of a tree, as usual.
 use Rattle.std.specs.Prelude.{◌≡◌, ℕ, ℤ, pos, true, false, ◌==◌, if◌then◌else◌, List, [], ◌∷◌, ◌++◌, refl}
 use Rattle.std.specs.Coded.{Coded, code_by, coded_list, coded×, coded_ℕ, coded_ℤ}
 use Rattle.std.proofs.Common.{ap, sym, ◌∙◌, append_assoc}

@@ -1,4 +1,5 @@
 -- The judgement of a list in parentheses, argument by argument.
+-- Source: this profile.
 use Rattle.std.specs.Prelude.{ℕ, ◌+◌, ◌&&◌, Option}
 use Rattle.fm_tree.specs.Tree.{Trees, NoTrees, More}
 use Rattle.fm_symbols.specs.declared.symbol.Formal.{Formal}

@@ -1,4 +1,5 @@
 -- The entries of a body, from what it is made of.
+-- Source: this profile.
 use Rattle.fm_unit.specs.declared.entries.Links.{Links}
 use Rattle.std.specs.Prelude.{ℕ, ◌+◌, Bool, Option, None, if◌then◌else◌, List, [], ◌∷◌}
 use Rattle.fm_tree.specs.declared.program_unit.Entry.{Entry}

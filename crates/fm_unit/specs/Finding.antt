@@ -1,4 +1,5 @@
 -- References of functions as a walk over a statement finds them.
+-- Source: this profile.
 use Rattle.std.specs.Prelude.{ℕ, ◌+◌, if◌then◌else◌, List, [], ◌∷◌, ◌++◌}
 use Rattle.fm_rules.specs.UnitTitles.{is_function_named}
 use Rattle.fm_unit.specs.declared.references.Finding.{Finding}

@@ -1,4 +1,5 @@
 -- What the entries of a body are made of: one statement, or two of a logical IF.
+-- Source: this profile; ANSI X3.9-1978, section 11.5, for the logical IF.
 use Rattle.std.specs.Prelude.{Bool, true, false, if◌then◌else◌, Option, Some, None, List, [], ◌∷◌}
 use Rattle.std.specs.List.{flat_map}
 use Rattle.fm_tree.specs.declared.program_unit.Placed.{Placed}

@@ -1,4 +1,5 @@
 -- A step of laying out.
+-- Source: this profile.
 use Rattle.std.specs.Prelude.{Option, None, List, [], ◌∷◌}
 use Rattle.fm_base.specs.declared.name.Label.{Label}
 use Rattle.fm_tree.specs.declared.form.Form.{Form}

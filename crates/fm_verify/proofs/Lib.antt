@@ -1,10 +1,7 @@
-pub mod Shapes
-pub mod Images
-pub mod Machines
-pub mod Formals
-pub mod Sense
-pub mod PortTypes
-pub mod TypeOrder
-pub mod Mains
-pub mod Makes
-pub mod Codes
+pub mod Numbers
+pub mod Counts
+pub mod TypeTests
+pub mod Frames
+pub mod Places
+pub mod Begins
+pub mod Units

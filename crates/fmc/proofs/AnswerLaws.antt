@@ -31,7 +31,7 @@ use Rattle.fm_rules.specs.declared.program.Program.{Program}
 use Rattle.fm_rules.specs.Program.{IsChecked}
 use Rattle.fm_gen.specs.Programs.{code_of}
 use Rattle.fm_image.specs.ImageOf.{image_of}
-use Rattle.fm_image_names.proofs.Variables.{checked_named}
+use Rattle.fm_compile_law.proofs.Variables.{checked_named}
 use Rattle.fm_object.specs.Texts.{object_text}
 use Rattle.fm_verdict.specs.Program.{IsCheckedOf}
 use Rattle.fm_verdict.specs.Verdict.{IsBroken, IsBrokenForm, AreStatementsOf}

@@ -10,11 +10,11 @@ use Rattle.fm_gen.proofs.BodyLaws.{keeps_program}
 use Rattle.fm_object.specs.Texts.{HasNames, IsImage, IsObjectText}
 use Rattle.fm_object.specs.declared.image.Image.{Image}
 use Rattle.fm_object.proofs.MalformedLaws.{no_line_of_an_object}
-use Rattle.fm_verify_law.specs.Typed.{Typed}
+use Rattle.fm_image_typed.specs.Typed.{Typed}
 use Rattle.fm_image.specs.ImageOf.{NamesAreNames, image_of}
-use Rattle.fm_image_names.proofs.Variables.{checked_named}
-use Rattle.fm_verify.proofs.Codes.{same_code}
-use Rattle.fm_verify.proofs.Makes.{makes_sense}
+use Rattle.fm_compile_law.proofs.Variables.{checked_named}
+use Rattle.fm_compile_law.proofs.Codes.{same_code}
+use Rattle.fm_compile_law.proofs.Makes.{makes_sense}
 use Rattle.fm_execute_law.proofs.SameTexts.{typed_named}
 use Rattle.fm_words.specs.declared.command.Command.TheVariants as command
 use Rattle.fmc.specs.declared.answer.Exit.TheVariants.{Done}

@@ -8,13 +8,13 @@ use Rattle.fm_net.specs.Machine.{Place}
 use Rattle.fm_object.specs.declared.image.Image.{Image}
 use Rattle.fm_object.specs.declared.image.UnitImage.{UnitImage}
 use Rattle.fm_object.proofs.MalformedLaws.{no_line_of_an_object, one_first_line, one_object_text}
-use Rattle.fm_verify_law.specs.Typed.{IsBad, One, UnitIsTyped, Whole}
+use Rattle.fm_image_typed.specs.Typed.{IsBad, One, UnitIsTyped, Whole}
 use Rattle.fm_gen.specs.Programs.{code_of}
 use Rattle.fm_image.specs.ImageOf.{image_of}
 use Rattle.fm_image_law.proofs.Laid.{one_of}
-use Rattle.fm_image_play.specs.Executed.{IsExecuted, IsUnverified}
+use Rattle.fm_execute_image.specs.Executed.{IsExecuted, IsUnverified}
 use Rattle.fm_execute_law.proofs.Programs.{object_executes}
-use Rattle.fm_image_play.specs.Play.{image_play}
+use Rattle.fm_execute_image.specs.Play.{image_play}
 use Rattle.fm_run.specs.Orders.{places_of}
 use Rattle.fm_run.specs.declared.run.Ending.{Ending}
 use Rattle.fm_run.specs.declared.run.Ending.TheVariants as ending

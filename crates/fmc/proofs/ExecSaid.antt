@@ -6,9 +6,9 @@ use Rattle.fm_net.specs.Machine.{Place}
 use Rattle.fm_object.specs.declared.image.Image.{Image}
 use Rattle.fm_object.specs.Texts.{IsObjectText}
 use Rattle.fm_object.proofs.MalformedLaws.{no_line_of_an_object}
-use Rattle.fm_verify_law.specs.Typed.{Typed}
+use Rattle.fm_image_typed.specs.Typed.{Typed}
 use Rattle.fm_execute.specs.declared.fail.ExecuteFail.TheVariants as fails
-use Rattle.fm_image_play.specs.Executed.{IsUnverified}
+use Rattle.fm_execute_image.specs.Executed.{IsUnverified}
 use Rattle.fm_execute.proofs.Refusals.{refused_never}
 use Rattle.fmc.specs.declared.answer.Exit.{Exit}
 use Rattle.fmc.specs.declared.answer.Exit.TheVariants.{Done, Faulted, Deadlocked, Refused, Spent, Usage, ReadFault, WriteFault, NoMemory, TooLong, Malformed, Illegal, Unfinished, BadObject, Unverified, NotPlain}

@@ -14,8 +14,8 @@ use Rattle.fm_rules.specs.declared.program.Program.{Program}
 use Rattle.fm_mean.specs.Outcome.{outcome_of}
 use Rattle.fm_mean.specs.Process.{Proc}
 use Rattle.fm_mean.specs.Steps.{first, step}
-use Rattle.fm_replay_law.specs.Entries.{AreSteps}
-use Rattle.fm_replay_law.proofs.OneList.{front_of, its_steps, one_list}
+use Rattle.fm_run_law.specs.Entries.{AreSteps}
+use Rattle.fm_run_law.proofs.OneList.{front_of, its_steps, one_list}
 use Rattle.fm_report.specs.Report.{report_text}
 use Rattle.fm_verdict.specs.Program.{IsCheckedOf}
 use Rattle.fm_front.specs.Laws.{OneProgram, OneVerdict, ProgramOrRefusal}

@@ -18,7 +18,7 @@ use Rattle.fm_rules.specs.declared.program.Program.{Program}
 use Rattle.fm_mean.specs.Process.{Proc}
 use Rattle.fm_mean.specs.Outcome.{outcome_of}
 use Rattle.fm_mean.specs.Steps.{first, language, step}
-use Rattle.fm_replay_law.specs.Entries.{AreSteps}
+use Rattle.fm_run_law.specs.Entries.{AreSteps}
 use Rattle.fm_report.specs.Report.{report_text, spent_text}
 use Rattle.fm_run.specs.Entries.{turn_of}
 use Rattle.fm_run.specs.Orders.{places_of}

@@ -9,9 +9,9 @@ use Rattle.fm_gen.specs.Bodies.{KeepsProgram}
 use Rattle.fm_gen.specs.Programs.{code_of}
 use Rattle.fm_object.specs.Texts.{IsFirstMalformed, IsObjectText}
 use Rattle.fm_object.specs.declared.image.Image.{Image}
-use Rattle.fm_verify_law.specs.Codes as image_code
-use Rattle.fm_verify_law.specs.Typed.{Typed}
-use Rattle.fm_image_play.specs.Executed.{IsUnverified}
+use Rattle.fm_image_typed.specs.Codes as image_code
+use Rattle.fm_image_typed.specs.Typed.{Typed}
+use Rattle.fm_execute_image.specs.Executed.{IsUnverified}
 use Rattle.fmc.specs.declared.answer.Exit.{Exit}
 use Rattle.fmc.specs.declared.answer.Exit.TheVariants.{NoMemory, ReadFault, TooLong}
 use Rattle.fmc.specs.Answer.{IsPlayedExit, SaysRun, report_asked}

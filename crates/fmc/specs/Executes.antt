@@ -6,8 +6,8 @@ use Rattle.fm_base.specs.declared.schedule.Turn.{Turn}
 use Rattle.fm_net.specs.Machine.{Place}
 use Rattle.fm_object.specs.declared.image.Image.{Image}
 use Rattle.fm_object.specs.Texts.{IsFirstMalformed, IsObjectText}
-use Rattle.fm_verify_law.specs.Typed.{Typed}
-use Rattle.fm_image_play.specs.Executed.{IsExecuted, IsUnverified}
+use Rattle.fm_image_typed.specs.Typed.{Typed}
+use Rattle.fm_execute_image.specs.Executed.{IsExecuted, IsUnverified}
 use Rattle.fm_report.specs.Report.{report_text, spent_text}
 use Rattle.fm_run.specs.Orders.{places_of}
 use Rattle.fm_run.specs.declared.run.Ending.{Ending}

@@ -11,7 +11,7 @@ use Rattle.fm_rules.specs.declared.program.Program.{Program}
 use Rattle.fm_mean.specs.Outcome.{outcome_of}
 use Rattle.fm_mean.specs.Steps.{language, step, first}
 use Rattle.fm_flow_law.specs.Flow.{IsFlowSafe}
-use Rattle.fm_replay_law.specs.Entries.{AreSteps}
+use Rattle.fm_run_law.specs.Entries.{AreSteps}
 use Rattle.fm_report.specs.Report.{report_text, spent_text}
 use Rattle.fm_verdict.specs.Program.{IsCheckedOf}
 use Rattle.fm_trace.specs.Texts.{IsFirstMalformed, IsTraceText, history_of}

@@ -4,7 +4,7 @@
 
 use fm_io::{StdSink, StdSource};
 use fm_pool::Pool;
-use fm_team::Team;
+use fm_pool_table::Team;
 use fm_workers::Plain;
 use fmc::{exit_of_call, words};
 use std::process::ExitCode;

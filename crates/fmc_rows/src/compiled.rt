@@ -3,7 +3,7 @@
 
 use crate::answers::answer;
 use fm_object::read;
-use fm_verified::verify;
+use fm_verify::verify;
 use fmc::Exit;
 use std::test::Fail;
 

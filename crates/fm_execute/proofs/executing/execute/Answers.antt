@@ -2,7 +2,7 @@ use Rattle.std.proofs.Common.{[]}
 use Rattle.std.proofs.lemmas.Result.{IfOk-weaker}
 use Rattle.fm_image_law.proofs.Reached.{reached_moves}
 use Rattle.fm_run.proofs.Results.{if_ok_all}
-use Rattle.fm_image_play.proofs.Played.{follows_of_image, run_of_image, turns_are_fair}
+use Rattle.fm_execute_image.proofs.Played.{follows_of_image, run_of_image, turns_are_fair}
 use Rattle.fm_execute.proofs.executing.execute.Goals as goal
 
 pub returns-clause-run : goal.returns-clause-run

@@ -2,7 +2,7 @@ use Rattle.std.proofs.Common.{◌≡◌, subst, ◌∙◌}
 use Rattle.std.proofs.lemmas.Result.{err_from_is_err_and}
 use Rattle.fm_object.specs.declared.image.Image.{Image}
 use Rattle.fm_object.proofs.MalformedLaws.{one_object_text}
-use Rattle.fm_image_play.specs.Executed.{IsRunOf}
+use Rattle.fm_execute_image.specs.Executed.{IsRunOf}
 use Rattle.fm_execute.proofs.Refusals.{refused_never}
 use Rattle.fm_execute.proofs.texts.execute_text.Goals as goal
 

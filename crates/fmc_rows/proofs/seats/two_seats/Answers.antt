@@ -1,5 +1,5 @@
 use denote.Param.Send.{arg_send, param_send}
-use Rattle.fm_team.proofs.Crosses.{piece_send}
+use Rattle.fm_pool_table.proofs.Crosses.{piece_send}
 use Rattle.fmc_rows.proofs.seats.two_seats.Goals as goal
 
 pub take-requires-send-T-Piece : goal.take-requires-send-T-Piece

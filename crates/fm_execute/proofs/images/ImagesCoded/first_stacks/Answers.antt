@@ -4,8 +4,8 @@ use Rattle.fm_net.specs.Correspondence.{StandsFor}
 use Rattle.fm_net.specs.Machine.{State}
 use Rattle.fm_proc_language.specs.Processes.{CodeProc}
 use Rattle.fm_image_law.specs.Image as law
-use Rattle.fm_image_play.specs.Play.{IsBare, IsLive, good_play}
-use Rattle.fm_image_play.proofs.Played.{first_stands}
+use Rattle.fm_execute_image.specs.Play.{IsBare, IsLive, good_play}
+use Rattle.fm_execute_image.proofs.Played.{first_stands}
 use Rattle.fm_run.specs.Plays.{first}
 use Rattle.fm_execute.proofs.images.ImagesCoded.first_stacks.Goals as goal
 

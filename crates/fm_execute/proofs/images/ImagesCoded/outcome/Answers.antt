@@ -2,9 +2,9 @@ use Rattle.std.proofs.Common.{sym, ap, ◌∙◌}
 use Rattle.std.proofs.lemmas.Result.{IfOk-weaker}
 use Rattle.fm_object.specs.declared.image.Image.{Image}
 use Rattle.fm_procs.specs.Readings.{state_of}
-use Rattle.fm_image_play.specs.Outcome.{outcome_of}
-use Rattle.fm_image_play.specs.Play.{IsLive}
-use Rattle.fm_image_play.proofs.Played.{shows_alike}
+use Rattle.fm_execute_image.specs.Outcome.{outcome_of}
+use Rattle.fm_execute_image.specs.Play.{IsLive}
+use Rattle.fm_execute_image.proofs.Played.{shows_alike}
 use Rattle.fm_execute.proofs.images.ImagesCoded.outcome.Goals as goal
 
 pub returns : goal.returns

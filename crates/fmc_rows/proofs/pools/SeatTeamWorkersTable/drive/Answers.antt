@@ -1,6 +1,6 @@
 use denote.Param.Send.{arg_send, param_send}
 use Rattle.fmc_rows.proofs.pools.SeatTeamWorkersTable.drive.Goals as goal
-use Rattle.fm_team.proofs.Crosses.{table_send, piece_send}
+use Rattle.fm_pool_table.proofs.Crosses.{table_send, piece_send}
 
 pub play-requires-send-T : goal.play-requires-send-T
 play-requires-send-T g c κs within = search (param_send, arg_send, table_send)

@@ -1,5 +1,0 @@
-use Rattle.fm_code_keeps.proofs.Sample.{sample_stands}
-use Rattle.fm_code_keeps.proofs.sample_body_stands.Goals as goal
-
-pub returns : goal.returns
-returns c = sample_stands

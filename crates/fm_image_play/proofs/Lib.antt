@@ -1,7 +1,0 @@
-pub mod Begun
-pub mod PortWords
-pub mod Alike
-pub mod Runs
-pub mod Following
-pub mod FairAlike
-pub mod Played

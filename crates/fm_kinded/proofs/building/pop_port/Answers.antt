@@ -1,5 +1,0 @@
-use Rattle.fm_kinded.proofs.Places.{over_no_port}
-use Rattle.fm_kinded.proofs.building.pop_port.Goals as goal
-
-pub returns-in_default : goal.returns-in_default
-returns-in_default c = over_no_port c.args.cells.now c.args.held.now c.in_default.ensures

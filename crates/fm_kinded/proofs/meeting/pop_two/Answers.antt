@@ -1,6 +1,0 @@
-use Rattle.std.proofs.Common.{sym}
-use Rattle.fm_kinded.proofs.Places.{at_no_two}
-use Rattle.fm_kinded.proofs.meeting.pop_two.Goals as goal
-
-pub returns-in_default : goal.returns-in_default
-returns-in_default c = λ f. sym (at_no_two c.args.cells.now c.args.held.now f c.in_default.ensures)

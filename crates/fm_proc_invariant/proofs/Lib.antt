@@ -1,0 +1,14 @@
+pub mod Slots
+pub mod Exchange
+pub mod Messages
+pub mod Children
+pub mod Joins
+pub mod Kept
+pub mod Steps
+pub mod Own
+pub mod Going
+pub mod Running
+pub mod Beginning
+pub mod Joining
+pub mod Ending
+pub mod Lawful

@@ -1,0 +1,3 @@
+pub mod Moves
+pub mod Held
+pub mod Good

@@ -1,2 +1,0 @@
-mod OnePrograms
-mod Sameness

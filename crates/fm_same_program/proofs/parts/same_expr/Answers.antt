@@ -1,5 +1,0 @@
-use Rattle.fm_same_program.proofs.Sameness.{exact_tree}
-use Rattle.fm_same_program.proofs.parts.same_expr.Goals as goal
-
-pub returns : goal.returns
-returns c = exact_tree c.eq.result c.args.first.now c.args.second.now c.eq.ensures

@@ -1,7 +1,0 @@
-use Rattle.std.proofs.Common.{◌≡◌, drop}
-use Rattle.fm_verified.specs.Tests.{all_taken}
-use Rattle.fm_verified.proofs.cells.all_taken.Given as goal
-
--- all are where the rest is
-abbrev pub invariant-places : goal.invariant-places
-invariant-places l = all_taken l.taken ≡ all_taken (drop l.there-index l.taken)

@@ -1,7 +1,0 @@
-use Rattle.std.proofs.Common.{◌≡◌, [], drop}
-use Rattle.fm_verified.specs.Tests.{are_apart}
-use Rattle.fm_verified.proofs.cells.are_apart.Given as goal
-
--- all are apart where the rest is
-abbrev pub invariant-cells : goal.invariant-cells
-invariant-cells l = are_apart [] l.cells ≡ are_apart l.names.keys (drop l.cell-index l.cells)

@@ -1,7 +1,0 @@
-use Rattle.std.proofs.Common.{◌≡◌, Some, drop}
-use Rattle.fm_verified.specs.Tests.{fill, have_places}
-use Rattle.fm_verified.proofs.cells.have_places.Given as goal
-
--- all have theirs where the rest takes those that are free
-abbrev pub invariant-cells : goal.invariant-cells
-invariant-cells l = have_places l.cells ≡ fill (Some l.taken) (drop l.cell-index l.cells)

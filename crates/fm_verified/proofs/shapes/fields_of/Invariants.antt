@@ -1,6 +1,0 @@
-use Rattle.std.proofs.Common.{◌≡◌, map, take}
-use Rattle.fm_verify_law.specs.Shapes.{field_of}
-use Rattle.fm_verified.proofs.shapes.fields_of.Given as goal
-
-abbrev pub invariant-fields : goal.invariant-fields
-invariant-fields l = l.all.items ≡ map field_of (take l.field-index l.fields)

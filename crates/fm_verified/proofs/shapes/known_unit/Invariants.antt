@@ -1,6 +1,0 @@
-use Rattle.std.proofs.Common.{◌≡◌, map, take}
-use Rattle.fm_verify_law.specs.Shapes.{cell_of}
-use Rattle.fm_verified.proofs.shapes.known_unit.Given as goal
-
-abbrev pub invariant-cells : goal.invariant-cells
-invariant-cells l = l.cells.items ≡ map cell_of (take l.cell-index l.unit.cells)

@@ -1,5 +1,0 @@
-use Rattle.fm_verify.proofs.Images.{image_kinded}
-use Rattle.fm_verify.proofs.image_has_its_kinds.Goals as goal
-
-pub returns : goal.returns
-returns c = image_kinded

@@ -1,5 +1,0 @@
-use Rattle.fm_verify.proofs.Images.{shapes_same, units_same}
-use Rattle.fm_verify.proofs.image_has_shapes.Goals as goal
-
-pub returns : goal.returns
-returns c = record { units = units_same; shapes = shapes_same }
