@@ -1,8 +1,8 @@
 //! What a worker does in its turn.
 
-ghost use Rattle.std.specs.Prelude.{◌≡◌, false, IfOk, MatchResult, OnErr};
+ghost use Rattle.std.specs.Prelude.{◌≡◌, ⊤, false, IfOk, MatchResult, OnErr};
 ghost use Rattle.fm_workers.specs.Histories.{HasGrown, HasPlayed};
-ghost use Rattle.fm_pool.specs.Desks.{IsPassed};
+ghost use Rattle.fm_pool.specs.Desks.{IsBrought, IsGoing, IsMade, IsNext, IsPassed, IsTaken};
 ghost use Rattle.fm_pool.specs.declared.desk.Next.TheVariants.{Stops};
 
 use fm_base::NoMemory;
@@ -23,12 +23,30 @@ pub fn taken<T: SharedTable>(
     light: bool,
 ) -> Next<T::Piece>
     ensures place { held.new.place ≡ held.old.place }
+    ensures next { IsNext T.take_does T.turn_does T.recall_does ⊤ light worker T.phase_tells
+        result held.old.table held.new.table }
     ensures history { IsPassed result (T.history_of held.old.table) (T.history_of held.new.table) }
 {
     match held.phase() {
-        Phase::Going => {}
-        Phase::Ended | Phase::Spent => return Next::Stops,
+        Phase::Going => taken_going(alloc, held, working, worker, light),
+        Phase::Ended => Next::Stops,
+        Phase::Spent => Next::Stops,
     }
+}
+
+// What the worker does next where the table isn't over.
+fn taken_going<T: SharedTable>(
+    alloc: Global,
+    held: &mut Held<T>,
+    working: &AtomicU64,
+    worker: u32,
+    light: bool,
+) -> Next<T::Piece>
+    ensures place { held.new.place ≡ held.old.place }
+    ensures going { IsGoing T.take_does T.turn_does T.recall_does ⊤ light worker
+        result held.old.table held.new.table }
+    ensures history { IsPassed result (T.history_of held.old.table) (T.history_of held.new.table) }
+{
     match made(alloc, held, worker, light) {
         Ok(true) => Next::Goes,
         Ok(false) => taken_out(alloc, held, working, worker),
@@ -45,6 +63,7 @@ fn made<T: SharedTable>(
     light: bool,
 ) -> Result<bool, NoMemory>
     ensures place { held.new.place ≡ held.old.place }
+    ensures made { IsMade T.turn_does light worker result held.old.table held.new.table }
     ensures grown { IfOk result (λ _. HasGrown (T.history_of held.old.table) (T.history_of held.new.table)) }
     ensures none { IfOk result (λ r. r ≡ false → T.history_of held.new.table ≡ T.history_of held.old.table) }
     ensures unchanged { OnErr result (T.history_of held.new.table ≡ T.history_of held.old.table) }
@@ -64,6 +83,7 @@ fn taken_out<T: SharedTable>(
     worker: u32,
 ) -> Next<T::Piece>
     ensures place { held.new.place ≡ held.old.place }
+    ensures taken { IsTaken T.take_does T.recall_does ⊤ worker result held.old.table held.new.table }
     ensures history { T.history_of held.new.table ≡ T.history_of held.old.table }
     ensures passed { IsPassed result (T.history_of held.old.table) (T.history_of held.new.table) }
 {
@@ -86,6 +106,7 @@ fn taken_out<T: SharedTable>(
 // There is no memory: all pieces that are out are made ready again, and the worker stops.
 fn stopped<T: SharedTable>(held: &mut Held<T>) -> Next<T::Piece>
     ensures place { held.new.place ≡ held.old.place }
+    ensures recalled { T.recall_does held.old.table held.new.table }
     ensures history { T.history_of held.new.table ≡ T.history_of held.old.table }
     ensures stops { result ≡ Stops }
 {
@@ -95,7 +116,6 @@ fn stopped<T: SharedTable>(held: &mut Held<T>) -> Next<T::Piece>
 
 /// Gives what a piece came to, of which the table plays one entry of its process or nothing. Where there is no memory for
 /// it, or was none to compute it, all pieces that are out are made ready again, and the answer is false.
-#[tactic(auto, using(fm_workers::proofs::HistoryLaws::plays_at_most_once))]
 pub fn given<T: SharedTable>(
     alloc: Global,
     held: &mut Held<T>,
@@ -103,18 +123,36 @@ pub fn given<T: SharedTable>(
     done: Result<T::Done, NoMemory>,
 ) -> bool
     ensures place { held.new.place ≡ held.old.place }
+    ensures brought { MatchResult done
+        (λ d. IsBrought T.give_does T.recall_does d result held.old.table held.new.table)
+        (λ _. (result ≡ false) × T.recall_does held.old.table held.new.table) }
     ensures played { MatchResult done
         (λ d. HasPlayed (T.process_of d) (T.history_of held.old.table) (T.history_of held.new.table))
         (λ _. T.history_of held.new.table ≡ T.history_of held.old.table) }
 {
     working.fetch_sub(1, Ordering::SeqCst);
     match done {
-        Ok(done) => match held.give(alloc, done) {
-            Ok(_) => return true,
-            Err(_) => {}
-        },
-        Err(NoMemory) => {}
+        Ok(done) => brought(alloc, held, done),
+        Err(NoMemory) => {
+            held.recall();
+            false
+        }
     }
-    held.recall();
-    false
+}
+
+// Gives what a piece came to. Where there is no memory for it, all pieces that are out are made ready again, and the answer
+// is false.
+#[tactic(auto, using(fm_workers::proofs::HistoryLaws::plays_at_most_once))]
+fn brought<T: SharedTable>(alloc: Global, held: &mut Held<T>, done: T::Done) -> bool
+    ensures place { held.new.place ≡ held.old.place }
+    ensures brought { IsBrought T.give_does T.recall_does done result held.old.table held.new.table }
+    ensures played { HasPlayed (T.process_of done) (T.history_of held.old.table) (T.history_of held.new.table) }
+{
+    match held.give(alloc, done) {
+        Ok(_) => true,
+        Err(_) => {
+            held.recall();
+            false
+        }
+    }
 }
