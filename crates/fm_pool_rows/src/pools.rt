@@ -12,6 +12,7 @@ use std::alloc::Global;
 use std::sync::Wait;
 use std::sync::atomic::{AtomicU64, Ordering};
 use std::test::Fail;
+use std::thread;
 use std::thread::Threads;
 
 impl<R: Threads + Wait + Sync> Workers<Table> for Pool<Plain, R> {
@@ -127,78 +128,90 @@ fn any_workers(rt: HostRuntime) -> Result<(), Fail> {
     Ok(())
 }
 
-// Holds the pieces of process 0 until the gate was called for process 1.
+// How often a piece looks for another one that is being computed.
+const MOST_LOOKS: u32 = 1_000_000;
+
+// A gate at which pieces wait until two are being computed at once. It is plain, as the programs' own is: a pool asks the
+// table for pieces that it makes by itself, and plays these under its lock.
 #[derive(Drop)]
-struct Holds {
-    called: AtomicU64,
-    failed: AtomicU64,
+struct Meets {
+    inside: AtomicU64,
+    met: AtomicU64,
 }
 
-impl Holds {
-    fn new() -> Holds {
-        Holds {
-            called: AtomicU64::new(0),
-            failed: AtomicU64::new(0),
+impl Meets {
+    fn new() -> Meets {
+        Meets {
+            inside: AtomicU64::new(0),
+            met: AtomicU64::new(0),
         }
     }
 
-    fn has_failed(&self) -> bool {
-        self.failed.load(Ordering::SeqCst) == 1
+    fn have_met(&self) -> bool {
+        self.met.load(Ordering::SeqCst) == 1
     }
-}
 
-impl Gate<Table> for Holds {
-    fn run(&self, alloc: Global, _worker: u32, piece: Piece) -> Result<Done, NoMemory> {
-        if piece.process == 1 {
-            self.called.store(1, Ordering::SeqCst);
-        }
-        if piece.process == 0 {
-            'turns: for turn in 0..1_000_000_000u64 {
-                if self.called.load(Ordering::SeqCst) == 1 {
-                    break;
-                }
-                if turn == 999_999_999 {
-                    self.failed.store(1, Ordering::SeqCst);
-                }
+    // Looks for another piece, and notes it.
+    fn look(&self) {
+        'looks: for _ in 0..MOST_LOOKS {
+            if self.inside.load(Ordering::SeqCst) > 1 {
+                self.met.store(1, Ordering::SeqCst);
             }
+            if self.have_met() {
+                return;
+            }
+            thread::yield_now();
         }
+    }
+}
+
+impl Gate<Table> for Meets {
+    fn run(&self, alloc: Global, _worker: u32, piece: Piece) -> Result<Done, NoMemory> {
+        self.inside.fetch_add(1, Ordering::SeqCst);
+        self.look();
+        self.inside.fetch_sub(1, Ordering::SeqCst);
         Table::advance(alloc, piece)
     }
+
+    fn is_plain(&self) -> bool {
+        true
+    }
 }
 
+// So neither is computed under the lock.
 #[test]
 fn two_workers_at_once(rt: HostRuntime) -> Result<(), Fail> {
     let alloc = rt.alloc();
-    let gate = Holds::new();
+    let gate = Meets::new();
     let pool = Pool { gate, rt, alloc };
     let table = pool.play(Table::new(alloc, 2, 3)?, 2);
     assert_eq!(pool.rt; table.entries(), 6);
-    assert!(pool.rt; !pool.gate.has_failed());
+    assert!(pool.rt; pool.gate.have_met());
     Ok(())
 }
 
-// The worker that took both processes is held by the first, so the other one steals the second.
+// The worker that took both processes waits at the first, so the other one steals the second.
 #[test]
 fn a_piece_is_stolen(rt: HostRuntime) -> Result<(), Fail> {
     let alloc = rt.alloc();
-    let gate = Holds::new();
+    let gate = Meets::new();
     let pool = StealPool { gate, rt, alloc };
     let table = pool.play(Table::new(alloc, 2, 3)?, 2);
     assert_eq!(pool.rt; table.entries(), 6);
-    assert!(pool.rt; !pool.gate.has_failed());
+    assert!(pool.rt; pool.gate.have_met());
     Ok(())
 }
 
 #[test]
 fn two_seats_at_once(rt: HostRuntime) -> Result<(), Fail> {
     let alloc = rt.alloc();
-    let gate = Holds::new();
+    let gate = Meets::new();
     let pool = HubPool { gate, rt, alloc };
     let Some(table) = pool.play(Table::new(alloc, 2, 3)?, 2) else {
         panic!(pool.rt; "no table")
     };
     assert_eq!(pool.rt; table.entries(), 6);
-    assert!(pool.rt; !pool.gate.has_failed());
+    assert!(pool.rt; pool.gate.have_met());
     Ok(())
 }
 
