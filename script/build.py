@@ -30,8 +30,8 @@ from progress import Progress, Screen, say, table_of_seconds, time_of  # noqa: E
 PROGRAM = "fmc_cli"
 OUT = f"{TOP}/crates/{PROGRAM}/out"
 LOG = f"{OUT}/build.log"
-# The memory of a large check, and of all checks at once (COSTS.md, "The first build").
-CHECK, CHECKS = 2_000_000_000, 6_000_000_000
+# The memory that all checks at once may take (COSTS.md, "The first build").
+CHECKS = 6_000_000_000
 # The free disk that rt wants to work, and to keep what is proved.
 WORKS, KEEPS = 3_000_000_000, 5_000_000_000
 # How much of the log of a crate that failed is shown.
@@ -76,7 +76,7 @@ def memory():
     most, held = (number_in(f"/sys/fs/cgroup/memory.{it}") for it in ("max", "current"))
     if most and held is not None:
         free.append(most - held)
-    return min(free, default=CHECK)
+    return min(free, default=wanted(1))
 
 
 def processors():
@@ -85,11 +85,17 @@ def processors():
     return min(found, max(int(quota[1]) // int(quota[2]), 1)) if quota else found
 
 
+def wanted(lanes):
+    """The most memory of so many checks at once: the program's own takes 4 GB, alone, and others half of that."""
+    return max(lanes + 3, 2 * lanes) * 1_000_000_000
+
+
 def jobs():
     """How many checks work at once: as FMC_JOBS says, or else as there are processors and memory for, up to CHECKS."""
     asked = os.environ.get("FMC_JOBS", "")
     if not asked:
-        return max(1, min(processors(), min(memory(), CHECKS) // CHECK))
+        free = min(memory(), CHECKS)
+        return next(lanes for lanes in range(processors(), 0, -1) if lanes == 1 or wanted(lanes) <= free)
     if not re.fullmatch(r"[1-9][0-9]{0,3}", asked):
         raise ValueError(f"FMC_JOBS is how many processors a build may use, from 1 to 9999, and not {asked!r}")
     return int(asked)
@@ -246,8 +252,8 @@ def explain(failed, block, status, rt, progress):
         print(f"    {line.rstrip()}", file=sys.stderr)
     lanes = progress.lanes
     if status == -signal.SIGKILL or any("most likely for memory" in it for it in block):
-        less = f" for {lanes} at once; FMC_JOBS=1 wants {gigabytes(CHECK)}" if lanes > 1 else ""
-        say(f"killed, most likely for memory: {gigabytes(lanes * CHECK)} free are wanted{less}")
+        less = f" for {lanes} at once; FMC_JOBS=1 wants {gigabytes(wanted(1))}" if lanes > 1 else ""
+        say(f"killed, most likely for memory: {gigabytes(wanted(lanes))} free are wanted{less}")
     elif failed:
         say(f"rt ci {failed} proves it alone, over what is kept")
     versions(rt)
@@ -267,9 +273,9 @@ def advise(lanes, room):
     """Says what memory and disk a first build takes, where they bound it."""
     every, free = processors(), memory()
     if lanes < every and not os.environ.get("FMC_JOBS"):
-        more = f"FMC_JOBS={every} is faster and takes up to {gigabytes(every * CHECK)}"
-        what = more if free >= every * CHECK else f"{gigabytes(free)} are free"
-        say(f"{lanes} at once take up to {gigabytes(lanes * CHECK)} of memory; {what}")
+        more = f"FMC_JOBS={every} is faster and takes up to {gigabytes(wanted(every))}"
+        what = more if free >= wanted(every) else f"{gigabytes(free)} are free"
+        say(f"{lanes} at once take up to {gigabytes(wanted(lanes))} of memory; {what}")
     free = min(shutil.disk_usage(it).free for it in (os.path.dirname(room), tempfile.gettempdir()))
     if free < WORKS:
         say(f"{gigabytes(free)} of disk are free, and the build wants {gigabytes(WORKS)}")
