@@ -14,7 +14,8 @@ use Rattle.fmc.specs.declared.answer.Exit.{Exit}
 use Rattle.fmc.specs.declared.answer.Exit.TheVariants.{Done, Faulted, Deadlocked, Refused, Spent, Usage, ReadFault, WriteFault, NoMemory, TooLong, Malformed, Illegal, Unfinished, BadObject, Unverified, NotPlain}
 use Rattle.fmc.specs.Outcomes.{IsUnplayed}
 use Rattle.fmc.specs.Executes.{HasBadLine, HasBadUnit, IsBadImage, IsBadObject, IsExecutedSo, IsObjectHistory, IsRunnable, SaysExec, object_limit}
-use Rattle.fmc.specs.Answer.{IsBadObjectExit, IsNoHistory, IsPlayedExit, IsTooLongExit, IsUnverifiedExit}
+use Rattle.fmc.specs.Answer.{IsNoHistory, IsPlayedExit}
+use Rattle.fmc.specs.Decided.{IsDue}
 
 -- it ran, or its bytes tell why not, or that isn't told
 abbrev pub Finds : (turns : ℕ) → (vars : Bool) → List ℕ → Exit → List Turn → List Place → List ℕ → Type 0
@@ -72,21 +73,21 @@ module _ (turns : ℕ) (vars : Bool) (b : List ℕ) (exit : Exit) (h : List Turn
   exec_completed (inr (inr (inr (inl k)))) r v = let within = v.0 in absurd (omega (arith, k.1, within))
   exec_completed (inr (inr (inr (inr k)))) r v = inr (inr (want_of_memory exit k.0 r))
 
-  pub exec_long : Finds turns vars b exit h ps t → (exit ≡ ReadFault → ⊥) → object_limit < length b → IsTooLongExit exit
+  pub exec_long : Finds turns vars b exit h ps t → (exit ≡ ReadFault → ⊥) → object_limit < length b → IsDue TooLong exit
   exec_long (inl k) r l = let within = k.1.within in absurd (omega (arith, l, within))
   exec_long (inr (inl k)) r l = let within = k.1.within in absurd (omega (arith, l, within))
   exec_long (inr (inr (inl k))) r l = let within = k.1.within in absurd (omega (arith, l, within))
   exec_long (inr (inr (inr (inl k)))) r l = inl k.0
   exec_long (inr (inr (inr (inr k)))) r l = inr (want_of_memory exit k.0 r)
 
-  pub exec_malformed : Finds turns vars b exit h ps t → (exit ≡ ReadFault → ⊥) → HasBadLine b → IsBadObjectExit exit
+  pub exec_malformed : Finds turns vars b exit h ps t → (exit ≡ ReadFault → ⊥) → HasBadLine b → IsDue BadObject exit
   exec_malformed (inl k) r l = let is = k.1.ran.executed in absurd (no_line_of_an_object b is.image is.object l.1 l.2)
   exec_malformed (inr (inl k)) r l = inl k.0
   exec_malformed (inr (inr (inl k))) r l = let is = k.1.unverified in absurd (no_line_of_an_object b is.image is.object l.1 l.2)
   exec_malformed (inr (inr (inr (inl k)))) r l = let within = l.0 in absurd (omega (arith, k.1, within))
   exec_malformed (inr (inr (inr (inr k)))) r l = inr (want_of_memory exit k.0 r)
 
-  pub exec_unverified : Finds turns vars b exit h ps t → (exit ≡ ReadFault → ⊥) → HasBadUnit b → IsUnverifiedExit exit
+  pub exec_unverified : Finds turns vars b exit h ps t → (exit ≡ ReadFault → ⊥) → HasBadUnit b → IsDue Unverified exit
   exec_unverified (inl k) r l = let is = k.1.ran.executed in absurd (typed_or_bad b is.image is.object is.typed l.1 l.2)
   exec_unverified (inr (inl k)) r l = absurd (no_line_of_an_object b l.2.image l.2.object k.1.line k.1.malformed)
   exec_unverified (inr (inr (inl k))) r l = inl k.0

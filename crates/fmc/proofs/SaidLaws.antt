@@ -25,8 +25,9 @@ use Rattle.fmc.specs.Exits.{is_of_reading}
 use Rattle.fmc.specs.Outcomes.{IsAccepted, IsRefusedFor, IsUnplayed, source_limit}
 use Rattle.fmc.specs.Plain.{HasPlainVerdict, IsNotPlain, IsPlainSource, PlainOrNot}
 use Rattle.fmc.specs.Replay.{IsTooLongTrace, IsTraceOf, SaysReplay, trace_limit}
-use Rattle.fmc.specs.Answer.{Asked, Says, SaysRun, SaysMade, SaysNodes, SaysTold, TellsList, TellsDeterminism, flow_text, TellsFlow, TellsObject, SaysOf, IsHistoryIn, IsNoHistory, HasHistory, IsReady, IsRefusedBy, IsCompleted, IsMalformedBy, IsMalformedExit, IsRefusedExit, IsTooLongBy, IsTooLongExit, IsUnplainBy, IsUnplainExit, IsPlayedExit, is_reading, report_asked, summary_asked, trace_asked}
-use Rattle.fmc.proofs.ExecSaid.{exec_completed, exec_history, exec_long, found}
+use Rattle.fmc.specs.Answer.{Asked, Says, SaysRun, SaysMade, SaysNodes, SaysTold, TellsList, TellsDeterminism, flow_text, TellsFlow, TellsObject, SaysOf, IsHistoryIn, IsNoHistory, HasHistory, IsPlayedExit, is_reading, report_asked, summary_asked, trace_asked}
+use Rattle.fmc.specs.Decided.{IsBadObjectBy, IsCompleted, IsDecidedBy, IsDue, IsMalformedBy, IsReady, IsRefusedBy, IsTooLongBy, IsUnplainBy, IsUnverifiedBy}
+use Rattle.fmc.proofs.ExecSaid.{exec_completed, exec_history, exec_long, exec_malformed, exec_unverified, found}
 
 no_history : (h : List Turn) (ps : List Place) (t u : List ℕ) → IsUnplayed h ps t u → IsNoHistory h ps
 no_history h ps t u k = (k.no_turns, k.no_places)
@@ -129,7 +130,7 @@ module _ (TellsOf : List Placed → List ℕ → Type 0) (b : List ℕ) where
   told_completed Unverified h ps t k r le v = absurd k
   told_completed NotPlain h ps t k r le v = absurd k
 
-  told_refused : (exit : Exit) (h : List Turn) (ps : List Place) (t : List ℕ) → SaysTold TellsOf b exit h ps t → (exit ≡ ReadFault → ⊥) → length b ≤ source_limit → (v : Refusal) → IsRefusedFor b v → IsRefusedExit exit
+  told_refused : (exit : Exit) (h : List Turn) (ps : List Place) (t : List ℕ) → SaysTold TellsOf b exit h ps t → (exit ≡ ReadFault → ⊥) → length b ≤ source_limit → (v : Refusal) → IsRefusedFor b v → IsDue Refused exit
   told_refused Done h ps t k r le v w = absurd (k.clean v w.broken)
   told_refused Faulted h ps t k r le v w = absurd k
   told_refused Deadlocked h ps t k r le v w = absurd k
@@ -147,7 +148,7 @@ module _ (TellsOf : List Placed → List ℕ → Type 0) (b : List ℕ) where
   told_refused Unverified h ps t k r le v w = absurd k
   told_refused NotPlain h ps t k r le v w = absurd k
 
-  told_long : (exit : Exit) (h : List Turn) (ps : List Place) (t : List ℕ) → SaysTold TellsOf b exit h ps t → (exit ≡ ReadFault → ⊥) → source_limit < length b → IsTooLongExit exit
+  told_long : (exit : Exit) (h : List Turn) (ps : List Place) (t : List ℕ) → SaysTold TellsOf b exit h ps t → (exit ≡ ReadFault → ⊥) → source_limit < length b → IsDue TooLong exit
   told_long Done h ps t k r l = absurd (omega (arith, k.within))
   told_long Faulted h ps t k r l = absurd k
   told_long Deadlocked h ps t k r l = absurd k
@@ -215,7 +216,7 @@ replay_completed vars b BadObject h ps t k r v = absurd k
 replay_completed vars b Unverified h ps t k r v = absurd k
 replay_completed vars b NotPlain h ps t k r v = absurd k
 
-replay_refused : (vars : Bool) (b : List ℕ) (exit : Exit) (h : List Turn) (ps : List Place) (t : List ℕ) → SaysReplay vars b exit h ps t → (exit ≡ ReadFault → ⊥) → (v : Refusal) → IsTraceOf (λ source. IsRefusedFor source v) b → IsRefusedExit exit
+replay_refused : (vars : Bool) (b : List ℕ) (exit : Exit) (h : List Turn) (ps : List Place) (t : List ℕ) → SaysReplay vars b exit h ps t → (exit ≡ ReadFault → ⊥) → (v : Refusal) → IsTraceOf (λ source. IsRefusedFor source v) b → IsDue Refused exit
 replay_refused vars b Done h ps t k r v w = absurd (k.lawful.clean v (same_trace (λ source. IsRefusedFor source v) b w k.trace k.read).broken)
 replay_refused vars b Faulted h ps t k r v w = absurd (k.lawful.clean v (same_trace (λ source. IsRefusedFor source v) b w k.trace k.read).broken)
 replay_refused vars b Deadlocked h ps t k r v w = absurd (k.lawful.clean v (same_trace (λ source. IsRefusedFor source v) b w k.trace k.read).broken)
@@ -233,7 +234,7 @@ replay_refused vars b BadObject h ps t k r v w = absurd k
 replay_refused vars b Unverified h ps t k r v w = absurd k
 replay_refused vars b NotPlain h ps t k r v w = absurd k
 
-replay_long : (vars : Bool) (b : List ℕ) (exit : Exit) (h : List Turn) (ps : List Place) (t : List ℕ) → SaysReplay vars b exit h ps t → (exit ≡ ReadFault → ⊥) → IsTooLongTrace b → IsTooLongExit exit
+replay_long : (vars : Bool) (b : List ℕ) (exit : Exit) (h : List Turn) (ps : List Place) (t : List ℕ) → SaysReplay vars b exit h ps t → (exit ≡ ReadFault → ⊥) → IsTooLongTrace b → IsDue TooLong exit
 replay_long vars b Done h ps t k r l = absurd (not_long b k.within k.trace k.read k.short l)
 replay_long vars b Faulted h ps t k r l = absurd (not_long b k.within k.trace k.read k.short l)
 replay_long vars b Deadlocked h ps t k r l = absurd (not_long b k.within k.trace k.read k.short l)
@@ -251,7 +252,7 @@ replay_long vars b BadObject h ps t k r l = absurd k
 replay_long vars b Unverified h ps t k r l = absurd k
 replay_long vars b NotPlain h ps t k r l = absurd k
 
-replay_malformed : (vars : Bool) (b : List ℕ) (exit : Exit) (h : List Turn) (ps : List Place) (t : List ℕ) → SaysReplay vars b exit h ps t → (exit ≡ ReadFault → ⊥) → (length b ≤ trace_limit) × (line : ℕ) × IsFirstMalformed b line → IsMalformedExit exit
+replay_malformed : (vars : Bool) (b : List ℕ) (exit : Exit) (h : List Turn) (ps : List Place) (t : List ℕ) → SaysReplay vars b exit h ps t → (exit ≡ ReadFault → ⊥) → (length b ≤ trace_limit) × (line : ℕ) × IsFirstMalformed b line → IsDue Malformed exit
 replay_malformed vars b Done h ps t k r l = absurd (no_line_of_a_trace b k.trace k.read l.1 l.2)
 replay_malformed vars b Faulted h ps t k r l = absurd (no_line_of_a_trace b k.trace k.read l.1 l.2)
 replay_malformed vars b Deadlocked h ps t k r l = absurd (no_line_of_a_trace b k.trace k.read l.1 l.2)
@@ -320,7 +321,7 @@ made_completed number exit h ps t (inr k) = inr k.0
 demo_reads : (exit : Exit) → is_of_reading exit ≡ false → exit ≡ ReadFault → ⊥
 demo_reads exit e f = false≢true (sym e ∙ ap is_of_reading f)
 
-pub completed : (c : Command) (b : List ℕ) (exit : Exit) (h : List Turn) (ps : List Place) (t : List ℕ) → Says c b exit h ps t → (exit ≡ ReadFault → ⊥) → ((n : ℕ) → length (made_text n) ≤ source_limit) → PlainOrNot → IsReady c b → IsCompleted c exit
+completed : (c : Command) (b : List ℕ) (exit : Exit) (h : List Turn) (ps : List Place) (t : List ℕ) → Says c b exit h ps t → (exit ≡ ReadFault → ⊥) → ((n : ℕ) → length (made_text n) ≤ source_limit) → PlainOrNot → IsReady c b → IsCompleted c exit
 completed (command.Run setup vars) b exit h ps t k r short apart v = run_completed (report_asked setup.turns vars []) b exit h ps t k r v.0 v.1
 completed (command.Trace setup) b exit h ps t k r short apart v = run_completed (trace_asked setup.turns b) b exit h ps t k.0 r v.0 v.1
 completed (command.Replay vars) b exit h ps t k r short apart v = replay_completed vars b exit h ps t k r v
@@ -333,7 +334,7 @@ completed (command.Make number) b exit h ps t k r short apart v = made_completed
 completed (command.Demo number setup) b exit h ps t k r short apart v = run_completed (summary_asked setup.turns) (made_text number) exit h ps t k.1 (demo_reads exit k.0) (short number) v
 completed (command.Nodes number setup vars) b exit h ps t k r short apart v = nodes_completed (report_asked setup.turns vars []) b exit h ps t (nodes_say (report_asked setup.turns vars []) b exit h ps t k) r apart v.0 v.1
 
-run_refused : (asked : Asked) (b : List ℕ) (exit : Exit) (h : List Turn) (ps : List Place) (t : List ℕ) → SaysRun asked b exit h ps t → (exit ≡ ReadFault → ⊥) → length b ≤ source_limit → (v : Refusal) → IsRefusedFor b v → IsRefusedExit exit
+run_refused : (asked : Asked) (b : List ℕ) (exit : Exit) (h : List Turn) (ps : List Place) (t : List ℕ) → SaysRun asked b exit h ps t → (exit ≡ ReadFault → ⊥) → length b ≤ source_limit → (v : Refusal) → IsRefusedFor b v → IsDue Refused exit
 run_refused asked b Done h ps t k r le v w = absurd (k.kept.lawful.clean v w.broken)
 run_refused asked b Faulted h ps t k r le v w = absurd (k.kept.lawful.clean v w.broken)
 run_refused asked b Deadlocked h ps t k r le v w = absurd (k.kept.lawful.clean v w.broken)
@@ -351,11 +352,11 @@ run_refused asked b BadObject h ps t k r le v w = absurd k
 run_refused asked b Unverified h ps t k r le v w = absurd k
 run_refused asked b NotPlain h ps t k r le v w = absurd k
 
-nodes_refused : (asked : Asked) (b : List ℕ) (exit : Exit) (h : List Turn) (ps : List Place) (t : List ℕ) → SaysRun asked b exit h ps t ⊎ IsNotPlain b h ps t → (exit ≡ ReadFault → ⊥) → length b ≤ source_limit → (v : Refusal) → IsRefusedFor b v → IsRefusedExit exit
+nodes_refused : (asked : Asked) (b : List ℕ) (exit : Exit) (h : List Turn) (ps : List Place) (t : List ℕ) → SaysRun asked b exit h ps t ⊎ IsNotPlain b h ps t → (exit ≡ ReadFault → ⊥) → length b ≤ source_limit → (v : Refusal) → IsRefusedFor b v → IsDue Refused exit
 nodes_refused asked b exit h ps t (inl k) r le v w = run_refused asked b exit h ps t k r le v w
 nodes_refused asked b exit h ps t (inr k) r le v w = absurd (k.unplain.lawful.clean v w.broken)
 
-pub refused_of : (c : Command) (b : List ℕ) (exit : Exit) (h : List Turn) (ps : List Place) (t : List ℕ) → Says c b exit h ps t → (exit ≡ ReadFault → ⊥) → ((n : ℕ) → length (made_text n) ≤ source_limit) → (v : Refusal) → IsRefusedBy c b v → IsRefusedExit exit
+refused_of : (c : Command) (b : List ℕ) (exit : Exit) (h : List Turn) (ps : List Place) (t : List ℕ) → Says c b exit h ps t → (exit ≡ ReadFault → ⊥) → ((n : ℕ) → length (made_text n) ≤ source_limit) → (v : Refusal) → IsRefusedBy c b v → IsDue Refused exit
 refused_of (command.Run setup vars) b exit h ps t k r short v w = run_refused (report_asked setup.turns vars []) b exit h ps t k r w.0 v w.1
 refused_of (command.Trace setup) b exit h ps t k r short v w = run_refused (trace_asked setup.turns b) b exit h ps t k.0 r w.0 v w.1
 refused_of (command.Replay vars) b exit h ps t k r short v w = replay_refused vars b exit h ps t k r v w
@@ -368,7 +369,7 @@ refused_of (command.Make number) b exit h ps t k r short v w = absurd w
 refused_of (command.Demo number setup) b exit h ps t k r short v w = run_refused (summary_asked setup.turns) (made_text number) exit h ps t k.1 (demo_reads exit k.0) (short number) v w
 refused_of (command.Nodes number setup vars) b exit h ps t k r short v w = nodes_refused (report_asked setup.turns vars []) b exit h ps t (nodes_say (report_asked setup.turns vars []) b exit h ps t k) r w.0 v w.1
 
-run_long : (asked : Asked) (b : List ℕ) (exit : Exit) (h : List Turn) (ps : List Place) (t : List ℕ) → SaysRun asked b exit h ps t → (exit ≡ ReadFault → ⊥) → source_limit < length b → IsTooLongExit exit
+run_long : (asked : Asked) (b : List ℕ) (exit : Exit) (h : List Turn) (ps : List Place) (t : List ℕ) → SaysRun asked b exit h ps t → (exit ≡ ReadFault → ⊥) → source_limit < length b → IsDue TooLong exit
 run_long asked b Done h ps t k r l = absurd (omega (arith, k.within))
 run_long asked b Faulted h ps t k r l = absurd (omega (arith, k.within))
 run_long asked b Deadlocked h ps t k r l = absurd (omega (arith, k.within))
@@ -386,12 +387,12 @@ run_long asked b BadObject h ps t k r l = absurd k
 run_long asked b Unverified h ps t k r l = absurd k
 run_long asked b NotPlain h ps t k r l = absurd k
 
-nodes_long : (asked : Asked) (b : List ℕ) (exit : Exit) (h : List Turn) (ps : List Place) (t : List ℕ) → SaysRun asked b exit h ps t ⊎ IsNotPlain b h ps t → (exit ≡ ReadFault → ⊥) → source_limit < length b → IsTooLongExit exit
+nodes_long : (asked : Asked) (b : List ℕ) (exit : Exit) (h : List Turn) (ps : List Place) (t : List ℕ) → SaysRun asked b exit h ps t ⊎ IsNotPlain b h ps t → (exit ≡ ReadFault → ⊥) → source_limit < length b → IsDue TooLong exit
 nodes_long asked b exit h ps t (inl k) r l = run_long asked b exit h ps t k r l
 nodes_long asked b exit h ps t (inr k) r l = absurd (omega (arith, k.within))
 
 -- a program that isn't plain is found to be so
-nodes_unplain : (asked : Asked) (b : List ℕ) (exit : Exit) (h : List Turn) (ps : List Place) (t : List ℕ) → SaysNodes asked b exit h ps t → (exit ≡ ReadFault → ⊥) → length b ≤ source_limit → (line : Line) → HasPlainVerdict b (Some line) → (IsPlainSource b → ⊥) → IsUnplainExit exit
+nodes_unplain : (asked : Asked) (b : List ℕ) (exit : Exit) (h : List Turn) (ps : List Place) (t : List ℕ) → SaysNodes asked b exit h ps t → (exit ≡ ReadFault → ⊥) → length b ≤ source_limit → (line : Line) → HasPlainVerdict b (Some line) → (IsPlainSource b → ⊥) → IsDue NotPlain exit
 nodes_unplain asked b Done h ps t k r le line v not_plain = absurd (not_plain k.0)
 nodes_unplain asked b Faulted h ps t k r le line v not_plain = absurd (not_plain k.0)
 nodes_unplain asked b Deadlocked h ps t k r le line v not_plain = absurd (not_plain k.0)
@@ -409,7 +410,7 @@ nodes_unplain asked b BadObject h ps t k r le line v not_plain = absurd k
 nodes_unplain asked b Unverified h ps t k r le line v not_plain = absurd k
 nodes_unplain asked b NotPlain h ps t k r le line v not_plain = inl refl
 
-pub unplain_by : (c : Command) (b : List ℕ) (exit : Exit) (h : List Turn) (ps : List Place) (t : List ℕ) → Says c b exit h ps t → (exit ≡ ReadFault → ⊥) → PlainOrNot → IsUnplainBy c b → IsUnplainExit exit
+unplain_by : (c : Command) (b : List ℕ) (exit : Exit) (h : List Turn) (ps : List Place) (t : List ℕ) → Says c b exit h ps t → (exit ≡ ReadFault → ⊥) → PlainOrNot → IsUnplainBy c b → IsDue NotPlain exit
 unfolding PlainOrNot
 unplain_by (command.Run setup vars) b exit h ps t k r apart v = absurd v
 unplain_by (command.Trace setup) b exit h ps t k r apart v = absurd v
@@ -423,7 +424,7 @@ unplain_by (command.Make number) b exit h ps t k r apart v = absurd v
 unplain_by (command.Demo number setup) b exit h ps t k r apart v = absurd v
 unplain_by (command.Nodes number setup vars) b exit h ps t k r apart v = nodes_unplain (report_asked setup.turns vars []) b exit h ps t k r v.0 v.1 v.2 (λ plain. apart b v.1 plain v.2)
 
-pub too_long_by : (c : Command) (b : List ℕ) (exit : Exit) (h : List Turn) (ps : List Place) (t : List ℕ) → Says c b exit h ps t → (exit ≡ ReadFault → ⊥) → IsTooLongBy c b → IsTooLongExit exit
+too_long_by : (c : Command) (b : List ℕ) (exit : Exit) (h : List Turn) (ps : List Place) (t : List ℕ) → Says c b exit h ps t → (exit ≡ ReadFault → ⊥) → IsTooLongBy c b → IsDue TooLong exit
 too_long_by (command.Run setup vars) b exit h ps t k r l = run_long (report_asked setup.turns vars []) b exit h ps t k r l
 too_long_by (command.Trace setup) b exit h ps t k r l = run_long (trace_asked setup.turns b) b exit h ps t k.0 r l
 too_long_by (command.Replay vars) b exit h ps t k r l = replay_long vars b exit h ps t k r l
@@ -436,7 +437,7 @@ too_long_by (command.Make number) b exit h ps t k r l = absurd l
 too_long_by (command.Demo number setup) b exit h ps t k r l = absurd l
 too_long_by (command.Nodes number setup vars) b exit h ps t k r l = nodes_long (report_asked setup.turns vars []) b exit h ps t (nodes_say (report_asked setup.turns vars []) b exit h ps t k) r l
 
-pub malformed_by : (c : Command) (b : List ℕ) (exit : Exit) (h : List Turn) (ps : List Place) (t : List ℕ) → Says c b exit h ps t → (exit ≡ ReadFault → ⊥) → IsMalformedBy c b → IsMalformedExit exit
+malformed_by : (c : Command) (b : List ℕ) (exit : Exit) (h : List Turn) (ps : List Place) (t : List ℕ) → Says c b exit h ps t → (exit ≡ ReadFault → ⊥) → IsMalformedBy c b → IsDue Malformed exit
 malformed_by (command.Run setup vars) b exit h ps t k r l = absurd l
 malformed_by (command.Trace setup) b exit h ps t k r l = absurd l
 malformed_by (command.Replay vars) b exit h ps t k r l = replay_malformed vars b exit h ps t k r l
@@ -448,6 +449,44 @@ malformed_by (command.Exec turns vars) b exit h ps t k r l = absurd l
 malformed_by (command.Make number) b exit h ps t k r l = absurd l
 malformed_by (command.Demo number setup) b exit h ps t k r l = absurd l
 malformed_by (command.Nodes number setup vars) b exit h ps t k r l = absurd l
+
+bad_object_by : (c : Command) (b : List ℕ) (exit : Exit) (h : List Turn) (ps : List Place) (t : List ℕ) → Says c b exit h ps t → (exit ≡ ReadFault → ⊥) → IsBadObjectBy c b → IsDue BadObject exit
+bad_object_by (command.Run setup vars) b exit h ps t k r l = absurd l
+bad_object_by (command.Trace setup) b exit h ps t k r l = absurd l
+bad_object_by (command.Replay vars) b exit h ps t k r l = absurd l
+bad_object_by command.Check b exit h ps t k r l = absurd l
+bad_object_by command.List b exit h ps t k r l = absurd l
+bad_object_by command.Flow b exit h ps t k r l = absurd l
+bad_object_by command.Compile b exit h ps t k r l = absurd l
+bad_object_by (command.Exec turns vars) b exit h ps t k r l = exec_malformed turns vars b exit h ps t (found turns vars b exit h ps t k) r l
+bad_object_by (command.Make number) b exit h ps t k r l = absurd l
+bad_object_by (command.Demo number setup) b exit h ps t k r l = absurd l
+bad_object_by (command.Nodes number setup vars) b exit h ps t k r l = absurd l
+
+unverified_by : (c : Command) (b : List ℕ) (exit : Exit) (h : List Turn) (ps : List Place) (t : List ℕ) → Says c b exit h ps t → (exit ≡ ReadFault → ⊥) → IsUnverifiedBy c b → IsDue Unverified exit
+unverified_by (command.Run setup vars) b exit h ps t k r l = absurd l
+unverified_by (command.Trace setup) b exit h ps t k r l = absurd l
+unverified_by (command.Replay vars) b exit h ps t k r l = absurd l
+unverified_by command.Check b exit h ps t k r l = absurd l
+unverified_by command.List b exit h ps t k r l = absurd l
+unverified_by command.Flow b exit h ps t k r l = absurd l
+unverified_by command.Compile b exit h ps t k r l = absurd l
+unverified_by (command.Exec turns vars) b exit h ps t k r l = exec_unverified turns vars b exit h ps t (found turns vars b exit h ps t k) r l
+unverified_by (command.Make number) b exit h ps t k r l = absurd l
+unverified_by (command.Demo number setup) b exit h ps t k r l = absurd l
+unverified_by (command.Nodes number setup vars) b exit h ps t k r l = absurd l
+
+-- so the exit is decided of which such is said, and which isn't a read fault
+pub decided_by : (c : Command) (b : List ℕ) (exit : Exit) (h : List Turn) (ps : List Place) (t : List ℕ) → Says c b exit h ps t → (exit ≡ ReadFault → ⊥) → ((n : ℕ) → length (made_text n) ≤ source_limit) → PlainOrNot → IsDecidedBy c b exit
+decided_by c b exit h ps t k r short apart = record {
+  complete = λ v. completed c b exit h ps t k r short apart v;
+  refused = λ v w. refused_of c b exit h ps t k r short v w;
+  too_long = λ l. too_long_by c b exit h ps t k r l;
+  malformed = λ l. malformed_by c b exit h ps t k r l;
+  bad_object = λ l. bad_object_by c b exit h ps t k r l;
+  unverified = λ l. unverified_by c b exit h ps t k r l;
+  unplain = λ v. unplain_by c b exit h ps t k r apart v;
+}
 
 -- only of a safe program it is told that there is no deadlock
 no_risk : (risk : Option Line) → codes "no deadlock\n" ≡ flow_text risk → risk ≡ None

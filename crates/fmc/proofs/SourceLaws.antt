@@ -1,5 +1,5 @@
 -- Replies whatever the bytes of a source are, and what is written of them.
-use Rattle.std.proofs.Common.{◌≡◌, inl, inr, ℕ, suc, ◌<◌, true, false, List, [], length, refl, sym, ap, subst, ◌∙◌, arith}
+use Rattle.std.proofs.Common.{◌≡◌, inl, inr, ℕ, suc, ◌<◌, Bool, true, false, List, [], length, refl, sym, ap, subst, ◌∙◌, arith}
 use Rattle.std.specs.Prelude.{◌≢◌, Option, Some, None, is_none, IfSome, replicate, codes}
 use Rattle.std.specs.Io.KnownBytes.{Appends}
 use Rattle.std.proofs.lemmas.Bool.{false≢true}
@@ -8,7 +8,7 @@ use Rattle.fm_base.specs.declared.schedule.Turn.{Turn}
 use Rattle.fm_io.specs.Streams.{WritesFront}
 use Rattle.fm_net.specs.Machine.{Place}
 use Rattle.fm_make.specs.Made.{made_text}
-use Rattle.fm_words.specs.Words.{command_of}
+use Rattle.fm_make.proofs.Short.{made_text_short}
 use Rattle.fm_words.specs.declared.command.Command.{Command}
 use Rattle.fm_words.specs.declared.command.Command.TheVariants as command
 use Rattle.fmc.specs.declared.answer.Exit.{Exit}
@@ -17,10 +17,13 @@ use Rattle.fmc.specs.declared.answer.Reply.{Reply}
 use Rattle.fmc.specs.Exits.{is_of_reading}
 use Rattle.fmc.specs.Executes.{SaysExec}
 use Rattle.fmc.specs.Outcomes.{IsUnplayed, usage_text}
+use Rattle.fmc.specs.Plain.{PlainOrNot}
 use Rattle.fmc.specs.Replay.{SaysReplay}
-use Rattle.fmc.specs.Answer.{Answers, HasGround, Says, SaysRun, SaysNodes, SaysTold, TellsList, TellsDeterminism, TellsFlow, TellsObject, SaysOf, are_reading, is_reading, limit_of, report_asked, summary_asked, trace_asked}
+use Rattle.fmc.specs.Answer.{Answers, ForBytes, HasGround, Says, SaysRun, SaysNodes, SaysTold, TellsList, TellsDeterminism, TellsFlow, TellsObject, SaysOf, are_reading, is_reading, limit_of, report_asked, summary_asked, trace_asked}
+use Rattle.fmc.specs.Decided.{IsDecidedBy}
 use Rattle.fmc.specs.Reply.{bytes_of, places_in, IsReply, IsReplyFor, IsReplyOf}
 use Rattle.fmc.proofs.AnswerLaws.{no_memory_apart, not_played, read_fault_apart, too_long_apart}
+use Rattle.fmc.proofs.SaidLaws.{decided_by, no_read_fault, says_history}
 
 -- what is said of a command that doesn't read is said whatever the source has
 pub says_unread : (c : Command) (b other : List ℕ) (exit : Exit) (h : List Turn) (ps : List Place) (t : List ℕ) → is_reading c ≡ false → Says c b exit h ps t → Says c other exit h ps t
@@ -57,7 +60,7 @@ usage_says None b exit h ps t c e u = (e, u)
 usage_says (Some command) b exit h ps t c e u = absurd (false≢true c)
 
 -- the same of what the words say
-pub said_of : (o : Option Command) (c : Command) (b : List ℕ) (exit : Exit) (h : List Turn) (ps : List Place) (t : List ℕ) → o ≡ Some c → SaysOf o b exit h ps t → Says c b exit h ps t
+said_of : (o : Option Command) (c : Command) (b : List ℕ) (exit : Exit) (h : List Turn) (ps : List Place) (t : List ℕ) → o ≡ Some c → SaysOf o b exit h ps t → Says c b exit h ps t
 said_of o c b exit h ps t e k = subst (λ (x : Option Command). SaysOf x b exit h ps t) e k
 
 -- a read fault says nothing of the bytes, and a source that is too long nothing but that
@@ -87,13 +90,39 @@ too_long_says (command.Make number) b exit h ps t c e l u = absurd (false≢true
 too_long_says (command.Demo number setup) b exit h ps t c e l u = absurd (false≢true c)
 too_long_says (command.Nodes number setup vars) b exit h ps t c e l u = subst (λ (x : Exit). SaysNodes (report_asked setup.turns vars []) b x h ps t) (sym e) (l, u)
 
-pub reply_to_any : (o : Option Command) (left : Option (List ℕ)) (r : Reply) → ((b : List ℕ) → IsReplyFor o b r) → IsReplyOf o left r
-reply_to_any o None r f = ([], tt, f [])
-reply_to_any o (Some b) r f = (b, refl, f b)
+-- what holds of all bytes; of those that were read
+for_any : (reads : Bool) (left : Option (List ℕ)) (P : List ℕ → Type 0) → ((b : List ℕ) → P b) → ForBytes reads left P
+for_any false left P f = f
+for_any true None P f = ([], f [])
+for_any true (Some b) P f = f b
 
-pub reply_to_read : (c : Command) (left : Option (List ℕ)) (read bytes : List ℕ) (r : Reply) → read ≡ bytes → IfSome left (λ l. bytes ≡ l) → IsReply c read r → IsReplyOf (Some c) left r
-reply_to_read c None read bytes r e h k = (read, tt, k)
-reply_to_read c (Some b) read bytes r e h k = (read, sym (e ∙ h), k)
+for_read : (reads : Bool) (left : Option (List ℕ)) (P : List ℕ → Type 0) (b : List ℕ) → reads ≡ true → IfSome left (λ l. b ≡ l) → P b → ForBytes reads left P
+for_read false left P b e h k = absurd (false≢true e)
+for_read true None P b e h k = (b, k)
+for_read true (Some l) P b e h k = subst P h k
+
+-- what follows for all bytes, follows for those of a call
+pub for_each : (reads : Bool) (left : Option (List ℕ)) (P Q : List ℕ → Type 0) → ((b : List ℕ) → P b → Q b) → ForBytes reads left P → ForBytes reads left Q
+for_each false left P Q f k = λ b. f b (k b)
+for_each true None P Q f k = (k.0, f k.0 k.1)
+for_each true (Some b) P Q f k = f b k
+
+-- for those that are told, and for any where nothing is read
+for_told : (reads : Bool) (left : Option (List ℕ)) (P : List ℕ → Type 0) → ForBytes reads left P → IfSome left P
+for_told false None P k = tt
+for_told false (Some b) P k = k b
+for_told true None P k = tt
+for_told true (Some b) P k = k
+
+for_unread : (reads : Bool) (left : Option (List ℕ)) (P : List ℕ → Type 0) → reads ≡ false → ForBytes reads left P → (b : List ℕ) → P b
+for_unread false left P e k b = k b
+for_unread true left P e k b = absurd (false≢true (sym e))
+
+pub reply_to_any : (o : Option Command) (left : Option (List ℕ)) (r : Reply) → ((b : List ℕ) → IsReplyFor o b r) → IsReplyOf o left r
+reply_to_any o left r f = for_any (are_reading o) left (λ b. IsReplyFor o b r) f
+
+pub reply_to_read : (c : Command) (left : Option (List ℕ)) (read bytes : List ℕ) (r : Reply) → is_reading c ≡ true → read ≡ bytes → IfSome left (λ l. bytes ≡ l) → IsReply c read r → IsReplyOf (Some c) left r
+reply_to_read c left read bytes r reads e h k = for_read (is_reading c) left (λ b. IsReply c b r) bytes reads h (subst (λ (b : List ℕ). IsReply c b r) e k)
 
 pub reply_to_fault : (c : Command) (left : Option (List ℕ)) (r : Reply) → is_reading c ≡ true → r.ran.exit ≡ ReadFault → IsUnplayed r.ran.history.items (places_in r.ran) (bytes_of r.text) (codes "read fault\n") → IsReplyOf (Some c) left r
 reply_to_fault c left r reads e u = reply_to_any (Some c) left r (λ b. read_fault_says c b r.ran.exit r.ran.history.items (places_in r.ran) (bytes_of r.text) reads e u)
@@ -102,13 +131,13 @@ reply_to_fault c left r reads e u = reply_to_any (Some c) left r (λ b. read_fau
 long_bytes : (limit : ℕ) → (b : List ℕ) × (limit < length b)
 long_bytes limit = let counted : length {A = ℕ} (replicate (suc limit) 0) ≡ suc limit = length-replicate (suc limit) 0 in (replicate (suc limit) 0, omega (arith, counted))
 
-long_reply : (c : Command) (r : Reply) (b : List ℕ) → limit_of c < length b → is_reading c ≡ true → r.ran.exit ≡ TooLong → IsUnplayed r.ran.history.items (places_in r.ran) (bytes_of r.text) (codes "source too long\n") → IsReplyOf (Some c) None r
-long_reply c r b l reads e u = (b, tt, too_long_says c b r.ran.exit r.ran.history.items (places_in r.ran) (bytes_of r.text) reads e l u)
+module _ (c : Command) (r : Reply) (reads : is_reading c ≡ true) (e : r.ran.exit ≡ TooLong) (u : IsUnplayed r.ran.history.items (places_in r.ran) (bytes_of r.text) (codes "source too long\n")) where
+  long_reply : (b : List ℕ) → limit_of c < length b → IsReply c b r
+  long_reply b l = too_long_says c b r.ran.exit r.ran.history.items (places_in r.ran) (bytes_of r.text) reads e l u
 
-pub reply_to_long : (c : Command) (left : Option (List ℕ)) (r : Reply) → is_reading c ≡ true → IfSome left (λ l. limit_of c < length l) → r.ran.exit ≡ TooLong
-    → IsUnplayed r.ran.history.items (places_in r.ran) (bytes_of r.text) (codes "source too long\n") → IsReplyOf (Some c) left r
-reply_to_long c None r reads l e u = long_reply c r (long_bytes (limit_of c)).0 (long_bytes (limit_of c)).1 reads e u
-reply_to_long c (Some b) r reads l e u = (b, refl, too_long_says c b r.ran.exit r.ran.history.items (places_in r.ran) (bytes_of r.text) reads e l u)
+  pub reply_to_long : (left : Option (List ℕ)) → IfSome left (λ l. limit_of c < length l) → IsReplyOf (Some c) left r
+  reply_to_long None l = for_read (is_reading c) None (λ b. IsReply c b r) (long_bytes (limit_of c)).0 reads tt (long_reply (long_bytes (limit_of c)).0 (long_bytes (limit_of c)).1)
+  reply_to_long (Some b) l = for_read (is_reading c) (Some b) (λ x. IsReply c x r) b reads refl (long_reply b l)
 
 -- the same for words that are this command
 pub reply_of_words : (o : Option Command) (c : Command) (left : Option (List ℕ)) (r : Reply) → o ≡ Some c → IsReplyOf (Some c) left r → IsReplyOf o left r
@@ -118,17 +147,29 @@ pub unread_words : (o : Option Command) (c : Command) (b other : List ℕ) (r : 
 unread_words o c b other r e unread k =
     subst (λ (x : Option Command). IsReplyFor x other r) (sym e) (says_unread c b other r.ran.exit r.ran.history.items (places_in r.ran) (bytes_of r.text) unread k)
 
--- what follows for any bytes that the reply is for, follows for those that are told
-pub when_told : (o : Option Command) (left : Option (List ℕ)) (r : Reply) (P : List ℕ → Type 0) → IsReplyOf o left r → ((b : List ℕ) → IsReplyFor o b r → P b) → IfSome left P
-when_told o None r P k f = tt
-when_told o (Some b) r P k f = f b (subst (λ (x : List ℕ). IsReplyFor o x r) (sym k.1) k.2)
-
 -- the reply was written, whole or a front of it
-pub answered : (words : List (List ℕ)) (b : List ℕ) (r : Reply) (exit : Exit) (before after : ℕ) (left old new : Option (List ℕ))
-    → IsReplyFor (command_of words) b r → HasGround (are_reading (command_of words)) r.ran.exit before after left
+pub answered : (o : Option Command) (b : List ℕ) (r : Reply) (exit : Exit) (before after : ℕ) (left old new : Option (List ℕ))
+    → IsReplyFor o b r → HasGround (are_reading o) r.ran.exit before after left
     → (exit ≢ WriteFault → (exit ≡ r.ran.exit) × Appends old new (bytes_of r.text)) → (exit ≡ WriteFault → WritesFront old new (bytes_of r.text))
-    → Answers words b exit r.ran.history.items (places_in r.ran) before after left old new
-answered words b r exit before after left old new says ground whole cut = record {
-  whole_text = λ told. (bytes_of r.text, subst (λ (x : Exit). SaysOf (command_of words) b x r.ran.history.items (places_in r.ran) (bytes_of r.text)) (sym (whole told).0) says, (whole told).1);
+    → Answers o b exit r.ran.history.items (places_in r.ran) before after left old new
+answered o b r exit before after left old new says ground whole cut = record {
+  kept = says_history o b r.ran.exit r.ran.history.items (places_in r.ran) (bytes_of r.text) says;
+  whole_text = λ told. (bytes_of r.text, subst (λ (x : Exit). SaysOf o b x r.ran.history.items (places_in r.ran) (bytes_of r.text)) (sym (whole told).0) says, (whole told).1);
   cut_short = λ fault. (r.ran.exit, bytes_of r.text, says, ground, cut fault);
 }
+
+-- and its exit is decided
+module _ (o : Option Command) (c : Command) (is : o ≡ Some c) (left : Option (List ℕ)) (r : Reply) (exit : Exit) (same : exit ≡ r.ran.exit) (apart : PlainOrNot) (reply : IsReplyOf o left r) where
+  reply_decided : (b : List ℕ) → (r.ran.exit ≡ ReadFault → ⊥) → Says c b r.ran.exit r.ran.history.items (places_in r.ran) (bytes_of r.text) → IsDecidedBy c b exit
+  reply_decided b no_read says = subst (IsDecidedBy c b) (sym same) (decided_by c b r.ran.exit r.ran.history.items (places_in r.ran) (bytes_of r.text) says no_read made_text_short apart)
+
+  pub told_decided : (r.ran.exit ≡ ReadFault → ⊥) → IfSome left (λ b. IsDecidedBy c b exit)
+  told_decided no_read =
+      for_told (are_reading o) left (λ b. IsDecidedBy c b exit)
+      (for_each (are_reading o) left (λ b. IsReplyFor o b r) (λ b. IsDecidedBy c b exit)
+      (λ b says. reply_decided b no_read (said_of o c b r.ran.exit r.ran.history.items (places_in r.ran) (bytes_of r.text) is says)) reply)
+
+  pub unread_decided : is_reading c ≡ false → (b : List ℕ) → IsDecidedBy c b exit
+  unread_decided unread b =
+      let says = said_of o c b r.ran.exit r.ran.history.items (places_in r.ran) (bytes_of r.text) is (for_unread (are_reading o) left (λ x. IsReplyFor o x r) (ap are_reading is ∙ unread) reply b) in
+      reply_decided b (no_read_fault c b r.ran.exit r.ran.history.items (places_in r.ran) (bytes_of r.text) unread says) says

@@ -1,11 +1,11 @@
 -- What a call answers: exit, kept schedule and text, for the bytes of a source.
 -- Source: this profile.
-use Rattle.std.specs.Prelude.{◌≡◌, ◌≢◌, ◌⊎◌, ℕ, ◌<◌, ◌≤◌, Bool, true, false, List, [], ◌∷◌, ◌++◌, length, Option, Some, None, codes}
+use Rattle.std.specs.Prelude.{◌≡◌, ◌≢◌, ◌⊎◌, ℕ, ◌<◌, ◌≤◌, Bool, true, false, List, [], ◌∷◌, ◌++◌, map, length, Option, Some, None, codes}
+use Rattle.std.specs.Borrow.{Bor}
 use Rattle.std.specs.Fmt.{decimal}
 use Rattle.std.specs.Io.KnownBytes.{Appends, IsAtEnd}
 use Rattle.fm_base.specs.declared.name.Line.{Line}
 use Rattle.fm_base.specs.declared.schedule.Turn.{Turn}
-use Rattle.fm_base.specs.declared.rule.Refusal.{Refusal}
 use Rattle.fm_base.specs.Verdict.{IsClean}
 use Rattle.fm_cards.specs.Cards.{cards_of}
 use Rattle.fm_io.specs.Causes.{Rose}
@@ -36,7 +36,7 @@ use Rattle.fm_verdict.specs.Program.{IsCheckedOf}
 use Rattle.fm_run.specs.Runs.{HaveSteps}
 use Rattle.fm_run.specs.Programs.{Follows, IsFrontWithin, play_of}
 use Rattle.fm_run_law.specs.Fair.{IsFair}
-use Rattle.fm_trace.specs.Texts.{IsFirstMalformed, IsTraceText, trace_of_history, trace_text}
+use Rattle.fm_trace.specs.Texts.{IsTraceText, trace_of_history, trace_text}
 use Rattle.fm_make.specs.Made.{made_text}
 use Rattle.fm_words.specs.Words.{command_of}
 use Rattle.fm_words.specs.declared.command.Command.{Command}
@@ -44,11 +44,11 @@ use Rattle.fm_words.specs.declared.command.Command.TheVariants as command
 use Rattle.fmc.specs.declared.answer.Exit.{Exit}
 use Rattle.fmc.specs.declared.answer.Exit.TheVariants.{Done, Faulted, Deadlocked, Refused, Spent, Usage, ReadFault, WriteFault, NoMemory, TooLong, Malformed, Illegal, Unfinished, BadObject, Unverified, NotPlain}
 use Rattle.fmc.specs.Exits.{is_read, is_of_reading}
-use Rattle.fmc.specs.Executes.{IsObjectHistory, IsRunnable, SaysExec, object_limit}
+use Rattle.fmc.specs.Executes.{IsObjectHistory, SaysExec, object_limit}
 use Rattle.fmc.specs.Listing.{listed_text}
-use Rattle.fmc.specs.Outcomes.{IsAccepted, IsRefused, IsRefusedFor, IsUnplayed, cost_of, exit_of, source_limit, state_after, usage_text}
-use Rattle.fmc.specs.Plain.{HasPlainVerdict, IsNotPlain, IsPlainSource}
-use Rattle.fmc.specs.Replay.{IsTooLongTrace, IsTraceOf, SaysReplay, trace_limit}
+use Rattle.fmc.specs.Outcomes.{IsRefused, IsUnplayed, cost_of, exit_of, source_limit, state_after, usage_text}
+use Rattle.fmc.specs.Plain.{IsNotPlain, IsPlainSource}
+use Rattle.fmc.specs.Replay.{SaysReplay, trace_limit}
 
 -- the kept schedule is one of the checked program of the source under these turns, with its processes in the order of starting
 pub record IsHistoryOf (source : List ℕ) (program : Program) (turns : ℕ) (history : List Turn) (places choices : List Place) : Type 0 where
@@ -296,6 +296,10 @@ abbrev pub SaysOf : Option Command → List ℕ → Exit → List Turn → List 
 SaysOf None b exit h ps t = (exit ≡ Usage) × IsUnplayed h ps t usage_text
 SaysOf (Some command) b exit h ps t = Says command b exit h ps t
 
+-- the command that words are, or none
+abbrev pub command_in : List (Bor (List ℕ)) → Option Command
+command_in words = command_of (map (λ (w : Bor (List ℕ)). w.now) words)
+
 -- a command that reads the source
 abbrev pub is_reading : Command → Bool
 is_reading (command.Run setup vars) = true
@@ -313,6 +317,13 @@ is_reading (command.Nodes number setup vars) = true
 abbrev pub are_reading : Option Command → Bool
 are_reading None = false
 are_reading (Some c) = is_reading c
+
+-- it holds of the bytes of a call: where they are read, of those that the source had left, or of some where it doesn't tell which; where
+-- nothing is read, of any
+abbrev pub ForBytes : (reads : Bool) → (left : Option (List ℕ)) → (List ℕ → Type 0) → Type 0
+ForBytes false left Holds = (b : List ℕ) → Holds b
+ForBytes true None Holds = (b : List ℕ) × Holds b
+ForBytes true (Some b) Holds = Holds b
 
 -- the most bytes that are read
 abbrev pub limit_of : Command → ℕ
@@ -334,126 +345,16 @@ pub record HasGround (reads : Bool) (exit : Exit) (before after : ℕ) (left : O
   pub read_fault : exit ≡ ReadFault → Rose before after
   pub all_read : reads ≡ true → is_read exit ≡ true → IsAtEnd left
 
--- what a call answers for these words and bytes, with what it wrote. Of the source: its counts of faults before and
--- after, and what it has left
-pub record Answers (words : List (List ℕ)) (b : List ℕ) (exit : Exit) (history : List Turn) (places : List Place) (before after : ℕ) (left old new : Option (List ℕ)) : Type 0 where
+-- what a call answers for this command, or for words that are none, and for these bytes, with what it wrote. Of the source: its counts of
+-- faults before and after, and what it has left
+pub record Answers (o : Option Command) (b : List ℕ) (exit : Exit) (history : List Turn) (places : List Place) (before after : ℕ) (left old new : Option (List ℕ)) : Type 0 where
+  -- the kept schedule is one of the source's program, whatever the exit
+  pub kept : HasHistory o b history places
   -- the whole text of the exit was written
-  pub whole_text : exit ≢ WriteFault → (text : List ℕ) × SaysOf (command_of words) b exit history places text × Appends old new text
+  pub whole_text : exit ≢ WriteFault → (text : List ℕ) × SaysOf o b exit history places text × Appends old new text
   -- a front of the text of another exit was written, which had its ground
-  pub cut_short : exit ≡ WriteFault → (other : Exit) × (text : List ℕ) × SaysOf (command_of words) b other history places text
-      × HasGround (are_reading (command_of words)) other before after left × WritesFront old new text
-
--- a source within the limit that breaks no rule
-abbrev pub IsLawful : List ℕ → Type 0
-IsLawful b = (length b ≤ source_limit) × IsAccepted b
-
--- nothing stands against the command's work
-abbrev pub IsReady : Command → List ℕ → Type 0
-IsReady (command.Run setup vars) b = IsLawful b
-IsReady (command.Trace setup) b = IsLawful b
-IsReady (command.Replay vars) b = IsTraceOf IsAccepted b
-IsReady command.Check b = IsLawful b
-IsReady command.List b = IsLawful b
-IsReady command.Flow b = IsLawful b
-IsReady command.Compile b = IsLawful b
-IsReady (command.Exec turns vars) b = IsRunnable b
-IsReady (command.Make number) b = Unit {0}
-IsReady (command.Demo number setup) b = IsAccepted (made_text number)
--- that of another program is the matter of IsUnplainBy
-IsReady (command.Nodes number setup vars) b = (length b ≤ source_limit) × IsPlainSource b
-
--- the command did its work to the end, or as far as its turns, or found no memory
-abbrev pub IsCompleted : Command → Exit → Type 0
-IsCompleted (command.Run setup vars) exit = ((exit ≡ Done) ⊎ ((exit ≡ Faulted) ⊎ (exit ≡ Deadlocked))) ⊎ ((exit ≡ Spent) ⊎ (exit ≡ NoMemory))
-IsCompleted (command.Trace setup) exit = ((exit ≡ Done) ⊎ ((exit ≡ Faulted) ⊎ (exit ≡ Deadlocked))) ⊎ ((exit ≡ Spent) ⊎ (exit ≡ NoMemory))
-IsCompleted (command.Replay vars) exit = IsPlayedExit exit ⊎ ((exit ≡ Illegal) ⊎ ((exit ≡ Unfinished) ⊎ (exit ≡ NoMemory)))
-IsCompleted command.Check exit = (exit ≡ Done) ⊎ (exit ≡ NoMemory)
-IsCompleted command.List exit = (exit ≡ Done) ⊎ (exit ≡ NoMemory)
-IsCompleted command.Flow exit = (exit ≡ Done) ⊎ (exit ≡ NoMemory)
-IsCompleted command.Compile exit = (exit ≡ Done) ⊎ (exit ≡ NoMemory)
-IsCompleted (command.Exec turns vars) exit = ((exit ≡ Done) ⊎ ((exit ≡ Faulted) ⊎ (exit ≡ Deadlocked))) ⊎ ((exit ≡ Spent) ⊎ (exit ≡ NoMemory))
-IsCompleted (command.Make number) exit = (exit ≡ Done) ⊎ (exit ≡ NoMemory)
-IsCompleted (command.Demo number setup) exit = ((exit ≡ Done) ⊎ ((exit ≡ Faulted) ⊎ (exit ≡ Deadlocked))) ⊎ ((exit ≡ Spent) ⊎ (exit ≡ NoMemory))
-IsCompleted (command.Nodes number setup vars) exit = ((exit ≡ Done) ⊎ ((exit ≡ Faulted) ⊎ (exit ≡ Deadlocked))) ⊎ ((exit ≡ Spent) ⊎ (exit ≡ NoMemory))
-
--- a source within the limit that is refused for this
-abbrev pub IsUnlawful : List ℕ → Refusal → Type 0
-IsUnlawful b v = (length b ≤ source_limit) × IsRefusedFor b v
-
--- what the command works on is refused for this
-abbrev pub IsRefusedBy : Command → List ℕ → Refusal → Type 0
-IsRefusedBy (command.Run setup vars) b v = IsUnlawful b v
-IsRefusedBy (command.Trace setup) b v = IsUnlawful b v
-IsRefusedBy (command.Replay vars) b v = IsTraceOf (λ source. IsRefusedFor source v) b
-IsRefusedBy command.Check b v = IsUnlawful b v
-IsRefusedBy command.List b v = IsUnlawful b v
-IsRefusedBy command.Flow b v = IsUnlawful b v
-IsRefusedBy command.Compile b v = IsUnlawful b v
-IsRefusedBy (command.Exec turns vars) b v = ⊥
-IsRefusedBy (command.Make number) b v = ⊥
-IsRefusedBy (command.Demo number setup) b v = IsRefusedFor (made_text number) v
-IsRefusedBy (command.Nodes number setup vars) b v = IsUnlawful b v
-
-abbrev pub IsRefusedExit : Exit → Type 0
-IsRefusedExit exit = (exit ≡ Refused) ⊎ (exit ≡ NoMemory)
-
-abbrev pub IsTooLongExit : Exit → Type 0
-IsTooLongExit exit = (exit ≡ TooLong) ⊎ (exit ≡ NoMemory)
-
--- the bytes are over the limit of the command
-abbrev pub IsTooLongBy : Command → List ℕ → Type 0
-IsTooLongBy (command.Run setup vars) b = source_limit < length b
-IsTooLongBy (command.Trace setup) b = source_limit < length b
-IsTooLongBy (command.Replay vars) b = IsTooLongTrace b
-IsTooLongBy command.Check b = source_limit < length b
-IsTooLongBy command.List b = source_limit < length b
-IsTooLongBy command.Flow b = source_limit < length b
-IsTooLongBy command.Compile b = source_limit < length b
-IsTooLongBy (command.Exec turns vars) b = object_limit < length b
-IsTooLongBy (command.Make number) b = ⊥
-IsTooLongBy (command.Demo number setup) b = ⊥
-IsTooLongBy (command.Nodes number setup vars) b = source_limit < length b
-
-abbrev pub IsMalformedExit : Exit → Type 0
-IsMalformedExit exit = (exit ≡ Malformed) ⊎ (exit ≡ NoMemory)
-
--- a line of the trace, which is within its limit, is malformed
-abbrev pub IsMalformedBy : Command → List ℕ → Type 0
-IsMalformedBy (command.Run setup vars) b = ⊥
-IsMalformedBy (command.Trace setup) b = ⊥
-IsMalformedBy (command.Replay vars) b = (length b ≤ trace_limit) × (line : ℕ) × IsFirstMalformed b line
-IsMalformedBy command.Check b = ⊥
-IsMalformedBy command.List b = ⊥
-IsMalformedBy command.Flow b = ⊥
-IsMalformedBy command.Compile b = ⊥
-IsMalformedBy (command.Exec turns vars) b = ⊥
-IsMalformedBy (command.Make number) b = ⊥
-IsMalformedBy (command.Demo number setup) b = ⊥
-IsMalformedBy (command.Nodes number setup vars) b = ⊥
-
--- the object text is malformed, or its image makes no sense
-abbrev pub IsBadObjectExit : Exit → Type 0
-IsBadObjectExit exit = (exit ≡ BadObject) ⊎ (exit ≡ NoMemory)
-
-abbrev pub IsUnverifiedExit : Exit → Type 0
-IsUnverifiedExit exit = (exit ≡ Unverified) ⊎ (exit ≡ NoMemory)
-
-abbrev pub IsUnplainExit : Exit → Type 0
-IsUnplainExit exit = (exit ≡ NotPlain) ⊎ (exit ≡ NoMemory)
-
--- the source is within the limit and breaks no rule, and its program isn't one that hosts can play, which the command asks for
-abbrev pub IsUnplainBy : Command → List ℕ → Type 0
-IsUnplainBy (command.Run setup vars) b = ⊥
-IsUnplainBy (command.Trace setup) b = ⊥
-IsUnplainBy (command.Replay vars) b = ⊥
-IsUnplainBy command.Check b = ⊥
-IsUnplainBy command.List b = ⊥
-IsUnplainBy command.Flow b = ⊥
-IsUnplainBy command.Compile b = ⊥
-IsUnplainBy (command.Exec turns vars) b = ⊥
-IsUnplainBy (command.Make number) b = ⊥
-IsUnplainBy (command.Demo number setup) b = ⊥
-IsUnplainBy (command.Nodes number setup vars) b = (length b ≤ source_limit) × (line : Line) × HasPlainVerdict b (Some line)
+  pub cut_short : exit ≡ WriteFault → (other : Exit) × (text : List ℕ) × SaysOf o b other history places text
+      × HasGround (are_reading o) other before after left × WritesFront old new text
 
 -- the kept schedule of the source's program follows the choices, in pieces of at most a slice
 abbrev pub FollowsIn : List ℕ → (slice : ℕ) → (choices : List ℕ) → List Turn → Type 0

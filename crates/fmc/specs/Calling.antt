@@ -1,21 +1,19 @@
 -- What a program answers that was started with words.
 -- Source: this profile.
-use Rattle.std.specs.Prelude.{◌≡◌, ◌≢◌, ◌⊎◌, ℕ, List, Option, IfSome, codes}
+use Rattle.std.specs.Prelude.{◌≡◌, ◌≢◌, ◌⊎◌, ℕ, List, Option, codes}
 use Rattle.std.specs.Io.KnownBytes.{Appends}
 use Rattle.fm_base.specs.declared.schedule.Turn.{Turn}
 use Rattle.fm_io.specs.Streams.{WritesFront}
 use Rattle.fm_net.specs.Machine.{Place}
+use Rattle.fm_words.specs.Words.{command_of}
 use Rattle.fmc.specs.declared.answer.Exit.{Exit}
 use Rattle.fmc.specs.declared.answer.Exit.TheVariants.{NoMemory, WriteFault}
-use Rattle.fmc.specs.Answer.{Answers}
+use Rattle.fmc.specs.Answer.{Answers, ForBytes, are_reading}
 
--- it is what a call answers for these words and for the bytes that the source had left, where it tells them, under some schedule
+-- it is what a call answers for these words and for the bytes, under some schedule
 pub record AnswersWords (words : List (List ℕ)) (exit : Exit) (before after : ℕ) (source left old new : Option (List ℕ)) : Type 0 where
-  pub bytes : List ℕ
-  pub are_left : IfSome source (λ l. l ≡ bytes)
-  pub history : List Turn
-  pub places : List Place
-  pub answers : Answers words bytes exit history places before after left old new
+  pub answers : ForBytes (are_reading (command_of words)) source (λ b. (history : List Turn) × (places : List Place)
+      × Answers (command_of words) b exit history places before after left old new)
 
 -- memory was wanting for the words: this was written, or a front of it
 pub record LacksMemory (exit : Exit) (old new : Option (List ℕ)) : Type 0 where

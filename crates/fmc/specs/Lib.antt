@@ -5,6 +5,7 @@ pub mod Plain
 pub mod Executes
 pub mod Replay
 pub mod Answer
+pub mod Decided
 pub mod OneAnswer
 pub mod Calling
 pub mod Reply

@@ -1,6 +1,6 @@
 -- A reply as plain data.
 -- Source: this profile.
-use Rattle.std.specs.Prelude.{◌≡◌, ℕ, Bool, true, false, Option, List, [], IfSome}
+use Rattle.std.specs.Prelude.{◌≡◌, ℕ, Bool, true, false, Option, List, []}
 use Rattle.fm_base.specs.declared.schedule.Setup.{Setup}
 use Rattle.fm_base.specs.declared.name.Line.{Line}
 use Rattle.fm_base.specs.declared.schedule.Turn.{Turn}
@@ -26,7 +26,7 @@ use Rattle.fmc.specs.declared.answer.Text.{Text}
 use Rattle.fmc.specs.declared.answer.Text.TheVariants.{Fixed, Made}
 use Rattle.fmc.specs.Exits.{is_of_reading}
 use Rattle.fmc.specs.Outcomes.{IsUnplayed}
-use Rattle.fmc.specs.Answer.{Asked, Says, SaysOf, SaysRun, flow_text, summary_asked}
+use Rattle.fmc.specs.Answer.{Asked, ForBytes, Says, SaysOf, SaysRun, are_reading, flow_text, summary_asked}
 
 abbrev pub bytes_of : Text → List ℕ
 bytes_of (Fixed s) = s.now
@@ -43,9 +43,9 @@ IsReply command b r = Says command b r.ran.exit r.ran.history.items (places_in r
 abbrev pub IsReplyFor : Option Command → List ℕ → Reply → Type 0
 IsReplyFor o b r = SaysOf o b r.ran.exit r.ran.history.items (places_in r.ran) (bytes_of r.text)
 
--- the reply is one of the words for some bytes: for those that the source had left, where it tells them
+-- the reply is one of the words for the bytes
 abbrev pub IsReplyOf : Option Command → (left : Option (List ℕ)) → Reply → Type 0
-IsReplyOf o left r = (b : List ℕ) × IfSome left (λ l. l ≡ b) × IsReplyFor o b r
+IsReplyOf o left r = ForBytes (are_reading o) left (λ b. IsReplyFor o b r)
 
 -- what is told of a run that ended, or that it was spent
 abbrev pub text_in : Asked → List Turn → List Place → Ending → List ℕ

@@ -61,7 +61,8 @@ fn answered<S: Source, K: Sink, W: Workers<Table>>(
     workers: &W,
 ) -> Exit
     requires { W.crosses }
-    ensures answers { AnswersCall (map string_bytes words.now) result (S.faults source.old) (S.faults source.new) (S.left source.old) (S.left source.new) (K.written sink.old) (K.written sink.new) }
+    ensures answers { AnswersCall (map string_bytes words.now) result (S.faults source.old) (S.faults source.new)
+        (S.left source.old) (S.left source.new) (K.written sink.old) (K.written sink.new) }
     ensures unread { are_reading (command_of (map string_bytes words.now)) ≡ false → source.new ≡ source.old }
     ensures flushed { result ≢ Exit.WriteFault → K.flushed sink.new }
     ensures read_fault { result ≡ Exit.ReadFault → Rose (S.faults source.old) (S.faults source.new) }
@@ -84,11 +85,15 @@ pub fn exit_of_call<S: Source, K: Sink, W: Workers<Table>>(
 ) -> Exit
     requires { W.crosses }
     // Exit and text are those of these very words.
-    ensures answers { IfOk words (λ ws. AnswersCall (map string_bytes ws.items) result (S.faults source.old) (S.faults source.new) (S.left source.old) (S.left source.new) (K.written sink.old) (K.written sink.new)) }
-    ensures unread { IfOk words (λ ws. are_reading (command_of (map string_bytes ws.items)) ≡ false → source.new ≡ source.old) }
+    ensures answers { IfOk words (λ ws. AnswersCall (map string_bytes ws.items) result (S.faults source.old)
+        (S.faults source.new) (S.left source.old) (S.left source.new) (K.written sink.old) (K.written sink.new)) }
+    ensures unread { IfOk words
+        (λ ws. are_reading (command_of (map string_bytes ws.items)) ≡ false → source.new ≡ source.old) }
     // Words that aren't UTF-8 are answered as no words, which are no command; where they couldn't be had, memory was wanting.
-    ensures unspelt { IfErr words (λ e. AnswersCall [] result (S.faults source.old) (S.faults source.new) (S.left source.old) (S.left source.new) (K.written sink.old) (K.written sink.new)) }
-    ensures lacking { IfErr words (λ e. error_kind e ≢ ErrorKind.InvalidData → LacksMemory result (K.written sink.old) (K.written sink.new)) }
+    ensures unspelt { IfErr words (λ e. AnswersCall [] result (S.faults source.old) (S.faults source.new)
+        (S.left source.old) (S.left source.new) (K.written sink.old) (K.written sink.new)) }
+    ensures lacking { IfErr words
+        (λ e. error_kind e ≢ ErrorKind.InvalidData → LacksMemory result (K.written sink.old) (K.written sink.new)) }
     ensures no_words { IfErr words (λ e. source.new ≡ source.old) }
     ensures flushed { result ≢ Exit.WriteFault → K.flushed sink.new }
     ensures read_fault { result ≡ Exit.ReadFault → Rose (S.faults source.old) (S.faults source.new) }

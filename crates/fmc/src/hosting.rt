@@ -41,7 +41,8 @@ pub(crate) fn report_reply(
     ensures exit { IfOk result (λ r. r.ran.exit ≡ exit_in run.ending) }
     ensures history { IfOk result (λ r. r.ran.history ≡ run.history) }
     ensures paths { IfOk result (λ r. r.ran.paths ≡ run.paths) }
-    ensures text { IfOk result (λ r. bytes_of r.text ≡ text_in (report_asked turns vars []) run.history.items (places_of run.paths.items) run.ending) }
+    ensures text { IfOk result (λ r. bytes_of r.text
+        ≡ text_in (report_asked turns vars []) run.history.items (places_of run.paths.items) run.ending) }
 {
     let text = report_in(alloc, &run, turns, vars)?;
     Ok(Reply {
@@ -58,7 +59,8 @@ fn nodes_reply(
     setup: Setup,
     vars: bool,
 ) -> Result<Reply, NoMemory>
-    ensures reply { IfOk result (λ r. (source : List ℕ) → length source ≤ source_limit → IsCheckedOf source program → IsReply (command.Nodes number setup vars) source r) }
+    ensures reply { IfOk result (λ r. (source : List ℕ) → length source ≤ source_limit
+        → IsCheckedOf source program → IsReply (command.Nodes number setup vars) source r) }
     ensures kind { IfOk result (λ r. is_decided r.ran.exit ≡ true) }
 {
     let shared = Arc::new(alloc, program)?;

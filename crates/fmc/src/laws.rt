@@ -23,14 +23,20 @@ pub fn replay_has_one_answer()
 /// makes sense, and its code is the program's: what executes the one executes the other. So `exec` finds no malformed line in the text,
 /// and no unit that makes no sense.
 pub fn compiled_makes_sense()
-    ensures { (source : List ℕ) (history : List Turn) (places : List Place) (text : List ℕ) → Says command.Compile source exits.Done history places text → IsCompiledOf source text }
+    ensures { (source : List ℕ) (history : List Turn) (places : List Place) (text : List ℕ)
+        → Says command.Compile source exits.Done history places text
+        → IsCompiledOf source text }
 {}
 
 /// Where `compile` wrote the bytes of a source, `exec` runs them, unless they are over its limit, no memory is found, or reading them
 /// fails. Then it says what `run` says of the source: the same exit and the same report, of a schedule of the program that is fair.
 pub fn exec_tells_the_run()
-    ensures runs { (source bytes : List ℕ) (history : List Turn) (places : List Place) → Says command.Compile source exits.Done history places bytes → ExecRuns bytes }
-    ensures tells { (source bytes : List ℕ) (history : List Turn) (places : List Place) → Says command.Compile source exits.Done history places bytes → ExecTellsRun source bytes }
+    ensures runs { (source bytes : List ℕ) (history : List Turn) (places : List Place)
+        → Says command.Compile source exits.Done history places bytes
+        → ExecRuns bytes }
+    ensures tells { (source bytes : List ℕ) (history : List Turn) (places : List Place)
+        → Says command.Compile source exits.Done history places bytes
+        → ExecTellsRun source bytes }
 {}
 
 /// Two answers of `exec` to the same bytes are one, with the same turns and the same question, where the bytes decide each, and memory was
@@ -42,7 +48,8 @@ pub fn exec_has_one_answer()
 /// Whatever the turns, two such answers are both of runs, or are one: line k that is malformed, unit k that makes no sense, or too long a
 /// text, and none beside.
 pub fn exec_has_one_cause()
-    ensures { (turns others : ℕ) (vars shown : Bool) (b : List ℕ) → HaveOneCause (Says (command.Exec turns vars) b) (Says (command.Exec others shown) b) }
+    ensures { (turns others : ℕ) (vars shown : Bool) (b : List ℕ)
+        → HaveOneCause (Says (command.Exec turns vars) b) (Says (command.Exec others shown) b) }
 {}
 
 /// The program of a source is plain or not, and not both.

@@ -80,7 +80,8 @@ fn lacks_step(alloc: Global, table: &mut Table, entry: Turn) -> Result<bool, NoM
 fn play_run(alloc: Global, table: &mut Table, run: Run) -> Result<Option<u32>, NoMemory>
     requires told { table.old ≡ told_after table.old.program table.old.setup table.old.history }
     requires steps { 1 ≤ run.turn.steps }
-    ensures come { IfOk result (λ r. HasCome table.old.program table.old.setup (table.old.history ++ each_time run) table.new (option_map (λ made. length table.old.history + made) r)) }
+    ensures come { IfOk result (λ r. HasCome table.old.program table.old.setup (table.old.history ++ each_time run)
+        table.new (option_map (λ made. length table.old.history + made) r)) }
     ensures fewer { IfOk result (λ r. IfSome r (λ made. made < run.times)) }
 {
     'times: for made in 0..run.times {
@@ -169,7 +170,9 @@ fn replay_in(
 // The reply to a trace of a program that breaks no rule.
 fn replay_of(alloc: Global, program: Program, trace: &Trace, vars: bool) -> Result<Reply, NoMemory>
     requires { IsTrace trace.now }
-    ensures exit { IfOk result (λ r. (told : List ℕ) × ComesTo vars r.ran.exit program trace.now.turns (history_of trace.now) told × IsUnplayed r.ran.history.items (places_in r.ran) (bytes_of r.text) told) }
+    ensures exit { IfOk result (λ r. (told : List ℕ)
+        × ComesTo vars r.ran.exit program trace.now.turns (history_of trace.now) told
+        × IsUnplayed r.ran.history.items (places_in r.ran) (bytes_of r.text) told) }
     ensures kind { IfOk result (λ r. is_decided r.ran.exit ≡ true) }
 {
     let shared = Arc::new(alloc, program)?;
@@ -180,7 +183,8 @@ fn replay_of(alloc: Global, program: Program, trace: &Trace, vars: bool) -> Resu
 // The reply to a trace, whose form is whole.
 fn trace_reply(alloc: Global, trace: &Trace, vars: bool) -> Result<Reply, NoMemory>
     requires { IsTrace trace.now }
-    ensures reply { IfOk result (λ r. (b : List ℕ) → length b ≤ trace_limit → IsTraceText b trace.now → IsReply (command.Replay vars) b r) }
+    ensures reply { IfOk result
+        (λ r. (b : List ℕ) → length b ≤ trace_limit → IsTraceText b trace.now → IsReply (command.Replay vars) b r) }
     ensures kind { IfOk result (λ r. is_decided r.ran.exit ≡ true) }
 {
     if is_long(trace.source.as_slice()) {
@@ -196,7 +200,8 @@ fn trace_reply(alloc: Global, trace: &Trace, vars: bool) -> Result<Reply, NoMemo
 // The reply where a line of a trace is malformed.
 fn malformed_reply(alloc: Global, line: Line) -> Result<Reply, NoMemory>
     ensures exit { IfOk result (λ r. r.ran.exit ≡ Exit.Malformed) }
-    ensures text { IfOk result (λ r. IsUnplayed r.ran.history.items (places_in r.ran) (bytes_of r.text) (codes "malformed trace: line " ++ decimal line.0 ++ 10 ∷ [])) }
+    ensures text { IfOk result (λ r. IsUnplayed r.ran.history.items (places_in r.ran) (bytes_of r.text)
+        (codes "malformed trace: line " ++ decimal line.0 ++ 10 ∷ [])) }
 {
     let text = Text::Made(numbered(alloc, b"malformed trace: line ", u64::from(line.0))?);
     Ok(unplayed_reply(alloc, Exit::Malformed, text))

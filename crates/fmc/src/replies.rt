@@ -28,7 +28,8 @@ pub fn unplayed_reply(alloc: Global, exit: Exit, text: Text) -> Reply
 /// The reply where memory was asked for and not found. Takes no memory.
 pub fn no_memory(alloc: Global) -> Reply
     ensures exit { result.ran.exit ≡ Exit.NoMemory }
-    ensures text { IsUnplayed result.ran.history.items (places_in result.ran) (bytes_of result.text) (codes "no memory\n") }
+    ensures text { IsUnplayed result.ran.history.items (places_in result.ran) (bytes_of result.text)
+        (codes "no memory\n") }
 {
     unplayed_reply(alloc, Exit::NoMemory, Text::Fixed(b"no memory\n"))
 }
@@ -36,7 +37,8 @@ pub fn no_memory(alloc: Global) -> Reply
 /// The reply where a program breaks a rule.
 pub fn refusal_reply(alloc: Global, refusal: Refusal) -> Result<Reply, NoMemory>
     ensures exit { IfOk result (λ r. r.ran.exit ≡ Exit.Refused) }
-    ensures text { IfOk result (λ r. IsUnplayed r.ran.history.items (places_in r.ran) (bytes_of r.text) (refusal_text refusal)) }
+    ensures text { IfOk result
+        (λ r. IsUnplayed r.ran.history.items (places_in r.ran) (bytes_of r.text) (refusal_text refusal)) }
 {
     let text = Text::Made(refusal.text(alloc)?);
     Ok(unplayed_reply(alloc, Exit::Refused, text))

@@ -57,7 +57,8 @@ pub(crate) fn report_in(
     turns: u64,
     vars: bool,
 ) -> Result<Vec<u8>, NoMemory>
-    ensures { IfOk result (λ v. v.items ≡ text_in (report_asked turns vars []) run.now.history.items (places_of run.now.paths.items) run.now.ending) }
+    ensures { IfOk result (λ v. v.items
+        ≡ text_in (report_asked turns vars []) run.now.history.items (places_of run.now.paths.items) run.now.ending) }
 {
     match &run.ending {
         Ending::Ended(outcome) => report(alloc, outcome, vars),
@@ -88,7 +89,8 @@ pub fn play_source(
     vars: bool,
 ) -> Result<(Ran, Vec<u8>), CheckFail>
     requires { length bytes.now ≤ source_limit }
-    ensures says { IfOk result (λ r. SaysRun (report_asked setup.turns vars choices.now) bytes.now r.0.exit r.0.history.items (places_in r.0) r.1.items) }
+    ensures says { IfOk result (λ r. SaysRun (report_asked setup.turns vars choices.now) bytes.now r.0.exit
+        r.0.history.items (places_in r.0) r.1.items) }
     ensures follows { IfOk result (λ r. FollowsIn bytes.now setup.slice choices.now r.0.history.items) }
     ensures exit { IfOk result (λ r. IsPlayedExit r.0.exit) }
     ensures refused { IfErr result (IsRefusal (IsBroken bytes.now)) }
@@ -108,7 +110,8 @@ fn drive_source<W: Workers<Table>>(
 ) -> Result<(Ran, Vec<u8>), CheckFail>
     requires crosses { W.crosses }
     requires size { length bytes.now ≤ source_limit }
-    ensures says { IfOk result (λ r. SaysRun (report_asked setup.turns vars []) bytes.now r.0.exit r.0.history.items (places_in r.0) r.1.items) }
+    ensures says { IfOk result (λ r. SaysRun (report_asked setup.turns vars []) bytes.now r.0.exit r.0.history.items
+        (places_in r.0) r.1.items) }
     ensures exit { IfOk result (λ r. IsPlayedExit r.0.exit) }
     ensures refused { IfErr result (IsRefusal (IsBroken bytes.now)) }
 {
@@ -148,7 +151,8 @@ fn trace_source<W: Workers<Table>>(
 ) -> Result<(Ran, Vec<u8>), CheckFail>
     requires crosses { W.crosses }
     requires size { length bytes.now ≤ source_limit }
-    ensures says { IfOk result (λ r. SaysTrace setup.turns bytes.now r.0.exit r.0.history.items (places_in r.0) r.1.items) }
+    ensures says { IfOk result
+        (λ r. SaysTrace setup.turns bytes.now r.0.exit r.0.history.items (places_in r.0) r.1.items) }
     ensures exit { IfOk result (λ r. IsPlayedExit r.0.exit) }
     ensures refused { IfErr result (IsRefusal (IsBroken bytes.now)) }
 {
@@ -219,7 +223,8 @@ fn summary(alloc: Global, paths: &[Arc<Path>], outcome: &Outcome) -> Result<Vec<
 
 // The text of a demonstration: its summary, or that it was spent.
 fn summary_in(alloc: Global, run: &Run, turns: u64) -> Result<Vec<u8>, NoMemory>
-    ensures { IfOk result (λ v. v.items ≡ text_in (summary_asked turns) run.now.history.items (places_of run.now.paths.items) run.now.ending) }
+    ensures { IfOk result (λ v. v.items
+        ≡ text_in (summary_asked turns) run.now.history.items (places_of run.now.paths.items) run.now.ending) }
 {
     match &run.ending {
         Ending::Ended(outcome) => summary(alloc, &run.paths, outcome),
@@ -236,7 +241,8 @@ fn show_source<W: Workers<Table>>(
 ) -> Result<(Ran, Vec<u8>), CheckFail>
     requires crosses { W.crosses }
     requires size { length bytes.now ≤ source_limit }
-    ensures says { IfOk result (λ r. SaysRun (summary_asked setup.turns) bytes.now r.0.exit r.0.history.items (places_in r.0) r.1.items) }
+    ensures says { IfOk result
+        (λ r. SaysRun (summary_asked setup.turns) bytes.now r.0.exit r.0.history.items (places_in r.0) r.1.items) }
     ensures exit { IfOk result (λ r. IsPlayedExit r.0.exit) }
     ensures refused { IfErr result (IsRefusal (IsBroken bytes.now)) }
 {
@@ -274,7 +280,8 @@ fn try_demo<W: Workers<Table>>(
     workers: &W,
 ) -> Result<Reply, NoMemory>
     requires { W.crosses }
-    ensures reply { IfOk result (λ r. SaysDemo number setup.turns r.ran.exit r.ran.history.items (places_in r.ran) (bytes_of r.text)) }
+    ensures reply { IfOk result
+        (λ r. SaysDemo number setup.turns r.ran.exit r.ran.history.items (places_in r.ran) (bytes_of r.text)) }
     ensures kind { IfOk result (λ r. is_decided r.ran.exit ≡ true) }
 {
     let source = make(alloc, number)?;
@@ -283,7 +290,8 @@ fn try_demo<W: Workers<Table>>(
 
 /// The program of a number is written.
 fn try_make(alloc: Global, number: u64) -> Result<Reply, NoMemory>
-    ensures reply { IfOk result (λ r. SaysMade number r.ran.exit r.ran.history.items (places_in r.ran) (bytes_of r.text)) }
+    ensures reply { IfOk result
+        (λ r. SaysMade number r.ran.exit r.ran.history.items (places_in r.ran) (bytes_of r.text)) }
     ensures kind { IfOk result (λ r. is_decided r.ran.exit ≡ true) }
 {
     let text = Text::Made(make(alloc, number)?);
@@ -390,8 +398,10 @@ fn try_compile(alloc: Global, bytes: &[u8]) -> Result<Reply, NoMemory>
 fn checked_list(alloc: Global, statements: Vec<Placed>) -> Result<Vec<u8>, CheckFail>
     requires { AreShaped statements.items }
     ensures text { IfOk result (λ v. v.items ≡ listed_text statements.items) }
-    ensures clean { IfOk result (λ _. (source : List ℕ) → AreStatementsOf (cards_of source) statements.items → IsClean (IsBrokenForm source) → IsClean (IsBroken source)) }
-    ensures refused { IfErr result (λ e. (source : List ℕ) → AreStatementsOf (cards_of source) statements.items → IsClean (IsBrokenForm source) → IsRefusal (IsBroken source) e) }
+    ensures clean { IfOk result (λ _. (source : List ℕ) → AreStatementsOf (cards_of source) statements.items
+        → IsClean (IsBrokenForm source) → IsClean (IsBroken source)) }
+    ensures refused { IfErr result (λ e. (source : List ℕ) → AreStatementsOf (cards_of source) statements.items
+        → IsClean (IsBrokenForm source) → IsRefusal (IsBroken source) e) }
 {
     let text = list_text(alloc, &statements)?;
     match check_statements(alloc, statements) {

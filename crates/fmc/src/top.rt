@@ -1,8 +1,7 @@
 //! The top call.
 
-ghost use Rattle.std.specs.Prelude.{◌≡◌, ◌≢◌, ◌≤◌, ℕ, Bool, true, false, List, [], map, length, IfSome, IfOk, IfErr, Some, is_none, codes};
+ghost use Rattle.std.specs.Prelude.{◌≡◌, ◌≢◌, ◌≤◌, ℕ, Bool, true, false, List, [], length, IfSome, IfOk, IfErr, Some, is_none, codes};
 ghost use Rattle.std.specs.Io.KnownBytes.{Appends, IsAtEnd};
-ghost use Rattle.fm_base.specs.declared.rule.Refusal.{Refusal};
 ghost use Rattle.fm_base.specs.Verdict.{IsRefusal};
 ghost use Rattle.fm_io.specs.Causes.{Rose};
 ghost use Rattle.fm_io.specs.Streams.{WritesFront};
@@ -10,7 +9,6 @@ ghost use Rattle.fm_front.specs.Laws.{OneVerdict};
 ghost use Rattle.fm_verdict.specs.Verdict.{IsBroken};
 ghost use Rattle.fm_trace.specs.Texts.{IsTraceText};
 ghost use Rattle.fm_trace.specs.declared.trace.Trace.{Trace};
-ghost use Rattle.fm_words.specs.Words.{command_of};
 ghost use Rattle.fm_words.specs.declared.command.Command.{Command};
 ghost use Rattle.fm_words.specs.declared.command.Command.TheVariants as command;
 ghost use Rattle.fm_base.specs.declared.schedule.Setup as declared_setup;
@@ -18,11 +16,11 @@ ghost use Rattle.fm_base.specs.declared.schedule.Turn.{Turn};
 ghost use Rattle.fm_net.specs.Machine.{Place};
 ghost use Rattle.fmc.specs.declared.answer.Exit as declared_exit;
 ghost use Rattle.fmc.specs.Exits.{is_usage, is_read};
-ghost use Rattle.fmc.specs.Executes.{HasBadLine, HasBadUnit};
 ghost use Rattle.fmc.specs.Outcomes.{source_limit};
 ghost use Rattle.fmc.specs.Replay.{trace_limit};
-ghost use Rattle.fmc.specs.Answer.{Answers, Asked, FollowsIn, Says, SaysRun, HasHistory, IsReady, IsRefusedBy, IsCompleted, IsMalformedBy, IsMalformedExit, IsRefusedExit, IsTooLongBy, IsTooLongExit, IsBadObjectExit, IsUnverifiedExit, IsUnplainBy, IsUnplainExit, IsPlayedExit, are_reading, is_reading, limit_of, report_asked};
-ghost use Rattle.fmc.specs.Reply.{IsReplyFor, IsReplyOf, bytes_of, places_in};
+ghost use Rattle.fmc.specs.Answer.{Answers, Asked, FollowsIn, ForBytes, IsPlayedExit, Says, SaysRun, are_reading, command_in, is_reading, limit_of, report_asked};
+ghost use Rattle.fmc.specs.Decided.{IsDecidedBy};
+ghost use Rattle.fmc.specs.Reply.{IsReplyOf, bytes_of, places_in};
 
 use crate::answer::{Exit, Ran, Reply, Text};
 use crate::laws::plain_or_not;
@@ -31,7 +29,7 @@ use crate::response::{play_source, reply};
 use fm_base::{CheckFail, Plan, Setup};
 use fm_io::{ReadFail, Sink, Source, WriteFail, read_all, write_all};
 use fm_table::Table;
-use fm_words::{Command, WordsFail, words as command_in};
+use fm_words::{Command, WordsFail};
 use fm_workers::Workers;
 use std::alloc::Global;
 
@@ -121,17 +119,16 @@ fn respond<S: Source, W: Workers<Table>>(
     workers: &W,
 ) -> Reply
     requires { W.crosses }
-    ensures reply { IsReplyOf (command_of (map (λ w. w.now) words.now)) (S.left source.old) result }
-    ensures unread_reply { are_reading (command_of (map (λ w. w.now) words.now)) ≡ false → (b : List ℕ)
-        → IsReplyFor (command_of (map (λ w. w.now) words.now)) b result }
-    ensures words { is_usage result.ran.exit ≡ is_none (command_of (map (λ w. w.now) words.now)) }
+    ensures reply { IsReplyOf (command_in words.now) (S.left source.old) result }
+    ensures words { is_usage result.ran.exit ≡ is_none (command_in words.now) }
     ensures no_write { result.ran.exit ≢ Exit.WriteFault }
     ensures read_fault { result.ran.exit ≡ Exit.ReadFault → Rose (S.faults source.old) (S.faults source.new) }
-    ensures read { are_reading (command_of (map (λ w. w.now) words.now)) ≡ true → is_read result.ran.exit ≡ true → IsAtEnd (S.left source.new) }
-    ensures unread { are_reading (command_of (map (λ w. w.now) words.now)) ≡ false → source.new ≡ source.old }
+    ensures read { are_reading (command_in words.now) ≡ true
+        → is_read result.ran.exit ≡ true → IsAtEnd (S.left source.new) }
+    ensures unread { are_reading (command_in words.now) ≡ false → source.new ≡ source.old }
     ensures later { S.faults source.old ≤ S.faults source.new }
 {
-    match command_in(alloc, words) {
+    match fm_words::words(alloc, words) {
         Ok(command) => {
             if is_reading(&command) {
                 respond_to(alloc, command, source, workers)
@@ -146,9 +143,12 @@ fn respond<S: Source, W: Workers<Table>>(
 
 fn finish<K: Sink>(sink: &mut K, reply: Reply) -> Ran
     requires { reply.ran.exit ≢ Exit.WriteFault }
-    ensures whole { result.exit ≢ Exit.WriteFault → (result.exit ≡ reply.ran.exit) × Appends (K.written sink.old) (K.written sink.new) (bytes_of reply.text) }
+    ensures whole { result.exit ≢ Exit.WriteFault
+        → (result.exit ≡ reply.ran.exit) × Appends (K.written sink.old) (K.written sink.new) (bytes_of reply.text) }
     ensures flushed { result.exit ≢ Exit.WriteFault → K.flushed sink.new }
-    ensures cut { result.exit ≡ Exit.WriteFault → Rose (K.faults sink.old) (K.faults sink.new) × WritesFront (K.written sink.old) (K.written sink.new) (bytes_of reply.text) }
+    ensures cut { result.exit ≡ Exit.WriteFault
+        → Rose (K.faults sink.old) (K.faults sink.new)
+        × WritesFront (K.written sink.old) (K.written sink.new) (bytes_of reply.text) }
     ensures history { result.history ≡ reply.ran.history }
     ensures paths { result.paths ≡ reply.ran.paths }
     ensures later { K.faults sink.old ≤ K.faults sink.new }
@@ -190,54 +190,31 @@ pub fn fmc<S: Source, K: Sink, W: Workers<Table>>(
 ) -> Ran
     // What the type of workers needs to start threads.
     requires { W.crosses }
-    // Exit, schedule and text are those of the bytes: the whole text was written and handed on, or a
-    // front of the text that would have been.
-    ensures answers { IfSome (S.left source.old) (λ b.
-        Answers (map (λ w. w.now) words.now) b result.exit result.history.items (places_in result)
+
+    // Exit, kept schedule and text are those of the bytes that the source had left; of some, where it doesn't tell which,
+    // as standard input; and of any, where nothing is read. The whole text was written and handed on, or a front of the
+    // text that would have been.
+    ensures answers { ForBytes (are_reading (command_in words.now)) (S.left source.old) (λ b.
+        Answers (command_in words.now) b result.exit result.history.items (places_in result)
         (S.faults source.old) (S.faults source.new) (S.left source.new) (K.written sink.old) (K.written sink.new)) }
     ensures flushed { result.exit ≢ Exit.WriteFault → K.flushed sink.new }
-    // The kept schedule is one of the source's program, whatever the exit.
-    ensures history { IfSome (S.left source.old) (λ b. HasHistory (command_of (map (λ w. w.now) words.now)) b result.history.items (places_in result)) }
-    // A source that tells no bytes, as standard input, has bytes all the same of which both hold.
-    ensures some_bytes { (b : List ℕ) × IfSome (S.left source.old) (λ l. l ≡ b)
-        × Answers (map (λ w. w.now) words.now) b result.exit result.history.items (places_in result)
-        (S.faults source.old) (S.faults source.new) (S.left source.new) (K.written sink.old) (K.written sink.new)
-        × HasHistory (command_of (map (λ w. w.now) words.now)) b result.history.items (places_in result) }
-    // Where nothing is read, the words alone decide: the bytes may be any.
-    ensures unread_answers { are_reading (command_of (map (λ w. w.now) words.now)) ≡ false → (b : List ℕ)
-        → Answers (map (λ w. w.now) words.now) b result.exit result.history.items (places_in result)
-        (S.faults source.old) (S.faults source.new) (S.left source.new) (K.written sink.old) (K.written sink.new)
-        × HasHistory (command_of (map (λ w. w.now) words.now)) b result.history.items (places_in result) }
-    ensures usage { result.exit ≢ Exit.WriteFault → is_usage result.exit ≡ is_none (command_of (map (λ w. w.now) words.now)) }
+    ensures usage { result.exit ≢ Exit.WriteFault → is_usage result.exit ≡ is_none (command_in words.now) }
+
+    // Nothing but the words, the bytes and the memory decides the exit, where nothing failed. Where nothing is read, it
+    // doesn't matter whether the source failed.
+    ensures decided { (command : Command) → command_in words.now ≡ Some command
+        → ¬ Rose (S.faults source.old) (S.faults source.new) → ¬ Rose (K.faults sink.old) (K.faults sink.new)
+        → IfSome (S.left source.old) (λ b. IsDecidedBy command b result.exit) }
+    ensures unread_decided { (command : Command) → command_in words.now ≡ Some command
+        → is_reading command ≡ false → ¬ Rose (K.faults sink.old) (K.faults sink.new)
+        → (b : List ℕ) → IsDecidedBy command b result.exit }
 
     // A fault is told only where the source or the sink failed in this call.
     ensures read_fault { result.exit ≡ Exit.ReadFault → Rose (S.faults source.old) (S.faults source.new) }
     ensures write_fault { result.exit ≡ Exit.WriteFault → Rose (K.faults sink.old) (K.faults sink.new) }
-    ensures all_read { are_reading (command_of (map (λ w. w.now) words.now)) ≡ true → is_read result.exit ≡ true → IsAtEnd (S.left source.new) }
-    ensures unread { are_reading (command_of (map (λ w. w.now) words.now)) ≡ false → source.new ≡ source.old }
-
-    // Nothing but the words, the bytes and the memory decides, where nothing fails.
-    ensures complete { (command : Command) → command_of (map (λ w. w.now) words.now) ≡ Some command → ¬ Rose (S.faults source.old) (S.faults source.new) → ¬ Rose (K.faults sink.old) (K.faults sink.new)
-        → IfSome (S.left source.old) (λ b. IsReady command b → IsCompleted command result.exit) }
-    ensures refused { (command : Command) → command_of (map (λ w. w.now) words.now) ≡ Some command → ¬ Rose (S.faults source.old) (S.faults source.new) → ¬ Rose (K.faults sink.old) (K.faults sink.new)
-        → IfSome (S.left source.old) (λ b. (v : Refusal) → IsRefusedBy command b v → IsRefusedExit result.exit) }
-    // Where nothing is read, it doesn't matter whether the source fails.
-    ensures unread_complete { (command : Command) → command_of (map (λ w. w.now) words.now) ≡ Some command
-        → is_reading command ≡ false → ¬ Rose (K.faults sink.old) (K.faults sink.new)
-        → (b : List ℕ) → IsReady command b → IsCompleted command result.exit }
-    ensures unread_refused { (command : Command) → command_of (map (λ w. w.now) words.now) ≡ Some command
-        → is_reading command ≡ false → ¬ Rose (K.faults sink.old) (K.faults sink.new)
-        → (b : List ℕ) (v : Refusal) → IsRefusedBy command b v → IsRefusedExit result.exit }
-    ensures too_long { (command : Command) → command_of (map (λ w. w.now) words.now) ≡ Some command → ¬ Rose (S.faults source.old) (S.faults source.new) → ¬ Rose (K.faults sink.old) (K.faults sink.new)
-        → IfSome (S.left source.old) (λ b. IsTooLongBy command b → IsTooLongExit result.exit) }
-    ensures malformed { (command : Command) → command_of (map (λ w. w.now) words.now) ≡ Some command → ¬ Rose (S.faults source.old) (S.faults source.new) → ¬ Rose (K.faults sink.old) (K.faults sink.new)
-        → IfSome (S.left source.old) (λ b. IsMalformedBy command b → IsMalformedExit result.exit) }
-    ensures unplain { (command : Command) → command_of (map (λ w. w.now) words.now) ≡ Some command → ¬ Rose (S.faults source.old) (S.faults source.new) → ¬ Rose (K.faults sink.old) (K.faults sink.new)
-        → IfSome (S.left source.old) (λ b. IsUnplainBy command b → IsUnplainExit result.exit) }
-    ensures bad_object { (turns : ℕ) (vars : Bool) → command_of (map (λ w. w.now) words.now) ≡ Some (command.Exec turns vars) → ¬ Rose (S.faults source.old) (S.faults source.new) → ¬ Rose (K.faults sink.old) (K.faults sink.new)
-        → IfSome (S.left source.old) (λ b. HasBadLine b → IsBadObjectExit result.exit) }
-    ensures unverified { (turns : ℕ) (vars : Bool) → command_of (map (λ w. w.now) words.now) ≡ Some (command.Exec turns vars) → ¬ Rose (S.faults source.old) (S.faults source.new) → ¬ Rose (K.faults sink.old) (K.faults sink.new)
-        → IfSome (S.left source.old) (λ b. HasBadUnit b → IsUnverifiedExit result.exit) }
+    ensures all_read { are_reading (command_in words.now) ≡ true
+        → is_read result.exit ≡ true → IsAtEnd (S.left source.new) }
+    ensures unread { are_reading (command_in words.now) ≡ false → source.new ≡ source.old }
 {
     plain_or_not();
     let reply = respond(alloc, words, source, workers);
@@ -258,7 +235,8 @@ pub fn play_choices(
     requires size { length source.now ≤ source_limit }
     requires some_turns { 1 ≤ turns }
     requires few_turns { turns ≤ 1_000_000_000 }
-    ensures answers { IfOk result (λ r. SaysRun (report_asked turns vars choices.now) source.now r.0.exit r.0.history.items (places_in r.0) r.1.items) }
+    ensures answers { IfOk result (λ r. SaysRun (report_asked turns vars choices.now) source.now r.0.exit
+        r.0.history.items (places_in r.0) r.1.items) }
     ensures follows { IfOk result (λ r. FollowsIn source.now 1_000 choices.now r.0.history.items) }
     ensures exit { IfOk result (λ r. IsPlayedExit r.0.exit) }
     ensures refused { IfErr result (IsRefusal (IsBroken source.now)) }
@@ -282,19 +260,28 @@ pub fn one_verdict()
 /// What `trace` writes of a run, where it has at most 100,000,000 bytes, is replayed to what `run` would say under the same
 /// schedule: the same exit and the same report.
 pub fn replay_tells_the_run()
-    ensures { (setup : declared_setup.Setup) (vars : Bool) (source : List ℕ) (exit : declared_exit.Exit) (history : List Turn) (places : List Place) (text : List ℕ)
-        → Says (command.Trace setup) source exit history places text → IsPlayedExit exit → length text ≤ trace_limit
-        → (told : List ℕ) × SaysRun (report_asked setup.turns vars []) source exit history places told × Says (command.Replay vars) text exit [] [] told }
+    ensures { (setup : declared_setup.Setup) (vars : Bool) (source : List ℕ) (exit : declared_exit.Exit)
+        (history : List Turn) (places : List Place) (text : List ℕ)
+        → Says (command.Trace setup) source exit history places text
+        → IsPlayedExit exit → length text ≤ trace_limit
+        → (told : List ℕ) × SaysRun (report_asked setup.turns vars []) source exit history places told
+        × Says (command.Replay vars) text exit [] [] told }
 {}
 
 /// Where `flow` writes `no deadlock` of a source, no run of it ends with main waiting, under whatever schedule: not `run`, nor
 /// `trace`, nor a schedule of the caller's, nor `replay` of a trace of it, whoever wrote that.
 pub fn flow_excludes_deadlock()
-    ensures runs { (source : List ℕ) (before : List Turn) (starts : List Place) → Says command.Flow source Exit.Done before starts (codes "no deadlock\n")
-        → (asked : Asked) (history : List Turn) (places : List Place) (text : List ℕ) → SaysRun asked source Exit.Deadlocked history places text → ⊥ }
-    ensures replays { (source : List ℕ) (before : List Turn) (starts : List Place) → Says command.Flow source Exit.Done before starts (codes "no deadlock\n")
-        → (vars : Bool) (b : List ℕ) (trace : Trace) → IsTraceText b trace → trace.source ≡ source
-        → (history : List Turn) (places : List Place) (text : List ℕ) → Says (command.Replay vars) b Exit.Deadlocked history places text → ⊥ }
+    ensures runs { (source : List ℕ) (before : List Turn) (starts : List Place)
+        → Says command.Flow source Exit.Done before starts (codes "no deadlock\n")
+        → (asked : Asked) (history : List Turn) (places : List Place) (text : List ℕ)
+        → SaysRun asked source Exit.Deadlocked history places text
+        → ⊥ }
+    ensures replays { (source : List ℕ) (before : List Turn) (starts : List Place)
+        → Says command.Flow source Exit.Done before starts (codes "no deadlock\n")
+        → (vars : Bool) (b : List ℕ) (trace : Trace) → IsTraceText b trace
+        → trace.source ≡ source → (history : List Turn) (places : List Place) (text : List ℕ)
+        → Says (command.Replay vars) b Exit.Deadlocked history places text
+        → ⊥ }
 {
     fm_front::one_program();
 }
