@@ -1,5 +1,5 @@
 -- Two events at one channel by different ports, an event beside a discard, and two discards.
-use Rattle.std.proofs.Common.{◌≡◌, ◌≢◌, ℕ, ◌+◌, ◌≤◌, Option, Some, None, List, [], ◌∷◌, ◌++◌, Bool, true, false, cond, option_map, refl, sym, ap, ◌∙◌, subst, arith}
+use Rattle.std.proofs.Common.{◌≡◌, ◌≢◌, ℕ, ◌+◌, ◌≤◌, Option, Some, None, List, [], ◌∷◌, ◌++◌, Bool, true, false, cond, not, option_map, refl, sym, ap, ◌∙◌, subst, arith}
 use Rattle.std.specs.FinMap.{get}
 use Rattle.fm_base.specs.declared.path.ChanName.{ChanName}
 use Rattle.fm_base.specs.declared.port.PortValue.{PortValue}
@@ -10,6 +10,7 @@ use Rattle.fm_finmap.proofs.Adjusts.{adjust_there}
 use Rattle.fm_net.specs.Owned.{count, has, open_at}
 use Rattle.fm_net.specs.Lawful.{port_of, Brings}
 use Rattle.fm_net.specs.Plain.{IsSure}
+use Rattle.fm_net.specs.Lone.{IsLoneEvent, IsToldEvent}
 use Rattle.fm_net.proofs.Keys.{channel_order}
 use Rattle.fm_net.proofs.Counts.{closed, count-nil, count-append, queue_ports-append, without_swap, adjust_at}
 
@@ -41,11 +42,17 @@ ready_beside c (Pop l) (Reader d) ch off e can = absurd (off (ap Reader e))
 ready_beside c Look (Writer d v) ch off e can = refl
 ready_beside c Look (Reader d) ch off e can = refl
 
-pub beside : (c : ChanName) (a : ChannelOp) (x : PortValue) (ch : Chan) → IsSure a → (x ≢ port_of c a) → channel_of x ≡ c → 1 ≤ open_at x (Some ch) → is_ready a ch ≡ true
+-- an event that doesn't look is told
+pub sure_told : (a : ChannelOp) (ch : Chan) → IsSure a → IsToldEvent a ch
+sure_told (Push w m) ch sure = tt
+sure_told (Pop l) ch sure = tt
+sure_told Look ch sure = absurd sure
+
+pub beside : (c : ChanName) (a : ChannelOp) (x : PortValue) (ch : Chan) → IsToldEvent a ch → (x ≢ port_of c a) → channel_of x ≡ c → 1 ≤ open_at x (Some ch) → is_ready a ch ≡ true
     → Beside a x ch (discarded x ch) (Some ch) (Some (changed a ch))
 unfolding open_at
-beside c (Push w m) (Writer d v) ch sure off e h can = record { can = refl; same = refl; more = refl; told = refl; even = λ z. omega (arith, count-nil z) }
-beside c (Push w m) (Reader d) ch sure off e h can =
+beside c (Push w m) (Writer d v) ch told off e h can = record { can = refl; same = refl; more = refl; told = refl; even = λ z. omega (arith, count-nil z) }
+beside c (Push w m) (Reader d) ch told off e h can =
     let lives : ch.lives ≡ true = reader_open ch.lives h in
     record {
       can = refl;
@@ -55,9 +62,16 @@ beside c (Push w m) (Reader d) ch sure off e h can =
       even = λ z. subst (λ b. count z (queue_ports ch.queue) + count z (message_ports m) ≡ count z (cond b [] (message_ports m)) + count z (queue_ports (cond b (ch.queue ++ m ∷ []) ch.queue))) (sym lives)
           (omega (arith, ap (count z) (queue_ports-append ch.queue (m ∷ [])), count-append z (queue_ports ch.queue) (message_ports m ++ []), count-append z (message_ports m) [], count-nil z));
     }
-beside c (Pop l) (Writer d v) ch sure off e h can = record { can = can_pop_more ch.queue v ch.writers can; same = refl; more = refl; told = refl; even = λ z. omega (arith, count-nil z) }
-beside c (Pop l) (Reader d) ch sure off e h can = absurd (off (ap Reader e))
-beside c Look x ch sure off e h can = absurd sure
+beside c (Pop l) (Writer d v) ch told off e h can = record { can = can_pop_more ch.queue v ch.writers can; same = refl; more = refl; told = refl; even = λ z. omega (arith, count-nil z) }
+beside c (Pop l) (Reader d) ch told off e h can = absurd (off (ap Reader e))
+beside c Look (Writer d v) ch told off e h can = record {
+  can = refl;
+  same = refl;
+  more = refl;
+  told = ap not (ready_beside c (Pop []) (Writer d v) ch (λ w. cc) e told ∙ sym told);
+  even = λ z. omega (arith, count-nil z);
+}
+beside c Look (Reader d) ch told off e h can = absurd (off (ap Reader e))
 
 pub beside_swap : (a : ChannelOp) (x : PortValue) (ch : Chan) → changed a (discarded x ch) ≡ discarded x (changed a ch)
 beside_swap (Push w m) (Writer d v) ch = refl
@@ -120,7 +134,22 @@ ready_later c (Pop l) (Push v n) ch apart j r = (push_pop v n l ch.queue ch.writ
 ready_later c (Pop l) (Pop k) ch apart j r = absurd (apart refl)
 ready_later c (Pop l) Look ch apart j r = r
 
--- and where nobody looks, it has the same reply. Here too a channel may have more writers
+-- where the first looks and the second sends, there is something to tell
+abbrev pub Bears : ChannelOp → ChannelOp → Chan → Type 0
+Bears (Push w m) b ch = Unit {0}
+Bears (Pop l) b ch = Unit {0}
+Bears Look (Push v n) ch = can_pop ch.queue ch.writers ≡ true
+Bears Look (Pop l) ch = Unit {0}
+Bears Look Look ch = Unit {0}
+
+pub told_event_bears : (a b : ChannelOp) (ch : Chan) → IsToldEvent a ch → Bears a b ch
+told_event_bears (Push w m) b ch told = tt
+told_event_bears (Pop l) b ch told = tt
+told_event_bears Look (Push v n) ch told = told
+told_event_bears Look (Pop l) ch told = tt
+told_event_bears Look Look ch told = tt
+
+-- an event that bears the other before it has the same reply then. Here too a channel may have more writers
 pub record Calm (a b : ChannelOp) (ch : Chan) : Type 0 where
   pub ready_a : is_ready a (changed b ch) ≡ true
   pub gives_a : gives a (changed b ch) ≡ gives a ch
@@ -128,25 +157,29 @@ pub record Calm (a b : ChannelOp) (ch : Chan) : Type 0 where
   pub tells_a : tells a (changed b ch) ≡ tells a ch
   pub spills_a : spills a (changed b ch) ≡ spills a ch
 
-pub calm : (c : ChanName) (a b : ChannelOp) (ch : Chan) → IsSure a → IsSure b → (port_of c a ≢ port_of c b) → 1 ≤ open_at (port_of c a) (Some ch) → 1 ≤ open_at (port_of c b) (Some ch) → is_ready a ch ≡ true → is_ready b ch ≡ true → Calm a b ch
-calm c (Push w m) (Push v n) ch sa sb apart i j r t = record { ready_a = refl; gives_a = refl; exceeds_a = refl; tells_a = refl; spills_a = refl }
-calm c (Push w m) (Pop l) ch sa sb apart i j r t = record { ready_a = refl; gives_a = refl; exceeds_a = refl; tells_a = refl; spills_a = refl }
-calm c (Pop l) (Push v n) ch sa sb apart i j r t = let x = push_pop v n l ch.queue ch.writers ch.lives r (has_open c v ch j) in record { ready_a = x.ready_b; gives_a = x.gives_b; exceeds_a = x.exceeds_b; tells_a = x.tells_b; spills_a = x.spills_b }
-calm c (Pop l) (Pop k) ch sa sb apart i j r t = absurd (apart refl)
-calm c Look b ch sa sb apart i j r t = absurd sa
-calm c (Push w m) Look ch sa sb apart i j r t = absurd sb
-calm c (Pop l) Look ch sa sb apart i j r t = absurd sb
+pub calm : (c : ChanName) (a b : ChannelOp) (ch : Chan) → Bears a b ch → (port_of c a ≢ port_of c b) → 1 ≤ open_at (port_of c b) (Some ch) → is_ready a ch ≡ true → Calm a b ch
+calm c (Push w m) (Push v n) ch bears apart j r = record { ready_a = refl; gives_a = refl; exceeds_a = refl; tells_a = refl; spills_a = refl }
+calm c (Push w m) (Pop l) ch bears apart j r = record { ready_a = refl; gives_a = refl; exceeds_a = refl; tells_a = refl; spills_a = refl }
+calm c (Push w m) Look ch bears apart j r = record { ready_a = refl; gives_a = refl; exceeds_a = refl; tells_a = refl; spills_a = refl }
+calm c (Pop l) (Push v n) ch bears apart j r = let x = push_pop v n l ch.queue ch.writers ch.lives r (has_open c v ch j) in record { ready_a = x.ready_b; gives_a = x.gives_b; exceeds_a = x.exceeds_b; tells_a = x.tells_b; spills_a = x.spills_b }
+calm c (Pop l) (Pop k) ch bears apart j r = absurd (apart refl)
+calm c (Pop l) Look ch bears apart j r = absurd (apart refl)
+calm c Look (Push v n) ch bears apart j r =
+    let x = push_pop v n [] ch.queue ch.writers ch.lives bears (has_open c v ch j) in
+    record { ready_a = refl; gives_a = refl; exceeds_a = refl; tells_a = ap not (x.ready_b ∙ sym bears); spills_a = refl }
+calm c Look (Pop l) ch bears apart j r = absurd (apart refl)
+calm c Look Look ch bears apart j r = absurd (apart refl)
 
--- and where it has one, both orders leave one channel
-pub crosses : (c : ChanName) (a b : ChannelOp) (ch : Chan) → IsSure a → IsSure b → (port_of c a ≢ port_of c b) → ((w : ℕ) → 1 ≤ open_at (Writer c w) (Some ch) → w ≡ 0)
-    → 1 ≤ open_at (port_of c a) (Some ch) → 1 ≤ open_at (port_of c b) (Some ch) → is_ready a ch ≡ true → is_ready b ch ≡ true → Cross a b ch
-crosses c (Push w m) (Push v n) ch sa sb apart single i j r t = absurd (apart (ap (Writer c) (single w i ∙ sym (single v j))))
-crosses c (Push w m) (Pop l) ch sa sb apart single i j r t = push_pop w m l ch.queue ch.writers ch.lives t (has_open c w ch i)
-crosses c (Pop l) (Push v n) ch sa sb apart single i j r t = turn _ _ _ (push_pop v n l ch.queue ch.writers ch.lives r (has_open c v ch j))
-crosses c (Pop l) (Pop k) ch sa sb apart single i j r t = absurd (apart refl)
-crosses c Look b ch sa sb apart single i j r t = absurd sa
-crosses c (Push w m) Look ch sa sb apart single i j r t = absurd sb
-crosses c (Pop l) Look ch sa sb apart single i j r t = absurd sb
+-- and a lone event and another one leave one channel in both orders
+pub crosses : (m : Chans) (c : ChanName) (a b : ChannelOp) (ch : Chan) → (port_of c a ≢ port_of c b) → get m c ≡ Some ch → IsLoneEvent m c a
+    → 1 ≤ open_at (port_of c a) (Some ch) → 1 ≤ open_at (port_of c b) (Some ch) → is_ready a ch ≡ true → is_ready b ch ≡ true → changed a (changed b ch) ≡ changed b (changed a ch)
+crosses m c (Push w x) (Push v y) ch apart is lone i j r t = absurd (apart (ap (Writer c) (sym (lone v (subst (λ o. 1 ≤ open_at (Writer c v) o) (sym is) j)))))
+crosses m c (Push w x) (Pop l) ch apart is lone i j r t = (push_pop w x l ch.queue ch.writers ch.lives t (has_open c w ch i)).one_chan
+crosses m c (Push w x) Look ch apart is lone i j r t = refl
+crosses m c (Pop l) (Push v y) ch apart is lone i j r t = (turn _ _ _ (push_pop v y l ch.queue ch.writers ch.lives r (has_open c v ch j))).one_chan
+crosses m c (Pop l) (Pop k) ch apart is lone i j r t = absurd (apart refl)
+crosses m c (Pop l) Look ch apart is lone i j r t = refl
+crosses m c Look b ch apart is lone i j r t = refl
 
 -- ---- two discards
 

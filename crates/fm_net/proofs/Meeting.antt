@@ -1,5 +1,6 @@
--- Parts of steps: each leaves another its own, and where no channel has a second writer, both orders meet.
-use Rattle.std.proofs.Common.{◌≡◌, ◌≢◌, ℕ, zero, suc, ◌+◌, ◌-◌, ◌≤◌, ◌<◌, Option, Some, None, List, [], ◌++◌, true, option_map, refl, sym, ap, ap₂, ◌∙◌, subst, arith}
+-- Parts of steps: each leaves another its own. Where of each two processes one sends beside no other writer, and who looks
+-- has something to tell, both orders meet.
+use Rattle.std.proofs.Common.{◌≡◌, ◌≢◌, ℕ, zero, suc, ◌+◌, ◌-◌, ◌≤◌, ◌<◌, Option, Some, None, List, [], ◌++◌, ◌⊎◌, inl, inr, true, option_map, refl, sym, ap, ap₂, ◌∙◌, subst, arith}
 use mathlib.Core.Path.{fun_ext}
 use Rattle.std.specs.FinMap.{get}
 use Rattle.fm_base.specs.declared.path.ChanName.{ChanName}
@@ -17,14 +18,15 @@ use Rattle.fm_sched.proofs.Moves.{MovesMeet}
 use Rattle.fm_net.specs.Machine.{Place, Need, Nothing, Event, New, Children, Reply, Onward, child, made, chans_after, reply_with, spilt, with_child, gathered, served_at, served, changes}
 use Rattle.fm_net.specs.Language.{Language}
 use Rattle.fm_net.specs.Owned.{one, count, queued, open_at, opened, present, name_of, HasOneWriter}
-use Rattle.fm_net.specs.Plain.{IsSure, IsSingle, IsPlainAsk, KeepsPlain, AllPlain}
+use Rattle.fm_net.specs.Plain.{IsSingle, IsPlainAsk, KeepsPlain, AllPlain}
+use Rattle.fm_net.specs.Lone.{IsLoneEvent, IsLone, IsTold}
 use Rattle.fm_net.specs.Lawful.{port_of, Uses, Numbered, IsLawfulStep, IsLawfulAsk, IsLawfulLanguage}
 use Rattle.fm_net.proofs.Keys.{path_order, channel_order}
 use Rattle.fm_net.proofs.Counts.{closed, one_apart, one_below, one_once, count-append, opened_small, adjust_at}
 use Rattle.fm_net.proofs.Events.{Beside, ready_beside, ready_later, beside, beside_swap, calm, crosses, freed_same, discarded_swap, same_some}
 use Rattle.fm_net.proofs.Parts.{Midway, Part, Run, Discard, one_place, one_place_apart, Start, Move, end}
 use Rattle.fm_net.proofs.Children.{one_parent, IsNoChild, ChildrenOff, off_changes, apart_changes, joined_child}
-use Rattle.fm_net.proofs.Needs.{absent, no_value, Ready, IsReadyLater, IsCalm, Commutes, chans_swap, ready_after, reply_same, left, ready_serves, served_event}
+use Rattle.fm_net.proofs.Needs.{absent, no_value, Ready, IsReadyLater, BearsNeed, ArePaired, BearsDiscard, told_bears_discard, sure_need_told, told_bears, IsCalm, Commutes, chans_swap, ready_after, reply_same, left, ready_serves, served_event}
 
 -- ownership between two parts: a loose port stands there
 pub record IsSound {Proc : Type 0} (language : Language Proc) (mid : Midway Proc) : Type 0 where
@@ -55,10 +57,10 @@ module _ {Proc : Type 0} (language : Language Proc) where
     holders : (p q : Place) (x y : Proc) (z : PortValue) → (p ≢ q) → get mid.procs p ≡ Some x → get mid.procs q ≡ Some y → holds z x + holds z y ≤ total (holds z) mid.procs
     holders p q x y z n is_x is_y = omega (arith, two_of_total path_order (holds z) mid.procs p q n, ap (value_or_zero (holds z)) is_x, ap (value_or_zero (holds z)) is_y)
 
-    held_open : (p : Place) (x : Proc) (z : PortValue) → get mid.procs p ≡ Some x → 1 ≤ holds z x → 1 ≤ opened mid.chans z
+    pub held_open : (p : Place) (x : Proc) (z : PortValue) → get mid.procs p ≡ Some x → 1 ≤ holds z x → 1 ≤ opened mid.chans z
     held_open p x z is h = omega (arith, good.stands z, holder p x z is)
 
-    not_loose : (p : Place) (x : Proc) (z y : PortValue) → get mid.procs p ≡ Some x → 1 ≤ holds z x → 1 ≤ mid.loose y → y ≢ z
+    pub not_loose : (p : Place) (x : Proc) (z y : PortValue) → get mid.procs p ≡ Some x → 1 ≤ holds z x → 1 ≤ mid.loose y → y ≢ z
     not_loose p x z y is h l e = let l' : 1 ≤ mid.loose z = subst (λ w. 1 ≤ mid.loose w) e l in
         omega (arith, good.stands z, holder p x z is, most z)
 
@@ -105,21 +107,19 @@ module _ {Proc : Type 0} (language : Language Proc) where
         r
 
     calm_need : (p q : Place) (x y : Proc) (need other : Need) → (p ≢ q) → get mid.procs p ≡ Some x → get mid.procs q ≡ Some y → Uses (language.held x) need → Uses (language.held y) other
-        → IsSingle need → IsSingle other → Ready mid.chans p need → Ready mid.chans q other → IsCalm mid.chans need other
-    calm_need p q x y Nothing other n is_x is_y u v su sv r s = tt
-    calm_need p q x y (New k w) other n is_x is_y u v su sv r s = tt
-    calm_need p q x y (Children b k) other n is_x is_y u v su sv r s = tt
-    calm_need p q x y (Event c a) Nothing n is_x is_y u v su sv r s = tt
-    calm_need p q x y (Event c a) (New k w) n is_x is_y u v su sv r s = tt
-    calm_need p q x y (Event c a) (Children b k) n is_x is_y u v su sv r s = tt
-    calm_need p q x y (Event c a) (Event d b) n is_x is_y u v su sv r s = λ e ch is.
+        → BearsNeed mid.chans need other → Ready mid.chans p need → IsCalm mid.chans need other
+    calm_need p q x y Nothing other n is_x is_y u v bears r = tt
+    calm_need p q x y (New k w) other n is_x is_y u v bears r = tt
+    calm_need p q x y (Children b k) other n is_x is_y u v bears r = tt
+    calm_need p q x y (Event c a) Nothing n is_x is_y u v bears r = tt
+    calm_need p q x y (Event c a) (New k w) n is_x is_y u v bears r = tt
+    calm_need p q x y (Event c a) (Children b k) n is_x is_y u v bears r = tt
+    calm_need p q x y (Event c a) (Event d b) n is_x is_y u v bears r = λ e ch is.
         let at_d : get mid.chans d ≡ Some ch = ap (get mid.chans) (sym e) ∙ is in
-        calm c a b ch su sv
+        calm c a b ch (bears e ch is)
         (λ w. not_both p q x y (port_of c a) (port_of d b) n is_x is_y u v (w ∙ ap (λ k. port_of k b) e))
-        (open_here p x c a ch is_x is u)
         (subst (λ k. 1 ≤ open_at (port_of k b) (Some ch)) (sym e) (open_here q y d b ch is_y at_d v))
         (subst (λ z. is_ready a z ≡ true) (same_some r.0 ch (get mid.chans c) r.1 is) r.2)
-        (subst (λ z. is_ready b z ≡ true) (same_some s.0 ch (get mid.chans d) s.1 at_d) s.2)
 
     -- ---- two processes
 
@@ -130,7 +130,7 @@ module _ {Proc : Type 0} (language : Language Proc) where
       abbrev other_out : Onward Proc
       other_out = u.goes (made q u.need) u.reply
 
-      abbrev other_changes : List (Change Place Proc)
+      abbrev pub other_changes : List (Change Place Proc)
       other_changes = changes language.emptied q u.need other_out
 
       no_busy_child : (need : Need) (r : Reply Proc) → served language.has_ended mid.procs mid.chans q need ≡ Some r → IsNoChild language.emptied p q need
@@ -183,8 +183,12 @@ module _ {Proc : Type 0} (language : Language Proc) where
       ready_self : Ready mid.chans p t.need
       ready_self = ready_need p t.self t.need t.reply t.is (going_of p t).numbered t.serves
 
-      ready_other : Ready mid.chans q u.need
+      pub ready_other : Ready mid.chans q u.need
       ready_other = ready_need q u.self u.need u.reply u.is (going_of q u).numbered u.serves
+
+      -- an event by a port of p for which the channel was ready finds it ready still
+      pub still_ready : (c : ChanName) (a : ChannelOp) → Uses (language.held t.self) (Event c a) → Ready mid.chans p (Event c a) → Ready (chans_after q u.need mid.chans) p (Event c a)
+      still_ready c a uses r = ready_after mid.chans p q c a u.need r ready_other (ready_later_need p q t.self u.self (Event c a) u.need apart t.is u.is uses (going_of q u).uses)
 
       -- the process is still served, maybe with another reply
       still_serves : (k : Need) → t.need ≡ k → (r : Reply Proc) × (served language.has_ended (alters other_changes mid.procs) (chans_after q u.need mid.chans) p k ≡ Some r)
@@ -196,8 +200,7 @@ module _ {Proc : Type 0} (language : Language Proc) where
             ∙ subst (λ k. served language.has_ended mid.procs mid.chans p k ≡ Some t.reply) e t.serves,
       )
       still_serves (Event c a) e =
-          ready_serves (chans_after q u.need mid.chans) p c a
-          (ready_after mid.chans p q c a u.need (subst (Ready mid.chans p) e ready_self) ready_other (subst (λ k. IsReadyLater mid.chans k u.need) e (ready_later_need p q t.self u.self t.need u.need apart t.is u.is (going_of p t).uses (going_of q u).uses)))
+          ready_serves (chans_after q u.need mid.chans) p c a (still_ready c a (subst (Uses (language.held t.self)) e (going_of p t).uses) (subst (Ready mid.chans p) e ready_self))
 
       -- so it still has a step
       later_step : Start language (alters other_changes mid.procs) (chans_after q u.need mid.chans) p
@@ -213,12 +216,12 @@ module _ {Proc : Type 0} (language : Language Proc) where
             serves = h.1;
           }
 
-      module _ (sure : IsSingle t.need) (other_sure : IsSingle u.need) where
+      module _ (bears : BearsNeed mid.chans t.need u.need) where
         calm_both : IsCalm mid.chans t.need u.need
-        calm_both = calm_need p q t.self u.self t.need u.need apart t.is u.is (going_of p t).uses (going_of q u).uses sure other_sure ready_self ready_other
+        calm_both = calm_need p q t.self u.self t.need u.need apart t.is u.is (going_of p t).uses (going_of q u).uses bears ready_self
 
-        -- and the same one, where nobody looks
-        later : Start language (alters other_changes mid.procs) (chans_after q u.need mid.chans) p
+        -- and the same one, where it bears the other before it
+        pub later : Start language (alters other_changes mid.procs) (chans_after q u.need mid.chans) p
         later = record {
           self = t.self;
           is = alters_there path_order other_changes mid.procs p off_self ∙ t.is;
@@ -229,18 +232,26 @@ module _ {Proc : Type 0} (language : Language Proc) where
           serves = still_served t.need t.reply t.serves ready_self ready_other calm_both t.need refl ∙ t.serves;
         }
 
+        pub later_need : t.need ≡ later.need
+        unfolding later
+        later_need = refl
+
+        pub later_onward : out ≡ later.goes (made p later.need) later.reply
+        unfolding later
+        later_onward = refl
+
         spilt_later : spilt t.need (chans_after q u.need mid.chans) ≡ spilt t.need mid.chans
         spilt_later = still_spilt t.need t.reply t.serves ready_self ready_other calm_both t.need refl
 
     -- ---- a process beside a discard
 
-    open_there : (x : PortValue) (o : Option Chan) → 1 ≤ open_at x o → (ch : Chan) × (o ≡ Some ch)
+    pub open_there : (x : PortValue) (o : Option Chan) → 1 ≤ open_at x o → (ch : Chan) × (o ≡ Some ch)
     unfolding open_at
     open_there x None h = absurd (omega arith)
     open_there x (Some ch) h = (ch, refl)
 
     -- a discard leaves a process its step, maybe with another reply
-    discard_ready : (x : PortValue) (p : Place) (c : ChanName) (a : ChannelOp) → (x ≢ port_of c a) → Ready mid.chans p (Event c a) → Ready (closed x mid.chans) p (Event c a)
+    pub discard_ready : (x : PortValue) (p : Place) (c : ChanName) (a : ChannelOp) → (x ≢ port_of c a) → Ready mid.chans p (Event c a) → Ready (closed x mid.chans) p (Event c a)
     discard_ready x p c a off r = elim (decide channel_order (channel_of x) c) [
       | yes e ↦ (discarded x r.0, adjust_at mid.chans (channel_of x) c (discarded x) (sym e) ∙ ap (option_map (discarded x)) r.1, ready_beside c a x r.0 off e r.2)
       | no n ↦ (r.0, adjust_there channel_order mid.chans (channel_of x) (discarded x) c (λ e. n (sym e)) ∙ r.1, r.2)
@@ -263,13 +274,13 @@ module _ {Proc : Type 0} (language : Language Proc) where
       even : (z : PortValue) → count z (freed x (get mid.chans (channel_of x))) + count z (spilt need (closed x mid.chans)) ≡ count z (spilt need mid.chans) + count z (freed x (get (chans_after p need mid.chans) (channel_of x)))
       one_chans : chans_after p need (closed x mid.chans) ≡ closed x (chans_after p need mid.chans)
 
-    seen_event : (x : PortValue) (p : Place) (c : ChanName) (a : ChannelOp) → IsSure a → (x ≢ port_of c a) → 1 ≤ mid.loose x → Ready mid.chans p (Event c a) → Seen x p (Event c a)
-    seen_event x p c a sure off loose r = elim (decide channel_order (channel_of x) c) [
+    seen_event : (x : PortValue) (p : Place) (c : ChanName) (a : ChannelOp) → BearsDiscard mid.chans x (Event c a) → (x ≢ port_of c a) → 1 ≤ mid.loose x → Ready mid.chans p (Event c a) → Seen x p (Event c a)
+    seen_event x p c a bears off loose r = elim (decide channel_order (channel_of x) c) [
       | yes e ↦
           let at : get mid.chans (channel_of x) ≡ Some r.0 = ap (get mid.chans) e ∙ r.1 in
           let later : get (adjust mid.chans c (changed a)) (channel_of x) ≡ Some (changed a r.0) = adjust_at mid.chans c (channel_of x) (changed a) e ∙ ap (option_map (changed a)) at in
           let gone : get (closed x mid.chans) c ≡ Some (discarded x r.0) = adjust_at mid.chans (channel_of x) c (discarded x) (sym e) ∙ ap (option_map (discarded x)) r.1 in
-          let w : Beside a x r.0 (discarded x r.0) (Some r.0) (Some (changed a r.0)) = beside c a x r.0 sure off e (subst (λ o. 1 ≤ open_at x o) at (loose_open x loose)) r.2 in
+          let w : Beside a x r.0 (discarded x r.0) (Some r.0) (Some (changed a r.0)) = beside c a x r.0 (bears e r.0 r.1) off e (subst (λ o. 1 ≤ open_at x o) at (loose_open x loose)) r.2 in
           record {
             served_same = ap (served_at {Proc = Proc} a) gone ∙ reply_same (w.can ∙ sym r.2) w.same w.more w.told ∙ ap (served_at a) (sym r.1);
             even = λ z. omega (arith, w.even z, ap (λ o. count z (freed x o)) at, ap (λ o. count z (freed x o)) later, ap (λ o. count z (spills_at a o)) gone, ap (λ o. count z (spills_at a o)) r.1);
@@ -284,11 +295,11 @@ module _ {Proc : Type 0} (language : Language Proc) where
           }
     ]
 
-    seen : (x : PortValue) (p : Place) (y : Proc) (need : Need) → IsSingle need → get mid.procs p ≡ Some y → Uses (language.held y) need → 1 ≤ mid.loose x → Ready mid.chans p need → Seen x p need
-    seen x p y Nothing sure is u l r = record { served_same = refl; even = λ z. omega arith; one_chans = refl }
-    seen x p y (Children b n) sure is u l r = record { served_same = refl; even = λ z. omega arith; one_chans = refl }
-    seen x p y (Event c a) sure is u l r = seen_event x p c a sure (not_loose p y (port_of c a) x is u l) l r
-    seen x p y (New n w) sure is u l r =
+    seen : (x : PortValue) (p : Place) (y : Proc) (need : Need) → BearsDiscard mid.chans x need → get mid.procs p ≡ Some y → Uses (language.held y) need → 1 ≤ mid.loose x → Ready mid.chans p need → Seen x p need
+    seen x p y Nothing bears is u l r = record { served_same = refl; even = λ z. omega arith; one_chans = refl }
+    seen x p y (Children b n) bears is u l r = record { served_same = refl; even = λ z. omega arith; one_chans = refl }
+    seen x p y (Event c a) bears is u l r = seen_event x p c a bears (not_loose p y (port_of c a) x is u l) l r
+    seen x p y (New n w) bears is u l r =
         let h = open_there x (get mid.chans (channel_of x)) (loose_open x l) in
         let off : channel_of x ≢ (name_of p n) = absent (get mid.chans) (channel_of x) (name_of p n) h.0 h.1 r in
         record {
@@ -297,11 +308,19 @@ module _ {Proc : Type 0} (language : Language Proc) where
           one_chans = sym (adjust_past_insert channel_order mid.chans (channel_of x) (name_of p n) (discarded x) (fresh w) off);
         }
 
-    seen_by : (p : Place) (x : PortValue) (t : Starts p) → IsSingle t.need → 1 ≤ mid.loose x → Seen x p t.need
-    seen_by p x t sure l = seen x p t.self t.need sure t.is (going_of p t).uses l (ready_need p t.self t.need t.reply t.is (going_of p t).numbered t.serves)
+    seen_by : (p : Place) (x : PortValue) (t : Starts p) → BearsDiscard mid.chans x t.need → 1 ≤ mid.loose x → Seen x p t.need
+    seen_by p x t bears l = seen x p t.self t.need bears t.is (going_of p t).uses l (ready_need p t.self t.need t.reply t.is (going_of p t).numbered t.serves)
 
-    beside_discard : (p : Place) (x : PortValue) (t : Starts p) → IsSingle t.need → 1 ≤ mid.loose x → Start language mid.procs (closed x mid.chans) p
-    beside_discard p x t sure l = record { self = t.self; is = t.is; need = t.need; goes = t.goes; asks = t.asks; reply = t.reply; serves = (seen_by p x t sure l).served_same ∙ t.serves }
+    pub beside_discard : (p : Place) (x : PortValue) (t : Starts p) → BearsDiscard mid.chans x t.need → 1 ≤ mid.loose x → Start language mid.procs (closed x mid.chans) p
+    beside_discard p x t bears l = record { self = t.self; is = t.is; need = t.need; goes = t.goes; asks = t.asks; reply = t.reply; serves = (seen_by p x t bears l).served_same ∙ t.serves }
+
+    pub beside_need : (p : Place) (x : PortValue) (t : Starts p) (bears : BearsDiscard mid.chans x t.need) (l : 1 ≤ mid.loose x) → t.need ≡ (beside_discard p x t bears l).need
+    unfolding beside_discard
+    beside_need p x t bears l = refl
+
+    pub beside_onward : (p : Place) (x : PortValue) (t : Starts p) (bears : BearsDiscard mid.chans x t.need) (l : 1 ≤ mid.loose x) → t.goes (made p t.need) t.reply ≡ (beside_discard p x t bears l).goes (made p (beside_discard p x t bears l).need) (beside_discard p x t bears l).reply
+    unfolding beside_discard
+    beside_onward p x t bears l = refl
 
     -- of every language: a part is still there after another
     pub stay : (a b : Part) → (a ≢ b) → (m : Move language mid a) (n : Move language mid b) → Move language (end language mid b n).0 a
@@ -310,95 +329,124 @@ module _ {Proc : Type 0} (language : Language Proc) where
     stay (Discard x) (Discard y) apart l n = omega (arith, one_apart y x (λ e. apart (ap Discard (sym e))))
     stay (Run p) (Discard x) apart (h, t) l = (h, step_beside p x t l)
 
-    -- ---- where no channel has a second writer
+    -- ---- both orders
 
-    module _ (IsPlain : Proc → Type 0) (plain : KeepsPlain language IsPlain) (all : AllPlain language IsPlain mid.procs) (single : HasOneWriter mid.chans) where
-      sure_of : (p : Place) (t : Starts p) → IsSingle t.need
-      sure_of p t = (subst (IsPlainAsk language IsPlain) t.asks (plain.goes t.self (all p t.self t.is))).single
+    commuting_need : (p q : Place) (x y : Proc) (need other : Need) → (p ≢ q) → get mid.procs p ≡ Some x → get mid.procs q ≡ Some y → Uses (language.held x) need → Uses (language.held y) other
+        → IsLone mid.chans need ⊎ IsLone mid.chans other → Ready mid.chans p need → Ready mid.chans q other → Commutes mid.chans need other
+    commuting_need p q x y Nothing other n is_x is_y u v lone r s = tt
+    commuting_need p q x y (New k w) other n is_x is_y u v lone r s = tt
+    commuting_need p q x y (Children b k) other n is_x is_y u v lone r s = tt
+    commuting_need p q x y (Event c a) Nothing n is_x is_y u v lone r s = tt
+    commuting_need p q x y (Event c a) (New k w) n is_x is_y u v lone r s = tt
+    commuting_need p q x y (Event c a) (Children b k) n is_x is_y u v lone r s = tt
+    commuting_need p q x y (Event c a) (Event d b) n is_x is_y u v lone r s = λ e ch is.
+        let at_d : get mid.chans d ≡ Some ch = ap (get mid.chans) (sym e) ∙ is in
+        let off : port_of c a ≢ port_of c b = λ w. not_both p q x y (port_of c a) (port_of d b) n is_x is_y u v (w ∙ ap (λ k. port_of k b) e) in
+        let here : 1 ≤ open_at (port_of c a) (Some ch) = open_here p x c a ch is_x is u in
+        let there : 1 ≤ open_at (port_of c b) (Some ch) = subst (λ k. 1 ≤ open_at (port_of k b) (Some ch)) (sym e) (open_here q y d b ch is_y at_d v) in
+        let can : is_ready a ch ≡ true = subst (λ z. is_ready a z ≡ true) (same_some r.0 ch (get mid.chans c) r.1 is) r.2 in
+        let other_can : is_ready b ch ≡ true = subst (λ z. is_ready b z ≡ true) (same_some s.0 ch (get mid.chans d) s.1 at_d) s.2 in
+        elim lone [
+          | inl h ↦ crosses mid.chans c a b ch off is h here there can other_can
+          | inr h ↦ sym (crosses mid.chans c b a ch (λ w. off (sym w)) is (subst (λ k. IsLoneEvent mid.chans k b) (sym e) h) there here other_can can)
+        ]
 
-      commuting_need : (p q : Place) (x y : Proc) (need other : Need) → (p ≢ q) → get mid.procs p ≡ Some x → get mid.procs q ≡ Some y → Uses (language.held x) need → Uses (language.held y) other
-          → IsSingle need → IsSingle other → Ready mid.chans p need → Ready mid.chans q other → Commutes mid.chans need other
-      commuting_need p q x y Nothing other n is_x is_y u v su sv r s = tt
-      commuting_need p q x y (New k w) other n is_x is_y u v su sv r s = tt
-      commuting_need p q x y (Children b k) other n is_x is_y u v su sv r s = tt
-      commuting_need p q x y (Event c a) Nothing n is_x is_y u v su sv r s = tt
-      commuting_need p q x y (Event c a) (New k w) n is_x is_y u v su sv r s = tt
-      commuting_need p q x y (Event c a) (Children b k) n is_x is_y u v su sv r s = tt
-      commuting_need p q x y (Event c a) (Event d b) n is_x is_y u v su sv r s = λ e ch is.
-          let at_d : get mid.chans d ≡ Some ch = ap (get mid.chans) (sym e) ∙ is in
-          (crosses c a b ch su sv
-          (λ w. not_both p q x y (port_of c a) (port_of d b) n is_x is_y u v (w ∙ ap (λ k. port_of k b) e))
-          (λ w l. single c w (subst (λ o. 1 ≤ open_at (Writer c w) o) (sym is) l))
-          (open_here p x c a ch is_x is u)
-          (subst (λ k. 1 ≤ open_at (port_of k b) (Some ch)) (sym e) (open_here q y d b ch is_y at_d v))
-          (subst (λ z. is_ready a z ≡ true) (same_some r.0 ch (get mid.chans c) r.1 is) r.2)
-          (subst (λ z. is_ready b z ≡ true) (same_some s.0 ch (get mid.chans d) s.1 at_d) s.2)).one_chan
+    runs : (p q : Place) (apart : p ≢ q) (m : Move language mid (Run p)) (n : Move language mid (Run q)) → ArePaired mid.chans m.1.need n.1.need → MovesMeet (Move language) (end language) mid (Run p) (Run q) m n
+    unfolding later
+    runs p q apart (h, t) (g, u) paired =
+        let off = λ (e : q ≡ p). apart (sym e) in
+        record {
+          first = (omega (arith, one_place_apart q p off), later p q apart t u paired.first);
+          second = (omega (arith, one_place_apart p q apart), later q p off u t paired.second);
+          one_state = λ i. record {
+            procs = alters_swap path_order (changes language.emptied p t.need (out p q apart t u)) (changes language.emptied q u.need (other_out p q apart t u)) mid.procs (apart_both p q apart t u) i;
+            chans = chans_swap mid.chans p q t.need u.need apart (ready_self p q apart t u) (ready_other p q apart t u) (commuting_need p q t.self u.self t.need u.need apart t.is u.is (going_of p t).uses (going_of q u).uses paired.lone (ready_self p q apart t u) (ready_other p q apart t u)) i;
+            loose = fun_ext {f = λ z. mid.loose z + count z ((u.goes (made q u.need) u.reply).drops ++ spilt u.need mid.chans) + count z ((t.goes (made p t.need) t.reply).drops ++ spilt t.need (chans_after q u.need mid.chans))}
+                {g = λ z. mid.loose z + count z ((t.goes (made p t.need) t.reply).drops ++ spilt t.need mid.chans) + count z ((u.goes (made q u.need) u.reply).drops ++ spilt u.need (chans_after p t.need mid.chans))}
+                (λ z. let e₁ = ap (λ s. count z ((t.goes (made p t.need) t.reply).drops ++ s)) (spilt_later p q apart t u paired.first) in
+                let e₂ = ap (λ s. count z ((u.goes (made q u.need) u.reply).drops ++ s)) (spilt_later q p off u t paired.second) in
+                omega arith) i;
+            remaining = fun_ext {f = λ r. (mid.remaining r - one_place q r) - one_place p r} {g = λ r. (mid.remaining r - one_place p r) - one_place q r} (λ r. omega arith) i;
+          };
+          first_cost = refl;
+          second_cost = refl;
+        }
 
-      runs : (p q : Place) (apart : p ≢ q) (m : Move language mid (Run p)) (n : Move language mid (Run q)) → MovesMeet (Move language) (end language) mid (Run p) (Run q) m n
-      unfolding later
-      runs p q apart (h, t) (g, u) =
-          let off = λ (e : q ≡ p). apart (sym e) in
-          let st = sure_of p t in
-          let su = sure_of q u in
-          record {
-            first = (omega (arith, one_place_apart q p off), later p q apart t u st su);
-            second = (omega (arith, one_place_apart p q apart), later q p off u t su st);
-            one_state = λ i. record {
-              procs = alters_swap path_order (changes language.emptied p t.need (out p q apart t u)) (changes language.emptied q u.need (other_out p q apart t u)) mid.procs (apart_both p q apart t u) i;
-              chans = chans_swap mid.chans p q t.need u.need apart (ready_self p q apart t u) (ready_other p q apart t u) (commuting_need p q t.self u.self t.need u.need apart t.is u.is (going_of p t).uses (going_of q u).uses st su (ready_self p q apart t u) (ready_other p q apart t u)) i;
-              loose = fun_ext {f = λ z. mid.loose z + count z ((u.goes (made q u.need) u.reply).drops ++ spilt u.need mid.chans) + count z ((t.goes (made p t.need) t.reply).drops ++ spilt t.need (chans_after q u.need mid.chans))}
-                  {g = λ z. mid.loose z + count z ((t.goes (made p t.need) t.reply).drops ++ spilt t.need mid.chans) + count z ((u.goes (made q u.need) u.reply).drops ++ spilt u.need (chans_after p t.need mid.chans))}
-                  (λ z. let e₁ = ap (λ s. count z ((t.goes (made p t.need) t.reply).drops ++ s)) (spilt_later p q apart t u st su) in
-                  let e₂ = ap (λ s. count z ((u.goes (made q u.need) u.reply).drops ++ s)) (spilt_later q p off u t su st) in
-                  omega arith) i;
-              remaining = fun_ext {f = λ r. (mid.remaining r - one_place q r) - one_place p r} {g = λ r. (mid.remaining r - one_place p r) - one_place q r} (λ r. omega arith) i;
-            };
-            first_cost = refl;
-            second_cost = refl;
-          }
+    run_beside : (p : Place) (x : PortValue) (m : Move language mid (Run p)) (l : 1 ≤ mid.loose x) → BearsDiscard mid.chans x m.1.need → MovesMeet (Move language) (end language) mid (Run p) (Discard x) m l
+    unfolding beside_discard
+    run_beside p x (h, t) l bears =
+        let s = seen_by p x t bears l in
+        let o = t.goes (made p t.need) t.reply in
+        record {
+          first = (h, beside_discard p x t bears l);
+          second = omega arith;
+          one_state = λ i. record {
+            procs = alters (changes language.emptied p t.need (t.goes (made p t.need) t.reply)) mid.procs;
+            chans = s.one_chans i;
+            loose = fun_ext {f = λ z. (mid.loose z - one x z + count z (freed x (get mid.chans (channel_of x)))) + count z ((t.goes (made p t.need) t.reply).drops ++ spilt t.need (closed x mid.chans))}
+                {g = λ z. (mid.loose z + count z ((t.goes (made p t.need) t.reply).drops ++ spilt t.need mid.chans)) - one x z + count z (freed x (get (chans_after p t.need mid.chans) (channel_of x)))}
+                (λ z. omega (arith, one_below mid.loose x z l, s.even z, count-append z (t.goes (made p t.need) t.reply).drops (spilt t.need (closed x mid.chans)), count-append z (t.goes (made p t.need) t.reply).drops (spilt t.need mid.chans))) i;
+            remaining = λ q. mid.remaining q - one_place p q;
+          };
+          first_cost = refl;
+          second_cost = refl;
+        }
 
-      run_beside : (p : Place) (x : PortValue) (m : Move language mid (Run p)) (l : 1 ≤ mid.loose x) → MovesMeet (Move language) (end language) mid (Run p) (Discard x) m l
-      unfolding beside_discard
-      run_beside p x (h, t) l =
-          let st = sure_of p t in
-          let s = seen_by p x t st l in
-          let o = t.goes (made p t.need) t.reply in
-          record {
-            first = (h, beside_discard p x t st l);
-            second = omega arith;
-            one_state = λ i. record {
-              procs = alters (changes language.emptied p t.need (t.goes (made p t.need) t.reply)) mid.procs;
-              chans = s.one_chans i;
-              loose = fun_ext {f = λ z. (mid.loose z - one x z + count z (freed x (get mid.chans (channel_of x)))) + count z ((t.goes (made p t.need) t.reply).drops ++ spilt t.need (closed x mid.chans))}
-                  {g = λ z. (mid.loose z + count z ((t.goes (made p t.need) t.reply).drops ++ spilt t.need mid.chans)) - one x z + count z (freed x (get (chans_after p t.need mid.chans) (channel_of x)))}
-                  (λ z. omega (arith, one_below mid.loose x z l, s.even z, count-append z (t.goes (made p t.need) t.reply).drops (spilt t.need (closed x mid.chans)), count-append z (t.goes (made p t.need) t.reply).drops (spilt t.need mid.chans))) i;
-              remaining = λ q. mid.remaining q - one_place p q;
-            };
-            first_cost = refl;
-            second_cost = refl;
-          }
+    two_discards : (x y : PortValue) → (x ≢ y) → (m : 1 ≤ mid.loose x) (n : 1 ≤ mid.loose y) → MovesMeet (Move language) (end language) mid (Discard x) (Discard y) m n
+    two_discards x y apart m n = record {
+      first = omega (arith, one_apart y x (λ e. apart (sym e)));
+      second = omega (arith, one_apart x y apart);
+      one_state = λ i. record {
+        procs = mid.procs;
+        chans = adjust_swap channel_order mid.chans (channel_of x) (channel_of y) (discarded x) (discarded y) (λ e ch is. discarded_swap x y ch) i;
+        loose = fun_ext {f = λ z. (mid.loose z - one y z + count z (freed y (get mid.chans (channel_of y)))) - one x z + count z (freed x (get (closed y mid.chans) (channel_of x)))}
+            {g = λ z. (mid.loose z - one x z + count z (freed x (get mid.chans (channel_of x)))) - one y z + count z (freed y (get (closed x mid.chans) (channel_of y)))} (λ z.
+            omega (arith, one_below mid.loose x z m, one_below mid.loose y z n, one_once x y z apart, ap (count z) (freed_same mid.chans x y apart), ap (count z) (freed_same mid.chans y x (λ e. apart (sym e))))) i;
+        remaining = mid.remaining;
+      };
+      first_cost = refl;
+      second_cost = refl;
+    }
 
-      two_discards : (x y : PortValue) → (x ≢ y) → (m : 1 ≤ mid.loose x) (n : 1 ≤ mid.loose y) → MovesMeet (Move language) (end language) mid (Discard x) (Discard y) m n
-      two_discards x y apart m n = record {
-        first = omega (arith, one_apart y x (λ e. apart (sym e)));
-        second = omega (arith, one_apart x y apart);
-        one_state = λ i. record {
-          procs = mid.procs;
-          chans = adjust_swap channel_order mid.chans (channel_of x) (channel_of y) (discarded x) (discarded y) (λ e ch is. discarded_swap x y ch) i;
-          loose = fun_ext {f = λ z. (mid.loose z - one y z + count z (freed y (get mid.chans (channel_of y)))) - one x z + count z (freed x (get (closed y mid.chans) (channel_of x)))}
-              {g = λ z. (mid.loose z - one x z + count z (freed x (get mid.chans (channel_of x)))) - one y z + count z (freed y (get (closed x mid.chans) (channel_of y)))} (λ z.
-              omega (arith, one_below mid.loose x z m, one_below mid.loose y z n, one_once x y z apart, ap (count z) (freed_same mid.chans x y apart), ap (count z) (freed_same mid.chans y x (λ e. apart (sym e))))) i;
-          remaining = mid.remaining;
-        };
-        first_cost = refl;
-        second_cost = refl;
-      }
+    turned : (a b : Part) (m : Move language mid a) (n : Move language mid b) → MovesMeet (Move language) (end language) mid b a n m → MovesMeet (Move language) (end language) mid a b m n
+    turned a b m n w = record { first = w.second; second = w.first; one_state = sym w.one_state; first_cost = w.second_cost; second_cost = w.first_cost }
 
-      turned : (a b : Part) (m : Move language mid a) (n : Move language mid b) → MovesMeet (Move language) (end language) mid b a n m → MovesMeet (Move language) (end language) mid a b m n
-      turned a b m n w = record { first = w.second; second = w.first; one_state = sym w.one_state; first_cost = w.second_cost; second_cost = w.first_cost }
-
+    -- where each two processes are paired, and each bears the discard of a loose port
+    module _ (paired : (p q : Place) → (p ≢ q) → (m : Move language mid (Run p)) (n : Move language mid (Run q)) → ArePaired mid.chans m.1.need n.1.need)
+        (bears : (p : Place) (x : PortValue) → 1 ≤ mid.loose x → (m : Move language mid (Run p)) → BearsDiscard mid.chans x m.1.need) where
       pub meet : (a b : Part) → (a ≢ b) → (m : Move language mid a) (n : Move language mid b) → MovesMeet (Move language) (end language) mid a b m n
-      meet (Run p) (Run q) apart m n = runs p q (λ e. apart (ap Run e)) m n
-      meet (Run p) (Discard x) apart m n = run_beside p x m n
-      meet (Discard x) (Run p) apart m n = turned _ _ _ _ (run_beside p x n m)
+      meet (Run p) (Run q) apart m n = let off : p ≢ q = λ e. apart (ap Run e) in runs p q off m n (paired p q off m n)
+      meet (Run p) (Discard x) apart m n = run_beside p x m n (bears p x n m)
+      meet (Discard x) (Run p) apart m n = turned _ _ _ _ (run_beside p x n m (bears p x m n))
       meet (Discard x) (Discard y) apart m n = two_discards x y (λ e. apart (ap Discard e)) m n
+
+    -- so it is where nobody looks and no channel has a second writer
+    module _ (IsPlain : Proc → Type 0) (plain : KeepsPlain language IsPlain) (all : AllPlain language IsPlain mid.procs) (single : HasOneWriter mid.chans) where
+      plain_told : (p : Place) (t : Starts p) → IsTold mid.chans t.need
+      plain_told p t = single_told t.need (subst (IsPlainAsk language IsPlain) t.asks (plain.goes t.self (all p t.self t.is))).single
+        where
+          single_told : (need : Need) → IsSingle need → IsTold mid.chans need
+          single_told Nothing is = tt
+          single_told (Event c a) is = sure_need_told mid.chans (Event c a) is
+          single_told (New n w) is = tt
+          single_told (Children b n) is = tt
+
+      plain_lone : (p : Place) (t : Starts p) → IsLone mid.chans t.need
+      plain_lone p t = go t.need (going_of p t).uses
+        where
+          go : (need : Need) → Uses (language.held t.self) need → IsLone mid.chans need
+          go Nothing uses = tt
+          go (Event c (Push w m)) uses = λ v h. single c v h ∙ sym (single c w (held_open p t.self (Writer c w) t.is uses))
+          go (Event c (Pop l)) uses = tt
+          go (Event c Look) uses = tt
+          go (New n w) uses = tt
+          go (Children b n) uses = tt
+
+      pub plain_meet : (a b : Part) → (a ≢ b) → (m : Move language mid a) (n : Move language mid b) → MovesMeet (Move language) (end language) mid a b m n
+      plain_meet = meet
+          (λ p q apart m n. record {
+            first = told_bears mid.chans m.1.need n.1.need (plain_told p m.1);
+            second = told_bears mid.chans n.1.need m.1.need (plain_told q n.1);
+            lone = inl (plain_lone p m.1);
+          })
+          (λ p x l m. told_bears_discard mid.chans x m.1.need (plain_told p m.1))

@@ -1,17 +1,19 @@
 -- What one process needs of the channels, before and after another has had its own.
-use Rattle.std.proofs.Common.{◌≡◌, ◌≢◌, ℕ, ◌≤◌, Option, Some, None, [], Bool, true, false, cond, option_map, refl, sym, ap, ◌∙◌, arith}
+use Rattle.std.proofs.Common.{◌≡◌, ◌≢◌, ◌⊎◌, ℕ, ◌≤◌, Option, Some, None, [], Bool, true, false, cond, option_map, refl, sym, ap, ◌∙◌, arith}
 use Rattle.std.specs.FinMap.{get}
 use Rattle.fm_base.specs.declared.path.ChanName.{ChanName}
-use Rattle.fm_base.specs.Channels.{Message, Chan, Chans, ChannelOp, is_ready, changed, spills_at, fresh}
+use Rattle.fm_base.specs.declared.port.PortValue.{PortValue}
+use Rattle.fm_base.specs.Channels.{Message, Chan, Chans, ChannelOp, is_ready, changed, channel_of, spills_at, fresh}
 use Rattle.fm_finmap.specs.Changes.{adjust}
 use Rattle.fm_finmap.proofs.Keys.{decide}
 use Rattle.fm_finmap.proofs.Inserts.{insert_there, insert_swap}
 use Rattle.fm_finmap.proofs.Adjusts.{adjust_there, adjust_swap, adjust_past_insert}
 use Rattle.fm_net.specs.Machine.{Place, Need, Nothing, Event, New, Children, Reply, chans_after, reply_at, served_at}
 use Rattle.fm_net.specs.Owned.{present, name_of}
+use Rattle.fm_net.specs.Lone.{OfEvent, IsSureNeed, IsLone, IsToldEvent, IsTold}
 use Rattle.fm_net.proofs.Keys.{channel_order}
 use Rattle.fm_net.proofs.Counts.{adjust_at}
-use Rattle.fm_net.proofs.Events.{Calm}
+use Rattle.fm_net.proofs.Events.{Bears, Calm, sure_told, told_event_bears}
 
 pub absent : {K X : Type 0} (get : K → Option X) (k j : K) (x : X) → get k ≡ Some x → get j ≡ None → k ≢ j
 absent get k j x h g e = cc (sym h ∙ ap get e ∙ g)
@@ -32,7 +34,43 @@ abbrev pub IsReadyLater : Chans → Need → Need → Type 0
 IsReadyLater m (Event c a) (Event d b) = c ≡ d → (ch : Chan) → get m c ≡ Some ch → is_ready a ch ≡ true → is_ready a (changed b ch) ≡ true
 IsReadyLater m need other = Unit {0}
 
--- and leaves it the reply
+-- where the first looks and the second sends, there is something to tell
+abbrev pub BearsNeed : Chans → Need → Need → Type 0
+BearsNeed m (Event c a) (Event d b) = c ≡ d → (ch : Chan) → get m c ≡ Some ch → Bears a b ch
+BearsNeed m need other = Unit {0}
+
+-- each of two needs bears the other before it, and one sends beside no other writer
+pub record ArePaired (m : Chans) (need other : Need) : Type 0 where
+  pub first : BearsNeed m need other
+  pub second : BearsNeed m other need
+  pub lone : IsLone m need ⊎ IsLone m other
+
+-- who looks at the channel of a port that is discarded has something to tell
+abbrev pub BearsDiscard : Chans → PortValue → Need → Type 0
+BearsDiscard m x = OfEvent (λ c a. channel_of x ≡ c → (ch : Chan) → get m c ≡ Some ch → IsToldEvent a ch)
+
+pub told_bears_discard : (m : Chans) (x : PortValue) (need : Need) → IsTold m need → BearsDiscard m x need
+told_bears_discard m x Nothing told = tt
+told_bears_discard m x (New n w) told = tt
+told_bears_discard m x (Children b n) told = tt
+told_bears_discard m x (Event c a) told = λ e. told
+
+pub sure_need_told : (m : Chans) (need : Need) → IsSureNeed need → IsTold m need
+sure_need_told m Nothing sure = tt
+sure_need_told m (New n w) sure = tt
+sure_need_told m (Children b n) sure = tt
+sure_need_told m (Event c a) sure = λ ch is. sure_told a ch sure
+
+pub told_bears : (m : Chans) (need other : Need) → IsTold m need → BearsNeed m need other
+told_bears m Nothing other told = tt
+told_bears m (New n w) other told = tt
+told_bears m (Children b n) other told = tt
+told_bears m (Event c a) Nothing told = tt
+told_bears m (Event c a) (New n w) told = tt
+told_bears m (Event c a) (Children b n) told = tt
+told_bears m (Event c a) (Event d b) told = λ e ch is. told_event_bears a b ch (told ch is)
+
+-- where the second leaves the first the reply
 abbrev pub IsCalm : Chans → Need → Need → Type 0
 IsCalm m (Event c a) (Event d b) = c ≡ d → (ch : Chan) → get m c ≡ Some ch → Calm a b ch
 IsCalm m need other = Unit {0}

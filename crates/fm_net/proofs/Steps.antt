@@ -19,7 +19,7 @@ use Rattle.fm_net.proofs.Keys.{path_order}
 use Rattle.fm_net.proofs.Counts.{shut-closed, one_self, count-nil, count-cons, count-append, port_decide}
 use Rattle.fm_discards.proofs.Shedding.{weight-cons, no_weight}
 use Rattle.fm_net.proofs.Parts.{Midway, Part, Run, Discard, one_place, one_place_self, Move, end, ran, without_port, part_step, took, takes}
-use Rattle.fm_net.proofs.Meeting.{IsSound, stay, meet}
+use Rattle.fm_net.proofs.Meeting.{IsSound, stay, plain_meet}
 use Rattle.fm_net.proofs.Keeping.{keeps, keeps_plain, keeps_single}
 use Rattle.fm_net.proofs.Gone.{keeps_empty}
 
@@ -40,16 +40,16 @@ trace (suc n) [] m = []
 trace (suc n) (x ∷ ds) m = Discard x ∷ trace n (freed x (get m (channel_of x)) ++ ds) (shut x m)
 
 module _ {Proc : Type 0} (language : Language Proc) where
-  abbrev part : Midway Proc → Part → Option (Midway Proc × ℕ)
+  abbrev pub part : Midway Proc → Part → Option (Midway Proc × ℕ)
   part = part_step language
 
-  abbrev step : State Proc → Place → Option (State Proc × ℕ)
+  abbrev pub step : State Proc → Place → Option (State Proc × ℕ)
   step = machine_step language.ask language.has_ended language.emptied
 
   abbrev ran_option : Midway Proc → Place → Option (Begun Proc) → Option (Midway Proc × ℕ)
   ran_option mid p = option_map (ran language mid p)
 
-  midway : Procs Proc → Chans → List PortValue → (Place → ℕ) → Midway Proc
+  unfoldable pub midway : Procs Proc → Chans → List PortValue → (Place → ℕ) → Midway Proc
   midway procs m ds remaining = record { procs = procs; chans = m; loose = λ z. count z ds; remaining = remaining }
 
   discarding : (n : ℕ) (ds : List PortValue) (m : Chans) (procs : Procs Proc) (remaining : Place → ℕ) → weight ds m ≤ n
@@ -74,10 +74,10 @@ module _ {Proc : Type 0} (language : Language Proc) where
 
   -- ---- the parts of one step
 
-  abbrev at : State Proc → (Place → ℕ) → Midway Proc
+  abbrev pub at : State Proc → (Place → ℕ) → Midway Proc
   at s remaining = midway s.procs s.chans [] remaining
 
-  abbrev less : Place → (Place → ℕ) → Place → ℕ
+  abbrev pub less : Place → (Place → ℕ) → Place → ℕ
   less p remaining q = remaining q - one_place p q
 
   abbrev discards : Begun Proc → List Part
@@ -135,39 +135,39 @@ module _ {Proc : Type 0} (language : Language Proc) where
 
   -- ---- the step taken apart
 
-  abbrev Whole : State Proc → Place → Type 0
+  abbrev pub Whole : State Proc → Place → Type 0
   Whole s p = (b : Begun Proc) × (begun language.ask language.has_ended language.emptied s p ≡ Some b)
 
-  abbrev whole_end : (s : State Proc) (p : Place) → Whole s p → State Proc × ℕ
+  abbrev pub whole_end : (s : State Proc) (p : Place) → Whole s p → State Proc × ℕ
   whole_end s p m = finished m.0
 
-  whole_took : (s : State Proc) (p : Place) (r : State Proc × ℕ) → step s p ≡ Some r → Whole s p
+  pub whole_took : (s : State Proc) (p : Place) (r : State Proc × ℕ) → step s p ≡ Some r → Whole s p
   whole_took s p r e = go (begun language.ask language.has_ended language.emptied s p) refl e
     where
       go : (o : Option (Begun Proc)) → begun language.ask language.has_ended language.emptied s p ≡ o → option_map finished o ≡ Some r → Whole s p
       go None is e' = absurd (cc e')
       go (Some b) is e' = (b, is)
 
-  whole_takes : (s : State Proc) (p : Place) (m : Whole s p) → step s p ≡ Some (whole_end s p m)
+  pub whole_takes : (s : State Proc) (p : Place) (m : Whole s p) → step s p ≡ Some (whole_end s p m)
   whole_takes s p m = ap (option_map finished) m.1
 
   -- both processes have one step to make
-  both : Place → Place → Place → ℕ
+  unfoldable pub both : Place → Place → Place → ℕ
   both p q r = one_place p r + one_place q r
 
-  both_first : (p q : Place) → 1 ≤ both p q p
+  pub both_first : (p q : Place) → 1 ≤ both p q p
   unfolding both
   both_first p q = omega (arith, one_place_self p)
 
-  both_second : (p q : Place) → 1 ≤ both p q q
+  pub both_second : (p q : Place) → 1 ≤ both p q q
   unfolding both
   both_second p q = omega (arith, one_place_self q)
 
-  second_left : (p q : Place) → 1 ≤ less p (both p q) q
+  pub second_left : (p q : Place) → 1 ≤ less p (both p q) q
   unfolding both
   second_left p q = omega (arith, one_place_self q)
 
-  first_left : (p q : Place) → 1 ≤ less q (both p q) p
+  pub first_left : (p q : Place) → 1 ≤ less q (both p q) p
   unfolding both
   first_left p q = omega (arith, one_place_self p)
 
@@ -188,61 +188,91 @@ module _ {Proc : Type 0} (language : Language Proc) where
   abbrev Sound : Midway Proc → Type 0
   Sound = IsSound language
 
-  sound_at : (s : State Proc) (remaining : Place → ℕ) → Owned s → Sound (at s remaining)
+  pub sound_at : (s : State Proc) (remaining : Place → ℕ) → Owned s → Sound (at s remaining)
   unfolding midway
   sound_at s remaining o = record { stands = λ z. omega (arith, o.stands z, count-nil z); born = o.born; named = o.named }
 
-  owned_at : (s : State Proc) (remaining : Place → ℕ) → Sound (at s remaining) → Owned s
+  pub owned_at : (s : State Proc) (remaining : Place → ℕ) → Sound (at s remaining) → Owned s
   unfolding midway
   owned_at s remaining g = record { stands = λ z. omega (arith, g.stands z, count-nil z); born = g.born; named = g.named }
+
+  part_next : (mid : Midway Proc) (a : Part) (m : Move language mid a) → next part mid a ≡ (end language mid a m).0
+  part_next = next_is part (Move language) (end language) (took language) (takes language)
+
+  whole_next : (s : State Proc) (p : Place) (m : Whole s p) → next step s p ≡ (finished m.0).0
+  whole_next = next_is step Whole whole_end whole_took whole_takes
+
+  -- ---- what each part keeps, each step keeps
+
+  module _ (Good : Midway Proc → Type 0) (kept : (mid : Midway Proc) → Good mid → (a : Part) (m : Move language mid a) → Good (end language mid a m).0) where
+    good_keeps : (mid : Midway Proc) (a : Part) → Good mid → Can part mid a → Good (next part mid a)
+    good_keeps mid a good can = let m = took language mid a can.0 can.1 in subst Good (sym (part_next mid a m)) (kept mid good a m)
+
+    pub whole_keeps : (s : State Proc) (p : Place) (remaining : Place → ℕ) → 1 ≤ remaining p → Good (at s remaining) → (m : Whole s p) → Good (at (finished m.0).0 (less p remaining))
+    whole_keeps s p remaining h good m =
+        let l = parts_lead s p m.0 remaining m.1 h in
+        subst Good l.there (good_after part Good good_keeps (parts p m.0) (at s remaining) good l.legal)
+
+    -- and where all parts meet, steps do
+    module _ (meets : (mid : Midway Proc) → Good mid → (a b : Part) → (a ≢ b) → (m : Move language mid a) (n : Move language mid b) → MovesMeet (Move language) (end language) mid a b m n) where
+      part_diamond : (mid : Midway Proc) → Good mid → Diamond part mid
+      part_diamond mid good = diamond part (Move language) (end language) (took language) (takes language) mid (meets mid good)
+
+      -- after p's step q has its own, at the same cost
+      follows : (s : State Proc) (p q : Place) (remaining : Place → ℕ) → Good (at s remaining) → (p ≢ q) → 1 ≤ remaining p → 1 ≤ remaining q → (m : Whole s p) (n : Whole s q) → (b : Begun Proc) × (begun language.ask language.has_ended language.emptied (finished m.0).0 q ≡ Some b) × (b.cost ≡ n.0.cost)
+      unfolding price
+      follows s p q remaining good apart h g m n =
+          let l = parts_lead s p m.0 remaining m.1 h in
+          let e = run_first s q n.0 remaining n.1 g in
+          let after_p = stays_after part Good good_keeps part_diamond (parts p m.0) (at s remaining) (Run q) good l.legal (not_in_parts p q m.0 apart) ((midway n.0.procs n.0.chans n.0.drops (less q remaining), n.0.cost), e) in
+          let there : part (at (finished m.0).0 (less p remaining)) (Run q) ≡ Some after_p.0.0 = ap (λ x. part x (Run q)) (sym l.there) ∙ after_p.0.1 in
+          let b = run_begun (finished m.0).0 q (less p remaining) after_p.0.0 there in
+          (b.0, b.1, b.2 ∙ sym (ap price after_p.0.1) ∙ after_p.1 ∙ ap price e)
+
+      pub whole_meet : (s : State Proc) (p q : Place) → Good (at s (both p q)) → (p ≢ q) → (m : Whole s p) (n : Whole s q) → MovesMeet Whole whole_end s p q m n
+      unfolding midway
+      whole_meet s p q good apart m n =
+          let remaining = both p q in
+          let b = follows s p q remaining good apart (both_first p q) (both_second p q) m n in
+          let a = follows s q p remaining good (λ e. apart (sym e)) (both_second p q) (both_first p q) n m in
+          let first = leads_on part (at s remaining) (at (finished m.0).0 (less p remaining)) (at (finished b.0).0 (less q (less p remaining))) (parts p m.0) (parts q b.0) _ _
+          (parts_lead s p m.0 remaining m.1 (both_first p q)) (parts_lead (finished m.0).0 q b.0 (less p remaining) b.1 (second_left p q)) in
+          let second = leads_on part (at s remaining) (at (finished n.0).0 (less q remaining)) (at (finished a.0).0 (less p (less q remaining))) (parts q n.0) (parts p a.0) _ _
+          (parts_lead s q n.0 remaining n.1 (both_second p q)) (parts_lead (finished n.0).0 p a.0 (less q remaining) a.1 (first_left p q)) in
+          let all = settles part part_decide Good good_keeps part_diamond (at s remaining) (parts p m.0 ++ parts q b.0) good
+          (ends_at (at s remaining) (finished b.0).0 (less q (less p remaining)) (parts p m.0 ++ parts q b.0) _ first (none_left p q)) in
+          let one_end = all.one_state (parts q n.0 ++ parts p a.0) (ends_at (at s remaining) (finished a.0).0 (less p (less q remaining)) (parts q n.0 ++ parts p a.0) _ second (none_left_turned p q)) in
+          record {
+            first = (a.0, a.1);
+            second = (b.0, b.1);
+            one_state = ap state_of (sym second.there ∙ one_end ∙ first.there);
+            first_cost = a.2;
+            second_cost = b.2;
+          }
 
   -- where all processes are plain and no channel has a second writer
   abbrev pub IsSoleState : (Proc → Type 0) → State Proc → Type 0
   IsSoleState IsPlain s = AllPlain language IsPlain s.procs × HasOneWriter s.chans
 
-  abbrev Sole : (Proc → Type 0) → Midway Proc → Type 0
-  Sole IsPlain mid = Sound mid × (AllPlain language IsPlain mid.procs × HasOneWriter mid.chans)
-
-  sole_at : (IsPlain : Proc → Type 0) (s : State Proc) (remaining : Place → ℕ) → Owned s → IsSoleState IsPlain s → Sole IsPlain (at s remaining)
-  unfolding midway
-  sole_at IsPlain s remaining o sole = (sound_at s remaining o, sole)
-
   module _ (laws : IsLawfulLanguage language) where
-    part_next : (mid : Midway Proc) (a : Part) (m : Move language mid a) → next part mid a ≡ (end language mid a m).0
-    part_next = next_is part (Move language) (end language) (took language) (takes language)
-
-    part_keeps : (mid : Midway Proc) (a : Part) → Sound mid → Can part mid a → Sound (next part mid a)
-    part_keeps mid a good can =
-        let m = took language mid a can.0 can.1 in
-        subst Sound (sym (part_next mid a m)) (keeps language laws mid good a m)
-
     part_stays : (mid : Midway Proc) → Sound mid → Stays part mid
     part_stays mid good = stays_by_moves part (Move language) (end language) (took language) (takes language) mid (λ a b apart m n. stay language laws mid good a b apart m n)
 
     -- ---- steps keep ownership
 
-    one_step : (s : State Proc) (p : Place) (m : Whole s p) → Leads part (at s (one_place p)) (parts p m.0) (at (finished m.0).0 (less p (one_place p))) (m.0.cost + 0)
-    one_step s p m = parts_lead s p m.0 (one_place p) m.1 (omega (arith, one_place_self p))
-
-    whole_next : (s : State Proc) (p : Place) (m : Whole s p) → next step s p ≡ (finished m.0).0
-    whole_next = next_is step Whole whole_end whole_took whole_takes
-
     pub step_keeps : (s : State Proc) (p : Place) → Owned s → Can step s p → Owned (next step s p)
     step_keeps s p owned can =
         let m = whole_took s p can.0 can.1 in
-        let l = one_step s p m in
         subst Owned (sym (whole_next s p m))
-        (owned_at (finished m.0).0 (less p (one_place p)) (subst Sound l.there (good_after part Sound part_keeps (parts p m.0) (at s (one_place p)) (sound_at s (one_place p) owned) l.legal)))
+        (owned_at (finished m.0).0 (less p (one_place p)) (whole_keeps Sound (keeps language laws) s p (one_place p) (omega (arith, one_place_self p)) (sound_at s (one_place p) owned) m))
 
     -- what each part keeps, each step does
     module _ (Fact : State Proc → Type 0) (kept : (mid : Midway Proc) (a : Part) → Sound mid → Fact (state_of mid) → (m : Move language mid a) → Fact (state_of (end language mid a m).0)) where
       abbrev SoundFact : Midway Proc → Type 0
       SoundFact mid = Sound mid × Fact (state_of mid)
 
-      fact_keeps : (mid : Midway Proc) (a : Part) → SoundFact mid → Can part mid a → SoundFact (next part mid a)
-      fact_keeps mid a good can =
-          let m = took language mid a can.0 can.1 in
-          (part_keeps mid a good.0 can, subst (λ (after : Midway Proc). Fact (state_of after)) (sym (part_next mid a m)) (kept mid a good.0 good.1 m))
+      fact_kept : (mid : Midway Proc) → SoundFact mid → (a : Part) (m : Move language mid a) → SoundFact (end language mid a m).0
+      fact_kept mid good a m = (keeps language laws mid good.0 a m, kept mid a good.0 good.1 m)
 
       fact_at : (s : State Proc) (remaining : Place → ℕ) → Owned s → Fact s → SoundFact (at s remaining)
       unfolding midway
@@ -255,9 +285,8 @@ module _ {Proc : Type 0} (language : Language Proc) where
       pub step_keeps_fact : (s : State Proc) (p : Place) → Owned s → Fact s → Can step s p → Fact (next step s p)
       step_keeps_fact s p owned fact can =
           let m = whole_took s p can.0 can.1 in
-          let l = one_step s p m in
           subst Fact (sym (whole_next s p m))
-          (at_fact (finished m.0).0 (less p (one_place p)) (subst SoundFact l.there (good_after part SoundFact fact_keeps (parts p m.0) (at s (one_place p)) (fact_at s (one_place p) owned fact) l.legal)))
+          (at_fact (finished m.0).0 (less p (one_place p)) (whole_keeps SoundFact fact_kept s p (one_place p) (omega (arith, one_place_self p)) (fact_at s (one_place p) owned fact) m))
 
     pub step_keeps_empty : (s : State Proc) (p : Place) → Owned s → GoneIsEmpty s.chans → Can step s p → GoneIsEmpty (next step s p).chans
     step_keeps_empty = step_keeps_fact (λ s. GoneIsEmpty s.chans) (λ mid a good all m. keeps_empty language mid all a m)
@@ -268,7 +297,7 @@ module _ {Proc : Type 0} (language : Language Proc) where
     still_begun s p q owned apart m n =
         let remaining = both q p in
         let l = parts_lead s q n.0 remaining n.1 (both_first q p) in
-        let can = can_after part Sound part_keeps part_stays (parts q n.0) (at s remaining) (Run p) (sound_at s remaining owned) l.legal (not_in_parts q p n.0 (λ e. apart (sym e)))
+        let can = can_after part Sound (good_keeps Sound (keeps language laws)) part_stays (parts q n.0) (at s remaining) (Run p) (sound_at s remaining owned) l.legal (not_in_parts q p n.0 (λ e. apart (sym e)))
         ((midway m.0.procs m.0.chans m.0.drops (less p remaining), m.0.cost), run_first s p m.0 remaining m.1 (both_second q p)) in
         let b = run_begun (finished n.0).0 p (less q remaining) can.0 (ap (λ x. part x (Run p)) (sym l.there) ∙ can.1) in
         (b.0, b.1)
@@ -279,51 +308,18 @@ module _ {Proc : Type 0} (language : Language Proc) where
     -- ---- with plain processes and one writer a channel, both orders meet
 
     module _ (IsPlain : Proc → Type 0) (plain : KeepsPlain language IsPlain) where
-      sole_keeps : (mid : Midway Proc) (a : Part) → Sole IsPlain mid → Can part mid a → Sole IsPlain (next part mid a)
-      sole_keeps mid a good can =
-          let m = took language mid a can.0 can.1 in (
-            part_keeps mid a good.0 can,
-            subst (λ (after : Midway Proc). AllPlain language IsPlain after.procs × HasOneWriter after.chans) (sym (part_next mid a m))
-                (keeps_plain language laws mid good.0 IsPlain plain good.1.0 a m, keeps_single language laws mid good.0 IsPlain plain good.1.0 good.1.1 a m),
-          )
-
-      part_diamond : (mid : Midway Proc) → Sole IsPlain mid → Diamond part mid
-      part_diamond mid good = diamond part (Move language) (end language) (took language) (takes language) mid (λ a b apart m n. meet language laws mid good.0 IsPlain plain good.1.0 good.1.1 a b apart m n)
+      sole_kept : (mid : Midway Proc) (a : Part) → Sound mid → IsSoleState IsPlain (state_of mid) → (m : Move language mid a) → IsSoleState IsPlain (state_of (end language mid a m).0)
+      sole_kept mid a good sole m = (keeps_plain language laws mid good IsPlain plain sole.0 a m, keeps_single language laws mid good IsPlain plain sole.0 sole.1 a m)
 
       pub step_keeps_sole : (s : State Proc) (p : Place) → Owned s → IsSoleState IsPlain s → Can step s p → IsSoleState IsPlain (next step s p)
-      step_keeps_sole = step_keeps_fact (IsSoleState IsPlain) (λ mid a good sole m. (keeps_plain language laws mid good IsPlain plain sole.0 a m, keeps_single language laws mid good IsPlain plain sole.0 sole.1 a m))
+      step_keeps_sole = step_keeps_fact (IsSoleState IsPlain) sole_kept
 
-      -- after p's step q has its own, at the same cost
-      follows : (s : State Proc) (p q : Place) (remaining : Place → ℕ) → Owned s → IsSoleState IsPlain s → (p ≢ q) → 1 ≤ remaining p → 1 ≤ remaining q → (m : Whole s p) (n : Whole s q) → (b : Begun Proc) × (begun language.ask language.has_ended language.emptied (finished m.0).0 q ≡ Some b) × (b.cost ≡ n.0.cost)
-      unfolding price
-      follows s p q remaining owned sole apart h g m n =
-          let l = parts_lead s p m.0 remaining m.1 h in
-          let e = run_first s q n.0 remaining n.1 g in
-          let after_p = stays_after part (Sole IsPlain) sole_keeps part_diamond (parts p m.0) (at s remaining) (Run q) (sole_at IsPlain s remaining owned sole) l.legal (not_in_parts p q m.0 apart) ((midway n.0.procs n.0.chans n.0.drops (less q remaining), n.0.cost), e) in
-          let there : part (at (finished m.0).0 (less p remaining)) (Run q) ≡ Some after_p.0.0 = ap (λ x. part x (Run q)) (sym l.there) ∙ after_p.0.1 in
-          let b = run_begun (finished m.0).0 q (less p remaining) after_p.0.0 there in
-          (b.0, b.1, b.2 ∙ sym (ap price after_p.0.1) ∙ after_p.1 ∙ ap price e)
+      abbrev Sole : Midway Proc → Type 0
+      Sole mid = Sound mid × IsSoleState IsPlain (state_of mid)
 
-      whole_meet : (s : State Proc) → Owned s → IsSoleState IsPlain s → (p q : Place) → (p ≢ q) → (m : Whole s p) (n : Whole s q) → MovesMeet Whole whole_end s p q m n
-      unfolding midway
-      whole_meet s owned sole p q apart m n =
-          let remaining = both p q in
-          let b = follows s p q remaining owned sole apart (both_first p q) (both_second p q) m n in
-          let a = follows s q p remaining owned sole (λ e. apart (sym e)) (both_second p q) (both_first p q) n m in
-          let first = leads_on part (at s remaining) (at (finished m.0).0 (less p remaining)) (at (finished b.0).0 (less q (less p remaining))) (parts p m.0) (parts q b.0) _ _
-          (parts_lead s p m.0 remaining m.1 (both_first p q)) (parts_lead (finished m.0).0 q b.0 (less p remaining) b.1 (second_left p q)) in
-          let second = leads_on part (at s remaining) (at (finished n.0).0 (less q remaining)) (at (finished a.0).0 (less p (less q remaining))) (parts q n.0) (parts p a.0) _ _
-          (parts_lead s q n.0 remaining n.1 (both_second p q)) (parts_lead (finished n.0).0 p a.0 (less q remaining) a.1 (first_left p q)) in
-          let all = settles part part_decide (Sole IsPlain) sole_keeps part_diamond (at s remaining) (parts p m.0 ++ parts q b.0) (sole_at IsPlain s remaining owned sole)
-          (ends_at (at s remaining) (finished b.0).0 (less q (less p remaining)) (parts p m.0 ++ parts q b.0) _ first (none_left p q)) in
-          let one_end = all.one_state (parts q n.0 ++ parts p a.0) (ends_at (at s remaining) (finished a.0).0 (less p (less q remaining)) (parts q n.0 ++ parts p a.0) _ second (none_left_turned p q)) in
-          record {
-            first = (a.0, a.1);
-            second = (b.0, b.1);
-            one_state = ap state_of (sym second.there ∙ one_end ∙ first.there);
-            first_cost = a.2;
-            second_cost = b.2;
-          }
+      sole_meet : (mid : Midway Proc) → Sole mid → (a b : Part) → (a ≢ b) → (m : Move language mid a) (n : Move language mid b) → MovesMeet (Move language) (end language) mid a b m n
+      sole_meet mid good = plain_meet language laws mid good.0 IsPlain plain good.1.0 good.1.1
 
       pub steps_commute : (s : State Proc) → Owned s → IsSoleState IsPlain s → Diamond step s
-      steps_commute s owned sole = diamond step Whole whole_end whole_took whole_takes s (whole_meet s owned sole)
+      steps_commute s owned sole = diamond step Whole whole_end whole_took whole_takes s
+          (λ p q. whole_meet Sole (fact_kept (IsSoleState IsPlain) sole_kept) sole_meet s p q (fact_at (IsSoleState IsPlain) sole_kept s (both p q) owned sole))

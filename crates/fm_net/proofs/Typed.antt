@@ -138,14 +138,15 @@ module _ {Proc T : Type 0} (language : Language Proc) (IsFine : (ChanName → T)
         queues = λ c ch is. all_agree others c ch.queue (same c ch is) (λ z h. at_port z (queue_open c ch z is h)) (typed.queues c ch is);
       }
 
-    -- parts keep the types, with one more where a channel is made
-    pub keeps_typed : (a : Part) (m : Move language mid a) → IsTyped language IsFine Fits (state_of language (end language mid a m).0)
-    keeps_typed (Discard x) l = (types, record { each = typed.each; queues = λ c. kept_at types c mid.chans (channel_of x) (discarded x) typed.queues (λ ch is h. after_discard types (channel_of x) x ch h) })
+    -- parts keep the types, with one more where a channel is made, and none of a channel that is there changes
+    pub keeps_typed : (a : Part) (m : Move language mid a) → (others : ChanName → T) × AreTypes language IsFine Fits others (state_of language (end language mid a m).0) × ((c : ChanName) (ch : Chan) → get mid.chans c ≡ Some ch → types c ≡ others c)
+    keeps_typed (Discard x) l = (types, record { each = typed.each; queues = λ c. kept_at types c mid.chans (channel_of x) (discarded x) typed.queues (λ ch is h. after_discard types (channel_of x) x ch h) }, λ c ch is. refl)
     keeps_typed (Run p) (h, t) =
         let g : IsTypedStep language IsFine Fits t.self t.need t.goes = subst (IsTypedAsk language IsFine Fits t.self) t.asks (typing.goes t.self) in
         let others : ChanName → T = retyped types p t.need g.type_made in
         let there = ready_need language laws mid good p t.self t.need t.reply t.is (going_of language laws mid good p t).numbered t.serves in
-        let now : AreTypes language IsFine Fits others (state_of language mid) = typed_so others (same_type types mid.chans p t.need g.type_made there) in
+        let same = same_type types mid.chans p t.need g.type_made there in
+        let now : AreTypes language IsFine Fits others (state_of language mid) = typed_so others same in
         let self = now.each p t.self t.is in
         let on = g.goes_on others self (made p t.need) t.reply (made_fits types p t.need g.type_made) (came_fits others mid.procs mid.chans p t.need t.reply now.queues t.serves) (served_fine language.has_ended language.emptied (IsFine others) (typing.empties others) mid.procs mid.chans p t.need t.reply now.each t.serves) in (
           others,
@@ -153,11 +154,12 @@ module _ {Proc T : Type 0} (language : Language Proc) (IsFine : (ChanName → T)
             each = step_fine language.has_ended language.emptied (IsFine others) (typing.empties others) mid.procs p t.need (t.goes (made p t.need) t.reply) now.each on.0 on.1;
             queues = queues_after others p t.need mid.chans (g.sends others self) now.queues;
           },
+          same,
         )
 
   -- each step of a language with types keeps them
   pub step_keeps_types : IsTypedLanguage language IsFine Fits → (laws : IsLawfulLanguage language) → (s : State Proc) (p : Place) → IsOwned language s → IsTyped language IsFine Fits s → Can (language_step language) s p → IsTyped language IsFine Fits (next (language_step language) s p)
-  step_keeps_types typing laws = step_keeps_fact language laws (IsTyped language IsFine Fits) (λ mid a good typed m. keeps_typed typing laws mid good typed.0 typed.1 a m)
+  step_keeps_types typing laws = step_keeps_fact language laws (IsTyped language IsFine Fits) (λ mid a good typed m. let k = keeps_typed typing laws mid good typed.0 typed.1 a m in (k.0, k.1))
 
   pub types_throughout : IsTypedLanguage language IsFine Fits → IsLawfulLanguage language → (first : State Proc) → IsOwned language first → IsTyped language IsFine Fits first → Throughout (language_step language) (IsTyped language IsFine Fits) first
   types_throughout typing laws first owned typed =

@@ -4,6 +4,7 @@ pub mod Owned
 pub mod Lawful
 pub mod Typed
 pub mod Plain
+pub mod Lone
 pub mod Starts
 pub mod Woken
 pub mod Correspondence
