@@ -92,7 +92,8 @@ pub(crate) fn pairs(alloc: Global, chain: &Chain) -> Result<Vec<(u32, u32)>, NoM
 
 // The chain without as many of its last pairs as the other one has.
 fn front<'a>(chain: &'a Chain, other: &Chain) -> &'a Chain
-    ensures { pairs_of result.now ≡ take (length (pairs_of chain.now) - length (pairs_of other.now)) (pairs_of chain.now) }
+    ensures { pairs_of result.now
+        ≡ take (length (pairs_of chain.now) - length (pairs_of other.now)) (pairs_of chain.now) }
 {
     let mut front = chain;
     let mut left = other;
@@ -119,7 +120,8 @@ struct Walked<'a> {
 }
 
 fn in_step<'a>(left: &'a Chain, right: &'a Chain) -> Walked<'a>
-    ensures passed { IsInStep (pairs_of left.now) (pairs_of right.now) (pairs_of result.left.now) (pairs_of result.right.now) result.order }
+    ensures passed { IsInStep (pairs_of left.now) (pairs_of right.now) (pairs_of result.left.now)
+        (pairs_of result.right.now) result.order }
     ensures ended { (pairs_of result.left.now ≡ []) ⊎ (pairs_of result.right.now ≡ []) }
 {
     let mut order = Ordering::Equal;

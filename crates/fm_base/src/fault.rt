@@ -10,7 +10,7 @@ pub enum Fault {
     Overflow,
     /// A division by 0, or a loop with increment 0.
     ZeroDivide,
-    /// A subscript outside its bounds.
+    /// A subscript outside its bounds, a SEND whose sizes reach outside an array, or a message that is too long.
     Subscript,
     /// A port statement on NULL.
     NullPort,
@@ -18,7 +18,7 @@ pub enum Fault {
     EndOfChannel,
     /// A location outside its shape.
     BadLocation,
-    /// A submachine outside its machine.
+    /// A submachine outside its machine, or a child with more PROCESSORS than its machine has nodes.
     BadMachine,
 }
 

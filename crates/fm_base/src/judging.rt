@@ -82,7 +82,8 @@ pub fn keep_if(best: Option<Refusal>, broken: bool, line: Line, rule: Rule) -> O
 /// The verdict of a judge: the least rule that is broken, over all places and rules. Lines may
 /// come in any order. Takes no memory.
 pub fn verdict<J: Judge>(judge: &J) -> Option<Refusal>
-    ensures { IsVerdict (SomePlace (J.places judge.now) (J.line judge.now) (J.rules judge.now) (J.breaks judge.now)) result }
+    ensures { IsVerdict (SomePlace (J.places judge.now) (J.line judge.now) (J.rules judge.now) (J.breaks judge.now))
+        result }
 {
     let rules = judge.rules();
     let mut best: Option<Refusal> = None;

@@ -1,5 +1,5 @@
-//! The calls of a program, and its graph of calls; and what those who judge by it look through: flags of units, names of
-//! components, and the least of some lines.
+//! The call graph of a program, and what searches of it share: flags of units, names of components, the least of some
+//! lines.
 #![tactic(auto)]
 
 mod calls;

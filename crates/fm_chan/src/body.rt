@@ -245,7 +245,8 @@ impl Body {
     /// Answers the reader that waited for the last writer to close.
     pub fn shut(&mut self, port: &Port, discarding: &mut Discarding) -> Option<u32>
         ensures body { chan_of self.new ≡ discarded port.now (chan_of self.old) }
-        ensures ports { left_ports discarding.new ≡ freed port.now (Some (chan_of self.old)) ++ left_ports discarding.old }
+        ensures ports { left_ports discarding.new
+            ≡ freed port.now (Some (chan_of self.old)) ++ left_ports discarding.old }
         ensures readers { WakesHere IsClosedAt self.old self.new result }
         ensures noted { count_of self.new.reader + count_of result ≡ count_of self.old.reader }
         ensures room { IsRoomy self.old → IsRoomy self.new }

@@ -45,7 +45,8 @@ pub fn put(
     message: Message,
 ) -> Result<Put, (Message, NoMemory)>
     ensures ok { OnOk result (chans_in bodies.new ≡ adjust (chans_in bodies.old) name.now (changed (Push 0 message))) }
-    ensures spilt { IfOk result (λ put. ports_back put ≡ spills_at (Push 0 message) (map.get (chans_in bodies.old) name.now)) }
+    ensures spilt { IfOk result
+        (λ put. ports_back put ≡ spills_at (Push 0 message) (map.get (chans_in bodies.old) name.now)) }
     ensures readers { WakesOne IsReadyAt bodies.old bodies.new (woken_by result) }
     ensures noted { noted_in bodies.new + count_of (woken_by result) ≡ noted_in bodies.old }
     ensures back { IfErr result (λ e. e.0 ≡ message) }
@@ -92,7 +93,8 @@ pub fn put_back(bodies: &mut Bodies, name: &ChanName, message: Message)
 /// Answers the reader that waited for the last writer to close.
 pub fn shut(bodies: &mut Bodies, port: Port, discarding: &mut Discarding) -> Option<u32>
     ensures channels { chans_in bodies.new ≡ shut port (chans_in bodies.old) }
-    ensures ports { left_ports discarding.new ≡ freed port (chan_at port (chans_in bodies.old)) ++ left_ports discarding.old }
+    ensures ports { left_ports discarding.new
+        ≡ freed port (chan_at port (chans_in bodies.old)) ++ left_ports discarding.old }
     ensures readers { WakesOne IsClosedAt bodies.old bodies.new result }
     ensures noted { noted_in bodies.new + count_of result ≡ noted_in bodies.old }
     ensures room { KeepsRoomIn bodies.old bodies.new }

@@ -124,8 +124,8 @@ impl Channels {
         }
     }
 
-    /// What stands first in the port's channel: its oldest message, which stays there. None where no message is there, or no
-    /// such channel. Takes no memory.
+    /// What stands first in the port's channel: its oldest message, which stays there. None where no message is there,
+    /// or no such channel. Takes no memory.
     pub fn first(&self, port: &Port) -> Option<&Message>
         ensures { option_copied result ≡ first_at (chan_at port.now (chans_of self.now)) }
     {
@@ -264,8 +264,8 @@ impl Channels {
         receive(&mut self.bodies, port.channel(), limits)
     }
 
-    /// Puts a message first, where there is room for it: one that was just received goes back to where it was. Takes no memory, and
-    /// wakes nobody.
+    /// Puts a message first, where there is room for it: one that was just received goes back to where it was. Takes no
+    /// memory, and wakes nobody.
     pub fn put_back(&mut self, port: &Port, message: Message)
         requires { HasRoom self.old (channel_of port.now) }
         ensures { chans_of self.new ≡ adjust (chans_of self.old) (channel_of port.now) (put_first message) }
@@ -281,7 +281,8 @@ impl Channels {
         ensures channels { chans_of self.new ≡ chans_of self.old }
         ensures ok { OnOk result (waiting_reader self.new name.now ≡ Some number) }
         ensures err { OnErr result ((c : declared.ChanName) → waiting_reader self.new c ≡ waiting_reader self.old c) }
-        ensures others { (c : declared.ChanName) → c ≢ name.now → waiting_reader self.new c ≡ waiting_reader self.old c }
+        ensures others { (c : declared.ChanName) → c ≢ name.now
+            → waiting_reader self.new c ≡ waiting_reader self.old c }
         ensures room { KeepsRoom self.old self.new }
         ensures waking { WakesAll self.old self.new }
     {
@@ -304,7 +305,8 @@ impl Channels {
 
     fn shut(&mut self, port: Port, discarding: &mut Discarding)
         ensures channels { chans_of self.new ≡ shut port (chans_of self.old) }
-        ensures ports { left_ports discarding.new ≡ freed port (chan_at port (chans_of self.old)) ++ left_ports discarding.old }
+        ensures ports { left_ports discarding.new
+            ≡ freed port (chan_at port (chans_of self.old)) ++ left_ports discarding.old }
         ensures room { KeepsRoom self.old self.new }
         ensures waking { WakesAtEnd self.old self.new }
     {

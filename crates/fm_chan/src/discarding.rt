@@ -68,7 +68,8 @@ fn unpack_item(item: Item, ports: &mut VecDeque<Option<Port>>)
 }
 
 fn next_of_items(ports: &mut VecDeque<Option<Port>>, items: &mut VecDeque<Item>) -> Option<Port>
-    ensures { Yields (ports_in ports.old.items ++ items_ports items.old.items) result (ports_in ports.new.items ++ items_ports items.new.items) }
+    ensures { Yields (ports_in ports.old.items ++ items_ports items.old.items) result
+        (ports_in ports.new.items ++ items_ports items.new.items) }
 {
     'items: loop {
         let port = next_of_ports(ports);

@@ -73,8 +73,8 @@ pub enum Build {
     Location(u32),
     /// Two words are the SUBMACHINE of the process.
     Submachine,
-    /// The operand at the first place is cut to the number that the earlier one at the second place is; NullPort where the port is
-    /// NULL whose word's number is on top, and stays there.
+    /// The operand at the first place is cut to the number that the earlier one at the second place is; NullPort where
+    /// the port is NULL whose word's number is on top, and stays there.
     Cut(u32, u32),
 }
 

@@ -7,8 +7,8 @@ use std::alloc::Global;
 use std::marker::Model;
 use std::mem::replace;
 
-/// A list that is empty most of the time: while nothing was ever put into it, it takes less room than another list. Contracts see it
-/// as the list of its items.
+/// A list that is empty most of the time: while nothing was ever put into it, it takes less room than another list.
+/// Contracts see it as the list of its items.
 pub struct Rare<T> {
     items: Option<Box<Vec<T>>>,
     alloc: Global,

@@ -24,7 +24,8 @@ pub enum Passed {
 pub enum Kind {
     /// A result of a reference that is done.
     Returned,
-    /// A word on the stack; the number of one of these words of the frame, or a place in an array of so many, where they are told.
+    /// A word on the stack; the number of one of these words of the frame, or a place in an array of so many, where
+    /// they are told.
     Word(Option<Span>),
     /// An operand that was built.
     Operand(Passed),

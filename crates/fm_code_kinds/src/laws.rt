@@ -7,8 +7,8 @@ ghost use Rattle.fm_code_kinds.specs.Bodies.{BodyFits};
 ghost use Rattle.fm_code_kinds.specs.Sample.{sample_body, sample_shapes};
 ghost use Rattle.fm_code_kinds.specs.declared.sorts.Shapes as kinds_of_units;
 
-/// No body of code whose units have their kinds is stuck, where its frames are as the kinds tell: each instruction of its next
-/// statement finds what it takes, and what the statement passes fits the unit that gets it.
+/// No body of code whose units have their kinds is stuck, where its frames are as the kinds tell: each instruction of
+/// its next statement finds what it takes, and what the statement passes fits the unit that gets it.
 pub fn none_is_stuck()
     ensures { (shapes : kinds_of_units.Shapes) (b : declared.Body) → BodyFits shapes b → is_stuck b ≡ false }
 {}

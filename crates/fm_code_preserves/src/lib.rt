@@ -1,8 +1,8 @@
-//! Bodies whose frames stand as the kinds of their code tell go on to such bodies.
+//! An invariant of bodies of stack code, which statements preserve: their frames stand as the kinds of their code say.
 //!
-//! `specs/Standing` says when the frames of a body stand at statements of their units, `specs/Rooms` which words are those of one
-//! variable, `specs/Endings` what is known of the end of a statement, and `specs/Weights` that no port word is lost. Each function here
-//! has an empty body: its contract is a law.
+//! `specs/Standing` says when the frames of a body stand at statements of their units, `specs/Rooms` which words are
+//! those of one variable, `specs/Endings` what is known of the end of a statement, and `specs/Weights` that no port
+//! word is lost. Each function here has an empty body: its contract is a law.
 #![tactic(auto)]
 
 ghost use Rattle.std.specs.Prelude.{◌≡◌, ℕ, ℤ, List, false};
@@ -18,11 +18,12 @@ pub fn none_is_stuck()
     ensures { (shapes : kinds_of_units.Shapes) (b : declared.Body) → BodyStands shapes b → is_stuck b ≡ false }
 {}
 
-/// A statement that concerns the body alone leads to a body whose frames stand so again, and the port words that were there are those
-/// that stay and those that it lets go.
+/// A statement that concerns the body alone leads to a body whose frames stand so again, and the port words that were
+/// there are those that stay and those that it lets go.
 pub fn statements_keep()
-    ensures { (shapes : kinds_of_units.Shapes) (b : declared.Body) → BodyStands shapes b
-        → (after : declared.Body) (lines : List (List ℕ)) (drops : List ℤ) (cost : ℕ) → action_of b ≡ Own after lines drops cost
+    ensures { (shapes : kinds_of_units.Shapes) (b : declared.Body)
+        → BodyStands shapes b → (after : declared.Body) (lines : List (List ℕ)) (drops : List ℤ) (cost : ℕ)
+        → action_of b ≡ Own after lines drops cost
         → BodyStands shapes after × IsParted (body_ports b) (body_ports after) drops }
 {}
 

@@ -105,8 +105,9 @@ fn racy_from(context: &Context, flags: &[bool], units: &[Unit]) -> Option<Line>
     best
 }
 
-/// The least line of a PROBE, or of a MERGER with more than one `OUT=` or a whole array as its one, in a unit that the PROGRAM
-/// reaches, by CALL, references of functions and PROCESSCALL. None where there is none: then the program is deterministic.
+/// The least line of a PROBE, or of a MERGER with more than one `OUT=` or a whole array as its one, in a unit that the
+/// PROGRAM reaches, by CALL, references of functions and PROCESSCALL. None where there is none: then the program is
+/// deterministic.
 pub fn race(alloc: Global, units: &Units, context: &Context) -> Result<Option<Line>, NoMemory>
     ensures { IfOk result (IsRaceVerdict units.now.units context.now) }
 {

@@ -66,8 +66,8 @@ fn all_back_calls(names: &[usize], calls: &[Seq<Call>]) -> Option<Refusal>
     best
 }
 
-/// The least call that is a recursion, by CALL or by a reference of a function: the unit that is called reaches the unit of
-/// the call, or is it. The time is in proportion to the calls, but for finding units by their names.
+/// The least call that is a recursion, by CALL or by a reference of a function: the unit that is called reaches the
+/// unit of the call, or is it. The time is in proportion to the calls, but for finding units by their names.
 pub fn recursion(
     alloc: Global,
     units: &Units,

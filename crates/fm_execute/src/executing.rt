@@ -17,9 +17,10 @@ use std::alloc::Global;
 /// How many local steps a piece has at most.
 const SLICE: u32 = 1_000;
 
-/// Runs an image, from its PROGRAM alone on, until no process can step, or until its turns are spent: its pieces, its processes in the
-/// order of starting, and what the state shows to which they lead. Those that can step are served in turn, on one thread: each comes before
-/// as many pieces as there are processes. Nobody that has more to do is ever stuck.
+/// Runs an image, from its PROGRAM alone on, until no process can step, or until its turns are spent: its pieces, its
+/// processes in the order of starting, and what the state shows to which they lead. Those that can step are served in
+/// turn, on one thread: each comes before as many pieces as there are processes. Nobody that has more to do is ever
+/// stuck.
 ///
 /// # Errors
 /// `NoMemory` is want of memory.

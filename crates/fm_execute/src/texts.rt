@@ -42,11 +42,12 @@ fn verified(alloc: Global, image: Image) -> Result<Verified, ExecuteFail>
     }
 }
 
-/// Reads an object text, looks whether its image makes sense, and runs it, from its PROGRAM alone on, until no process can step, or
-/// until its turns are spent.
+/// Reads an object text, looks whether its image makes sense, and runs it, from its PROGRAM alone on, until no process
+/// can step, or until its turns are spent.
 ///
 /// # Errors
-/// `Malformed` tells the first line that is malformed, `Unverified` the least unit that makes no sense; `NoMemory` is want of memory.
+/// `Malformed` tells the first line that is malformed, `Unverified` the least unit that makes no sense; `NoMemory` is
+/// want of memory.
 pub fn execute_text(alloc: Global, bytes: &[u8], turns: u64) -> Result<Run, ExecuteFail>
     // What ran is the image whose text the bytes are, and it makes sense.
     ensures run { IfOk result (IsExecuted bytes.now turns) }

@@ -40,7 +40,8 @@ fn add_formal(unit: &KnownUnit, place: usize, formals: &mut Seq<Formal>) -> Resu
 
 /// The formals with the places from 1 on, as many places as there are formals.
 pub(crate) fn formals_of(alloc: Global, unit: &UnitImage) -> Result<Seq<Formal>, NoMemory>
-    ensures { IfOk result (λ formals. formals ≡ formals_from (map cell_of unit.now.cells) 1 (how_many is_formal unit.now.cells)) }
+    ensures { IfOk result
+        (λ formals. formals ≡ formals_from (map cell_of unit.now.cells) 1 (how_many is_formal unit.now.cells)) }
 {
     let known = known_unit(alloc, unit)?;
     let count = count_formals(unit.cells.as_slice());

@@ -1,4 +1,5 @@
-//! That an image as what is run is lawful where it makes sense. Each function here has an empty body: its contract is a law.
+//! That an image as what is run is lawful where it makes sense. Each function here has an empty body: its contract is a
+//! law.
 
 ghost use Rattle.fm_net.specs.Correspondence.{AreAlike};
 ghost use Rattle.fm_object.specs.declared.image.Image as declared_image;
@@ -13,8 +14,9 @@ pub fn good_play_is_lawful()
     ensures { (i : declared_image.Image) → Typed i → IsLawfulPlay (good_play i) }
 {}
 
-/// Of every image the good processes do what its own machine does, and so a run of theirs is one of that machine, follows the same choices
-/// there, and is fair there where it is so among them; where the image makes sense ports stay where they are accounted for.
+/// Of every image the good processes do what its own machine does, and so a run of theirs is one of that machine,
+/// follows the same choices there, and is fair there where it is so among them; where the image makes sense ports stay
+/// where they are accounted for.
 pub fn plays_are_alike()
     ensures alike { (i : declared_image.Image) → AreAlike (IsBare i) (Anyway i) (language (good_play i)) code_language }
     ensures live { (i : declared_image.Image) → AreAlike (IsBare i) (IsLive i) (language (good_play i)) code_language }

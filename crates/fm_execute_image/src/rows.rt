@@ -37,7 +37,8 @@ fn put_cell(
     words: &[i64],
     cell: &Cell,
 ) -> Result<(), NoMemory>
-    ensures { OnOk result (all.new ≡ with_new all.old cell.now.name (words_shown cell.now.kind slots.now (own_words words.now cell.now))) }
+    ensures { OnOk result (all.new
+        ≡ with_new all.old cell.now.name (words_shown cell.now.kind slots.now (own_words words.now cell.now))) }
 {
     if all.contains_key(&cell.name) {
         return Ok(());

@@ -14,8 +14,8 @@ use fm_outcome_code::{outcome_with, process_of};
 use fm_procs::CodeProcs;
 use std::alloc::Global;
 
-/// What a run of the image shows when it has ended at this cost in turns: output, faults and waits in path order, the variables of
-/// main, and who holds the open writers.
+/// What a run of the image shows when it has ended at this cost in turns: output, faults and waits in path order, the
+/// variables of main, and who holds the open writers.
 pub fn outcome(
     alloc: Global,
     stacks: &CodeProcs,

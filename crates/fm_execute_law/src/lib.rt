@@ -1,9 +1,9 @@
 //! What is executed of a program's image is a run of the program.
 //!
-//! An image is run by what it says (`fm_execute_image`), and a program by its meaning. Where the image is that of a program and its code the
-//! two do and show the same. A text is that of one image, so what is executed of the text that was compiled of a program is a run of the
-//! program, whether or not the numbers of that image are known to be within their ranges. Each function here has an empty body: its
-//! contract is a law.
+//! An image is run by what it says (`fm_execute_image`), and a program by its meaning. Where the image is that of a
+//! program and its code the two do and show the same. A text is that of one image, so what is executed of the text that
+//! was compiled of a program is a run of the program, whether or not the numbers of that image are known to be within
+//! their ranges. Each function here has an empty body: its contract is a law.
 #![tactic(auto)]
 
 ghost use Rattle.std.specs.Prelude.{◌≡◌, ℕ, List};
@@ -25,7 +25,8 @@ ghost use Rattle.fm_run.specs.Programs.{play_of};
 ghost use Rattle.fm_run_law.specs.Alike.{FollowsAs, RunsAs};
 ghost use Rattle.fm_execute_law.specs.Compiled.{ExecutesAs, IsTextOf};
 
-/// A run of the image of a program and its code is a run of the program, with the same schedule, and shows what that does.
+/// A run of the image of a program and its code is a run of the program, with the same schedule, and shows what that
+/// does.
 pub fn image_runs_program()
     ensures { (p : Program) → RunsAs (image_play (image_of p (code_of p))) (play_of p) }
 {}
@@ -43,10 +44,12 @@ pub fn text_runs_program()
 
 /// Bytes that are the text of an image that makes sense are the object text of no other one.
 pub fn text_tells_image()
-    ensures { (bytes : List ℕ) (i j : declared_image.Image) → Typed i → bytes ≡ object_text i → IsObjectText bytes j → IsObjectText bytes i }
+    ensures { (bytes : List ℕ) (i j : declared_image.Image) → Typed i
+        → bytes ≡ object_text i → IsObjectText bytes j → IsObjectText bytes i }
 {}
 
-/// The variables of a frame of the image of a program show what those of the program show, by the names of the frame's unit.
+/// The variables of a frame of the image of a program show what those of the program show, by the names of the frame's
+/// unit.
 pub fn image_shows_program()
     ensures { (p : Program) (s : Slots) (m : declared_frame.Frame) → frame_shown (image_of p (code_of p)) s m ≡
         shown_of (variables_in (unit_at p m.unit)) (values_in (port_in s) (variables_in (unit_at p m.unit)) m.words) }

@@ -21,11 +21,13 @@ pub fn expr(alloc: Global, tokens: &[Token]) -> Result<(Expr, usize), ParseFail>
     ensures none { result ≡ Err ParseFail.Bad → BeginsNoExpression tokens.now }
 
     // A tree that is spelled before a token behind which no expression goes on is the one that is read.
-    ensures whole { (t : Tree) (more : List Token) → IsWellShaped t → StopsExpression more → tokens.now ≡ spelling t ++ more
+    ensures whole { (t : Tree) (more : List Token) → IsWellShaped t
+        → StopsExpression more → tokens.now ≡ spelling t ++ more
         → MatchResult result (λ r. (r.0 ≡ t) × (r.1 ≡ length (spelling t))) (λ e. e ≡ ParseFail.NoMemory) }
 
     // For readers whose reading is a function of their tokens.
-    ensures exact { MatchResult result (λ r. expr_at tokens.now ≡ Some (r.0, r.1)) (λ e. e ≡ ParseFail.Bad → expr_at tokens.now ≡ None) }
+    ensures exact { MatchResult result (λ r. expr_at tokens.now ≡ Some (r.0, r.1))
+        (λ e. e ≡ ParseFail.Bad → expr_at tokens.now ≡ None) }
 {
     match reader::read(alloc, tokens) {
         Ok(Some(found)) => Ok(found),
@@ -43,5 +45,6 @@ pub fn one_expression()
 /// and the whole tree before a token that ends it.
 pub fn expr_at_is_longest()
     ensures longest { (tokens : List Token) → IsExpressionAt tokens (expr_at tokens) }
-    ensures whole { (t : Tree) (more : List Token) → IsWellShaped t → StopsExpression more → expr_at (spelling t ++ more) ≡ Some (t, length (spelling t)) }
+    ensures whole { (t : Tree) (more : List Token) → IsWellShaped t
+        → StopsExpression more → expr_at (spelling t ++ more) ≡ Some (t, length (spelling t)) }
 {}

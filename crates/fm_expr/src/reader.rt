@@ -147,7 +147,8 @@ fn end_empty(frames: &mut Vec<Frame>) -> Result<Option<Expr>, NoMemory>
 
 /// A token where an operand begins.
 fn begin(alloc: Global, frames: &mut Vec<Frame>, token: &Token) -> Result<Progress, NoMemory>
-    ensures { IfOk result (λ r. (r.0, stack_of frames.new.items, r.1) ≡ operand_step token.now (stack_of frames.old.items)) }
+    ensures { IfOk result
+        (λ r. (r.0, stack_of frames.new.items, r.1) ≡ operand_step token.now (stack_of frames.old.items)) }
 {
     let node = match token {
         Token::Named(name) => ExprNode::Named(name.copy(alloc)?),
@@ -203,7 +204,8 @@ fn join(
 
 /// What stands open goes back to its place, and the reader stops behind the operand.
 fn put_back(frames: &mut Vec<Frame>, frame: Frame, tree: Expr) -> Result<Progress, NoMemory>
-    ensures { IfOk result (λ r. (r.0, stack_of frames.new.items, r.1) ≡ halt (frame ∷ stack_of frames.old.items) (Some tree)) }
+    ensures { IfOk result
+        (λ r. (r.0, stack_of frames.new.items, r.1) ≡ halt (frame ∷ stack_of frames.old.items) (Some tree)) }
 {
     frames.push(frame)?;
     Ok((false, Some(tree)))
@@ -247,7 +249,8 @@ fn with_argument(
     at: usize,
     tree: Expr,
 ) -> Result<Progress, NoMemory>
-    ensures { IfOk result (λ r. (r.0, stack_of frames.new.items, r.1) ≡ comma_step (Frame.Calls name args at ∷ stack_of frames.old.items) tree) }
+    ensures { IfOk result (λ r. (r.0, stack_of frames.new.items, r.1)
+        ≡ comma_step (Frame.Calls name args at ∷ stack_of frames.old.items) tree) }
 {
     let mut args = args;
     args.push(tree)?;

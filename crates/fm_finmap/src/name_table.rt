@@ -41,7 +41,8 @@ impl<V> NameTable<V> {
 }
 
 impl<V: Drop> NameTable<V> {
-    /// Puts a name with its value behind the others, unless the name is there. After want of memory nothing has changed.
+    /// Puts a name with its value behind the others, unless the name is there. After want of memory nothing has
+    /// changed.
     pub fn insert_new(&mut self, alloc: Global, name: &Name, value: V) -> Result<(), NoMemory>
         ensures ok { OnOk result (self.new ≡ added self.old name.now value) }
         ensures err { OnErr result (self.new ≡ self.old) }

@@ -132,7 +132,8 @@ fn meet_channel(
     Ok(shared)
 }
 
-/// The least line of a CHANNEL whose port another CHANNEL has too or whose outport goes to no process, or one that is known.
+/// The least line of a CHANNEL whose port another CHANNEL has too or whose outport goes to no process, or one that is
+/// known.
 pub(crate) fn shared_from(
     alloc: Global,
     unit: &UnitView<'_>,
@@ -172,7 +173,8 @@ fn meet_call(
     stmt: &Stmt,
     met: &mut Vec<bool>,
 ) -> Result<bool, NoMemory>
-    ensures risky { IfOk result (λ risky. risky ≡ is_risky_at unit.now.program.now (unit_of unit.now) risks.now met.old.items stmt.now) }
+    ensures risky { IfOk result
+        (λ risky. risky ≡ is_risky_at unit.now.program.now (unit_of unit.now) risks.now met.old.items stmt.now) }
     ensures met { OnOk result (met.new.items ≡ marked met.old.items (given (unit_of unit.now) stmt.now)) }
 {
     let ports = given(alloc, unit, stmt)?;
@@ -180,8 +182,8 @@ fn meet_call(
     Ok(again || starts_risky(unit, risks, stmt))
 }
 
-/// The least line of a call that gives a port again or whose process keeps an outport or makes channels or processes, or one
-/// that is known.
+/// The least line of a call that gives a port again or whose process keeps an outport or makes channels or processes,
+/// or one that is known.
 pub(crate) fn risky_from(
     alloc: Global,
     unit: &UnitView<'_>,
@@ -190,7 +192,8 @@ pub(crate) fn risky_from(
     best: Option<Line>,
     body: &[Entry],
 ) -> Result<Option<Line>, NoMemory>
-    ensures { IfOk result (λ line. line ≡ risky_from unit.now.program.now (unit_of unit.now) risks.now met.items best body.now) }
+    ensures { IfOk result
+        (λ line. line ≡ risky_from unit.now.program.now (unit_of unit.now) risks.now met.items best body.now) }
 {
     let mut best = best;
     let mut met = met;

@@ -40,10 +40,13 @@ pub fn one_verdict()
 
 /// The channels of such a program lead from no process call back to itself.
 pub fn safe_channels_lead_onward()
-    ensures { (p : Program) (m : ℕ) (u : ProgramUnit) → main_number p ≡ Some m → unit_at p m ≡ Some u → IsFlowSafe p → IsAcyclic (edges u) }
+    ensures { (p : Program) (m : ℕ) (u : ProgramUnit) → main_number p ≡ Some m
+        → unit_at p m ≡ Some u → IsFlowSafe p → IsAcyclic (edges u) }
 {}
 
 /// Where no node of a finite graph leads back to itself, nobody goes upstream for ever.
 pub fn no_way_upstream()
-    ensures { (g : List (List ℕ)) → IsAcyclic g → (before : ℕ → ℕ) → ((b : ℕ) → (before b < length g) × IsEdge g (before b) b) → ⊥ }
+    ensures { (g : List (List ℕ)) → IsAcyclic g → (before : ℕ → ℕ)
+        → ((b : ℕ) → (before b < length g) × IsEdge g (before b) b)
+        → ⊥ }
 {}

@@ -53,8 +53,10 @@ fn check_use(alloc: Global, units: Units, names: Names) -> Result<Program, Check
     requires { IsNamed units names }
     ensures units { IfOk result (λ p. p.units ≡ units) }
     ensures names { IfOk result (λ p. p.names ≡ names) }
-    ensures clean { IfOk result (λ _. IsClean (IsBrokenUse units.units names.units (context_of units.units names.units))) }
-    ensures refused { IfErr result (IsRefusal (IsBrokenUse units.units names.units (context_of units.units names.units))) }
+    ensures clean { IfOk result
+        (λ _. IsClean (IsBrokenUse units.units names.units (context_of units.units names.units))) }
+    ensures refused { IfErr result
+        (IsRefusal (IsBrokenUse units.units names.units (context_of units.units names.units))) }
 {
     let context = make_context(alloc, &units, &names)?;
     let wrong = use_verdict(alloc, &units, &names, &context)?;

@@ -21,7 +21,8 @@ fn read_card(
     statements: &mut Vec<Placed>,
     best: Option<Refusal>,
 ) -> Result<Option<Refusal>, NoMemory>
-    ensures { IfOk result (λ v. (cs : List Card) → HasRead cs statements.old.items best → HasRead (cs ++ card.now ∷ []) statements.new.items v) }
+    ensures { IfOk result (λ v. (cs : List Card) → HasRead cs statements.old.items best
+        → HasRead (cs ++ card.now ∷ []) statements.new.items v) }
 {
     match statement(alloc, card) {
         Ok(placed) => {

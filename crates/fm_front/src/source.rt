@@ -16,11 +16,14 @@ use fm_stmt::one_statement;
 use fm_tree::Placed;
 use std::alloc::Global;
 
-/// The program of the statements of a source whose form breaks no rule. Refused by the least rule that the source breaks.
+/// The program of the statements of a source whose form breaks no rule. Refused by the least rule that the source
+/// breaks.
 pub fn check_statements(alloc: Global, statements: Vec<Placed>) -> Result<Program, CheckFail>
     requires { AreShaped statements.items }
-    ensures program { IfOk result (λ p. (source : List ℕ) → AreStatementsOf (cards_of source) statements.items → IsClean (IsBrokenForm source) → IsCheckedOf source p) }
-    ensures refused { IfErr result (λ e. (source : List ℕ) → AreStatementsOf (cards_of source) statements.items → IsClean (IsBrokenForm source) → IsRefusal (IsBroken source) e) }
+    ensures program { IfOk result (λ p. (source : List ℕ) → AreStatementsOf (cards_of source) statements.items
+        → IsClean (IsBrokenForm source) → IsCheckedOf source p) }
+    ensures refused { IfErr result (λ e. (source : List ℕ) → AreStatementsOf (cards_of source) statements.items
+        → IsClean (IsBrokenForm source) → IsRefusal (IsBroken source) e) }
 {
     one_statement();
     check(alloc, statements)

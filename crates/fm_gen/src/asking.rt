@@ -73,7 +73,8 @@ pub(crate) fn send(
     next: u32,
     out: &mut Seq<Instr>,
 ) -> Result<(), NoMemory>
-    ensures { OnOk result (out.new ≡ out.old ++ send_code unit.now.program.now (unit_of unit.now) port.now (trees_from items.now) next) }
+    ensures { OnOk result
+        (out.new ≡ out.old ++ send_code unit.now.program.now (unit_of unit.now) port.now (trees_from items.now) next) }
 {
     let references = place(unit, port, 0, out)?;
     arguments(unit, items, references, out)?;
@@ -89,8 +90,10 @@ fn receive_extras(
     next: usize,
     out: &mut Seq<Instr>,
 ) -> Result<usize, NoMemory>
-    ensures code { OnOk result (out.new ≡ out.old ++ extras_code unit.now.program.now (unit_of unit.now) extras.now next) }
-    ensures next { IfOk result (λ k. k ≡ refs_behind (names_in unit.now.program.now (unit_of unit.now)) extras.now next) }
+    ensures code { OnOk result
+        (out.new ≡ out.old ++ extras_code unit.now.program.now (unit_of unit.now) extras.now next) }
+    ensures next { IfOk result
+        (λ k. k ≡ refs_behind (names_in unit.now.program.now (unit_of unit.now)) extras.now next) }
 {
     let mut next = next;
     'extras: for extra in extras {
@@ -134,7 +137,10 @@ pub(crate) fn receive(
     receiving: Receiving<'_>,
     out: &mut Seq<Instr>,
 ) -> Result<(), NoMemory>
-    ensures { OnOk result (out.new ≡ out.old ++ receive_code unit.now.program.now (unit_of unit.now) port.now receiving.entry.extras.now receiving.entry.items.now receiving.entry.at_end receiving.entry.next) }
+    ensures { OnOk result (out.new
+        ≡ out.old
+        ++ receive_code unit.now.program.now (unit_of unit.now) port.now receiving.entry.extras.now
+        receiving.entry.items.now receiving.entry.at_end receiving.entry.next) }
 {
     let behind = place(unit, port, 0, out)?;
     let behind = receive_extras(unit, receiving.extras, behind, out)?;
@@ -150,7 +156,8 @@ fn two(
     last: Instr,
     out: &mut Seq<Instr>,
 ) -> Result<(), NoMemory>
-    ensures { OnOk result (out.new ≡ out.old ++ two_code unit.now.program.now (unit_of unit.now) first.now second.now last) }
+    ensures { OnOk result
+        (out.new ≡ out.old ++ two_code unit.now.program.now (unit_of unit.now) first.now second.now last) }
 {
     let behind = place(unit, first, 0, out)?;
     place(unit, second, behind, out)?;
@@ -166,7 +173,8 @@ pub(crate) fn channel(
     next: u32,
     out: &mut Seq<Instr>,
 ) -> Result<(), NoMemory>
-    ensures { OnOk result (out.new ≡ out.old ++ channel_code unit.now.program.now (unit_of unit.now) in_first inport.now outport.now next) }
+    ensures { OnOk result (out.new
+        ≡ out.old ++ channel_code unit.now.program.now (unit_of unit.now) in_first inport.now outport.now next) }
 {
     if in_first {
         two(unit, inport, outport, Instr::Meet(Meet::Channel(next)), out)
@@ -189,7 +197,8 @@ pub(crate) fn merger(
     next: u32,
     out: &mut Seq<Instr>,
 ) -> Result<(), NoMemory>
-    ensures { OnOk result (out.new ≡ out.old ++ merger_code unit.now.program.now (unit_of unit.now) inport.now outports.now next) }
+    ensures { OnOk result
+        (out.new ≡ out.old ++ merger_code unit.now.program.now (unit_of unit.now) inport.now outports.now next) }
 {
     let behind = place(unit, inport, 0, out)?;
     targets(unit, outports, behind, out)?;
@@ -217,7 +226,9 @@ pub(crate) fn move_port(
     next: u32,
     out: &mut Seq<Instr>,
 ) -> Result<(), NoMemory>
-    ensures { OnOk result (out.new ≡ out.old ++ two_code unit.now.program.now (unit_of unit.now) from.now to.now (instr.Meet (meet.MovePort next))) }
+    ensures { OnOk result (out.new
+        ≡ out.old
+        ++ two_code unit.now.program.now (unit_of unit.now) from.now to.now (instr.Meet (meet.MovePort next))) }
 {
     two(unit, from, to, Instr::Meet(Meet::MovePort(next)), out)
 }
@@ -230,7 +241,9 @@ pub(crate) fn probe(
     next: u32,
     out: &mut Seq<Instr>,
 ) -> Result<(), NoMemory>
-    ensures { OnOk result (out.new ≡ out.old ++ two_code unit.now.program.now (unit_of unit.now) port.now empty.now (instr.Meet (meet.Probe next))) }
+    ensures { OnOk result (out.new
+        ≡ out.old
+        ++ two_code unit.now.program.now (unit_of unit.now) port.now empty.now (instr.Meet (meet.Probe next))) }
 {
     two(unit, port, empty, Instr::Meet(Meet::Probe(next)), out)
 }

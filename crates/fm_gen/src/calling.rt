@@ -31,7 +31,10 @@ pub(crate) fn call(
     next: u32,
     out: &mut Seq<Instr>,
 ) -> Result<(), NoMemory>
-    ensures { OnOk result (out.new ≡ out.old ++ call_by unit.now.program.now (unit_of unit.now) (unit_named unit.now.program.now name.now) (trees_in listed.now) next) }
+    ensures { OnOk result (out.new
+        ≡ out.old
+        ++ call_by unit.now.program.now (unit_of unit.now) (unit_named unit.now.program.now name.now)
+        (trees_in listed.now) next) }
 {
     match unit_named(unit.program(), name) {
         None => push_stuck(out),
@@ -73,7 +76,11 @@ fn passed(
     part: &Option<CallPart>,
     out: &mut Seq<Instr>,
 ) -> Result<(), NoMemory>
-    ensures { OnOk result (out.new ≡ out.old ++ (arguments_code unit.now.program.now (unit_of unit.now) (trees_from (arguments_in part.now)) 0 ++ seat_code unit.now.program.now (unit_of unit.now) (where_in part.now) (refs_in_all (names_in unit.now.program.now (unit_of unit.now)) (trees_from (arguments_in part.now))))) }
+    ensures { OnOk result (out.new
+        ≡ out.old
+        ++ (arguments_code unit.now.program.now (unit_of unit.now) (trees_from (arguments_in part.now)) 0
+        ++ seat_code unit.now.program.now (unit_of unit.now) (where_in part.now)
+        (refs_in_all (names_in unit.now.program.now (unit_of unit.now)) (trees_from (arguments_in part.now))))) }
 {
     match part {
         None => Ok(()),
@@ -92,7 +99,9 @@ pub(crate) fn start(
     next: u32,
     out: &mut Seq<Instr>,
 ) -> Result<(), NoMemory>
-    ensures { OnOk result (out.new ≡ out.old ++ start_by unit.now.program.now (unit_of unit.now) (unit_named unit.now.program.now name.now) part.now next) }
+    ensures { OnOk result (out.new
+        ≡ out.old
+        ++ start_by unit.now.program.now (unit_of unit.now) (unit_named unit.now.program.now name.now) part.now next) }
 {
     match unit_named(unit.program(), name) {
         None => push_stuck(out),

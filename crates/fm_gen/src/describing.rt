@@ -82,7 +82,8 @@ fn add_formal(
     number: u32,
     formals: &mut Seq<Formal>,
 ) -> Result<(), NoMemory>
-    ensures { OnOk result (formals.new ≡ formals.old ++ formal_if (slice_get variables.now (formal_from 0 number variables.now))) }
+    ensures { OnOk result
+        (formals.new ≡ formals.old ++ formal_if (slice_get variables.now (formal_from 0 number variables.now))) }
 {
     match numbered(variables, number) {
         None => Ok(()),

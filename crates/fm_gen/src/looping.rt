@@ -22,7 +22,8 @@ pub(crate) fn test(
     failing: u32,
     out: &mut Seq<Instr>,
 ) -> Result<(), NoMemory>
-    ensures { OnOk result (out.new ≡ out.old ++ test_code unit.now.program.now (unit_of unit.now) tree.now holding failing) }
+    ensures { OnOk result
+        (out.new ≡ out.old ++ test_code unit.now.program.now (unit_of unit.now) tree.now holding failing) }
 {
     emit(unit, tree, 0, out)?;
     out.push(Instr::End(End::Test(holding, failing)))
@@ -80,7 +81,8 @@ pub(crate) fn begin(
     behind: u32,
     out: &mut Seq<Instr>,
 ) -> Result<(), NoMemory>
-    ensures { OnOk result (out.new ≡ out.old ++ do_code unit.now.program.now (unit_of unit.now) head.now number body behind) }
+    ensures { OnOk result
+        (out.new ≡ out.old ++ do_code unit.now.program.now (unit_of unit.now) head.now number body behind) }
 {
     bounds(unit, head, out)?;
     out.push(loop_of(unit, number, &head.variable))?;
@@ -96,7 +98,8 @@ pub(crate) fn again(
     behind: u32,
     out: &mut Seq<Instr>,
 ) -> Result<(), NoMemory>
-    ensures { OnOk result (out.new ≡ out.old ++ loop_code (unit_of unit.now) number name.now ∷ instr.End (end.Again body behind) ∷ []) }
+    ensures { OnOk result
+        (out.new ≡ out.old ++ loop_code (unit_of unit.now) number name.now ∷ instr.End (end.Again body behind) ∷ []) }
 {
     out.push(loop_of(unit, number, name))?;
     out.push(Instr::End(End::Again(body, behind)))

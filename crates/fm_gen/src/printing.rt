@@ -133,7 +133,9 @@ fn show_variable(variable: &Variable, out: &mut Seq<Instr>) -> Result<(), NoMemo
 }
 
 fn show_named(unit: &UnitView<'_>, name: &Name, out: &mut Seq<Instr>) -> Result<(), NoMemory>
-    ensures { OnOk result (out.new ≡ out.old ++ named_shown unit.now.program.now (unit_of unit.now) name.now (variable_of (unit_of unit.now) name.now)) }
+    ensures { OnOk result (out.new
+        ≡ out.old
+        ++ named_shown unit.now.program.now (unit_of unit.now) name.now (variable_of (unit_of unit.now) name.now)) }
 {
     match unit.variable(name) {
         None => {
@@ -151,7 +153,8 @@ fn show_value(
     next: usize,
     out: &mut Seq<Instr>,
 ) -> Result<usize, NoMemory>
-    ensures code { OnOk result (out.new ≡ out.old ++ value_shown unit.now.program.now (unit_of unit.now) tree.now next) }
+    ensures code { OnOk result
+        (out.new ≡ out.old ++ value_shown unit.now.program.now (unit_of unit.now) tree.now next) }
     ensures next { IfOk result (λ k. k ≡ next + refs_in (names_in unit.now.program.now (unit_of unit.now)) tree.now) }
 {
     let behind = emit(unit, tree, next, out)?;

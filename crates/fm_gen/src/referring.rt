@@ -22,7 +22,8 @@ fn operands(
     tree: Option<&Expr>,
     out: &mut Seq<Instr>,
 ) -> Result<(), NoMemory>
-    ensures { OnOk result (out.new ≡ out.old ++ reference_operands unit.now.program.now (unit_of unit.now) number (option_copied tree.entry)) }
+    ensures { OnOk result (out.new
+        ≡ out.old ++ reference_operands unit.now.program.now (unit_of unit.now) number (option_copied tree.entry)) }
 {
     let Some(tree) = tree else {
         return Ok(());
@@ -82,8 +83,8 @@ fn behind(here: u32, begun: usize, out: &Seq<Instr>) -> Result<u32, NoMemory>
     last.checked_add(1).ok_or(NoMemory)
 }
 
-/// Adds the code of the reference with this number, which stands at this place in its statement. Its own begins here. The
-/// address of the statement behind it.
+/// Adds the code of the reference with this number, which stands at this place in its statement. Its own begins here.
+/// The address of the statement behind it.
 fn reference(
     unit: &UnitView<'_>,
     stmt: &Stmt,
@@ -92,8 +93,10 @@ fn reference(
     place: u32,
     out: &mut Seq<Instr>,
 ) -> Result<u32, NoMemory>
-    ensures code { OnOk result (out.new ≡ out.old ++ reference_code unit.now.program.now (unit_of unit.now) stmt.now here number place) }
-    ensures next { IfOk result (λ k. k ≡ here + length (reference_code unit.now.program.now (unit_of unit.now) stmt.now here number place)) }
+    ensures code { OnOk result
+        (out.new ≡ out.old ++ reference_code unit.now.program.now (unit_of unit.now) stmt.now here number place) }
+    ensures next { IfOk result
+        (λ k. k ≡ here + length (reference_code unit.now.program.now (unit_of unit.now) stmt.now here number place)) }
 {
     let begun = out.len();
     let tree = reference_at(stmt, place);
@@ -103,8 +106,8 @@ fn reference(
     Ok(next)
 }
 
-/// Adds the code of the references at these places, where the first one's begins here. The address of the statement behind
-/// them.
+/// Adds the code of the references at these places, where the first one's begins here. The address of the statement
+/// behind them.
 pub(crate) fn references(
     unit: &UnitView<'_>,
     stmt: &Stmt,
@@ -112,8 +115,10 @@ pub(crate) fn references(
     places: &[u32],
     out: &mut Seq<Instr>,
 ) -> Result<u32, NoMemory>
-    ensures code { OnOk result (out.new ≡ out.old ++ references_code unit.now.program.now (unit_of unit.now) stmt.now here 0 places.now) }
-    ensures next { IfOk result (λ k. k ≡ here + length (references_code unit.now.program.now (unit_of unit.now) stmt.now here 0 places.now)) }
+    ensures code { OnOk result
+        (out.new ≡ out.old ++ references_code unit.now.program.now (unit_of unit.now) stmt.now here 0 places.now) }
+    ensures next { IfOk result
+        (λ k. k ≡ here + length (references_code unit.now.program.now (unit_of unit.now) stmt.now here 0 places.now)) }
 {
     let mut here = here;
     let mut number = 0usize;

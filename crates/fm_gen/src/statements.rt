@@ -75,7 +75,10 @@ fn end_trip(
 ) -> Result<(), NoMemory>
     requires numbers { site.now.numbers.now ≡ loop_numbers 0 (unit_of unit.now).tree.body }
     requires there { opener < length (unit_of unit.now).tree.body }
-    ensures { OnOk result (out.new ≡ out.old ++ again_code (unit_of unit.now) opener (loop_of begun.now.stmt) (address_by site.now.addresses begun.now.after) (address_by site.now.addresses site.now.entry.now.after) (address_by site.now.addresses opener)) }
+    ensures { OnOk result (out.new
+        ≡ out.old
+        ++ again_code (unit_of unit.now) opener (loop_of begun.now.stmt) (address_by site.now.addresses begun.now.after)
+        (address_by site.now.addresses site.now.entry.now.after) (address_by site.now.addresses opener)) }
 {
     let body = site.addresses.of(begun.after);
     let behind = site.addresses.of(site.entry.after);
@@ -90,7 +93,10 @@ fn end_trip(
 
 fn loop_end(unit: &UnitView<'_>, site: &Site<'_>, out: &mut Seq<Instr>) -> Result<(), NoMemory>
     requires numbers { site.now.numbers.now ≡ loop_numbers 0 (unit_of unit.now).tree.body }
-    ensures { OnOk result (out.new ≡ out.old ++ loop_end_code (unit_of unit.now) (address_by site.now.addresses) (address_by site.now.addresses site.now.entry.now.after) site.now.entry.now.mate) }
+    ensures { OnOk result (out.new
+        ≡ out.old
+        ++ loop_end_code (unit_of unit.now) (address_by site.now.addresses)
+        (address_by site.now.addresses site.now.entry.now.after) site.now.entry.now.mate) }
 {
     let Some(opener) = site.entry.mate else {
         return push_stuck(out);
@@ -118,7 +124,11 @@ fn receive_at(
     items: &[Var],
     out: &mut Seq<Instr>,
 ) -> Result<(), NoMemory>
-    ensures { OnOk result (out.new ≡ out.old ++ receive_code unit.now.program.now (unit_of unit.now) port.now extras.now items.now (option_map (address_by site.now.addresses) site.now.links.jump) (address_by site.now.addresses site.now.entry.now.after)) }
+    ensures { OnOk result (out.new
+        ≡ out.old
+        ++ receive_code unit.now.program.now (unit_of unit.now) port.now extras.now items.now
+        (option_map (address_by site.now.addresses) site.now.links.jump)
+        (address_by site.now.addresses site.now.entry.now.after)) }
 {
     let receiving = Receiving {
         extras,
@@ -135,7 +145,10 @@ fn simple(
     statement: &Simple,
     out: &mut Seq<Instr>,
 ) -> Result<(), NoMemory>
-    ensures { OnOk result (out.new ≡ out.old ++ simple_code unit.now.program.now (unit_of unit.now) (address_by site.now.addresses) (point_of site.now) statement.now) }
+    ensures { OnOk result (out.new
+        ≡ out.old
+        ++ simple_code unit.now.program.now (unit_of unit.now) (address_by site.now.addresses) (point_of site.now)
+        statement.now) }
 {
     let next = site.addresses.of(site.entry.after);
     match statement {
@@ -170,7 +183,10 @@ fn simple(
 pub fn statement(unit: &UnitView<'_>, site: &Site<'_>, out: &mut Seq<Instr>) -> Result<(), NoMemory>
     requires numbers { site.now.numbers.now ≡ loop_numbers 0 (unit_of unit.now).tree.body }
     requires there { site.now.number < length (unit_of unit.now).tree.body }
-    ensures { OnOk result (out.new ≡ out.old ++ statement_code unit.now.program.now (unit_of unit.now) (address_by site.now.addresses) site.now.here site.now.number (point_of site.now) site.now.entry.now.stmt) }
+    ensures { OnOk result (out.new
+        ≡ out.old
+        ++ statement_code unit.now.program.now (unit_of unit.now) (address_by site.now.addresses) site.now.here
+        site.now.number (point_of site.now) site.now.entry.now.stmt) }
 {
     let next = site.addresses.of(site.entry.after);
     let other = site.addresses.of(site.links.other);

@@ -74,7 +74,8 @@ fn element_store(kind: &Kind, next: u32) -> Instr
 
 /// Adds what makes the place of an element of its subscripts.
 fn located(variable: &Variable, subscripts: usize, out: &mut Seq<Instr>) -> Result<(), NoMemory>
-    ensures { OnOk result (out.new ≡ out.old ++ place_code variable.now subscripts (locate_code variable.now.kind variable.now.first)) }
+    ensures { OnOk result
+        (out.new ≡ out.old ++ place_code variable.now subscripts (locate_code variable.now.kind variable.now.first)) }
 {
     if has_elements(variable, subscripts) {
         dimensions(variable.bounds.as_slice(), out)?;
@@ -109,7 +110,10 @@ fn first_assigned(
     assigned: Assigned<'_>,
     out: &mut Seq<Instr>,
 ) -> Result<(), NoMemory>
-    ensures { OnOk result (out.new ≡ out.old ++ (expression_code unit.now.program.now (unit_of unit.now) assigned.entry.value.now assigned.entry.references ++ first_store (option_copied variable.entry) assigned.entry.next ∷ [])) }
+    ensures { OnOk result (out.new
+        ≡ out.old
+        ++ (expression_code unit.now.program.now (unit_of unit.now) assigned.entry.value.now assigned.entry.references
+        ++ first_store (option_copied variable.entry) assigned.entry.next ∷ [])) }
 {
     emit(unit, assigned.value, assigned.references, out)?;
     out.push(first_store(variable, assigned.next))
@@ -123,7 +127,13 @@ fn element_assigned(
     out: &mut Seq<Instr>,
 ) -> Result<(), NoMemory>
     requires { length subscripts.now ≢ 0 }
-    ensures { (place : ℕ) → OnOk result (out.new ≡ out.old ++ assigned_code unit.now.program.now (unit_of unit.now) (Some (place, variable.now)) (trees_from subscripts.now) (expression_code unit.now.program.now (unit_of unit.now) assigned.entry.value.now assigned.entry.references) assigned.entry.next) }
+    ensures { (place : ℕ)
+        → OnOk result (out.new
+        ≡ out.old
+        ++ assigned_code unit.now.program.now (unit_of unit.now) (Some (place, variable.now))
+        (trees_from subscripts.now)
+        (expression_code unit.now.program.now (unit_of unit.now) assigned.entry.value.now assigned.entry.references)
+        assigned.entry.next) }
 {
     emit_all(unit, subscripts, 0, out)?;
     located(variable, subscripts.len(), out)?;
@@ -140,7 +150,8 @@ pub(crate) fn assignment(
     next: u32,
     out: &mut Seq<Instr>,
 ) -> Result<(), NoMemory>
-    ensures { OnOk result (out.new ≡ out.old ++ assignment_code unit.now.program.now (unit_of unit.now) var.now value.now next) }
+    ensures { OnOk result
+        (out.new ≡ out.old ++ assignment_code unit.now.program.now (unit_of unit.now) var.now value.now next) }
 {
     let subscripts = var.subscripts.as_slice();
     let references = references(unit, subscripts, 0)?;

@@ -82,7 +82,10 @@ fn entry(
 ) -> Result<(), NoMemory>
     requires numbers { numbers.now ≡ loop_numbers 0 (unit_of unit.now).tree.body }
     requires there { number < length (unit_of unit.now).tree.body }
-    ensures { OnOk result (out.new ≡ out.old ++ entry_code unit.now.program.now (unit_of unit.now) (address_by addresses.entry) number (point_at (unit_of unit.now) number)) }
+    ensures { OnOk result (out.new
+        ≡ out.old
+        ++ entry_code unit.now.program.now (unit_of unit.now) (address_by addresses.entry) number
+        (point_at (unit_of unit.now) number)) }
 {
     match unit.entry(number) {
         None => Ok(()),
@@ -109,8 +112,12 @@ fn pass(
     numbers: &[u32],
 ) -> Result<Listing, NoMemory>
     requires { numbers.now ≡ loop_numbers 0 (unit_of unit.now).tree.body }
-    ensures code { IfOk result (λ c. c.code ≡ entries_code unit.now.program.now (unit_of unit.now) (address_by addresses.entry) (length (unit_of unit.now).tree.body)) }
-    ensures starts { IfOk result (λ c. c.starts ≡ starts_of unit.now.program.now (unit_of unit.now) (address_by addresses.entry) (length (unit_of unit.now).tree.body)) }
+    ensures code { IfOk result (λ c. c.code
+        ≡ entries_code unit.now.program.now (unit_of unit.now) (address_by addresses.entry)
+        (length (unit_of unit.now).tree.body)) }
+    ensures starts { IfOk result (λ c. c.starts
+        ≡ starts_of unit.now.program.now (unit_of unit.now) (address_by addresses.entry)
+        (length (unit_of unit.now).tree.body)) }
 {
     let mut code = Seq::new(alloc);
     let mut starts = Seq::new(alloc);
@@ -141,11 +148,12 @@ fn addresses(first: &Listing) -> Result<Addresses<'_>, NoMemory>
     })
 }
 
-/// The instructions of a unit and its entries. How long the code of an entry is doesn't depend on where others begin, so a
-/// first pass finds where each one does.
+/// The instructions of a unit and its entries. How long the code of an entry is doesn't depend on where others begin,
+/// so a first pass finds where each one does.
 fn instructions(alloc: Global, unit: &UnitView<'_>) -> Result<Placed, NoMemory>
     ensures code { IfOk result (λ c. c.code ≡ unit_code unit.now.program.now (unit_of unit.now)) }
-    ensures entries { IfOk result (λ c. c.entries ≡ entries_at (address_of unit.now.program.now (unit_of unit.now)) 0 (unit_of unit.now).tree.body) }
+    ensures entries { IfOk result (λ c. c.entries
+        ≡ entries_at (address_of unit.now.program.now (unit_of unit.now)) 0 (unit_of unit.now).tree.body) }
 {
     let numbers = loop_numbers(alloc, unit)?;
     let unplaced = nowhere();

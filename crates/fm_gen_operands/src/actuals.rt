@@ -53,7 +53,8 @@ fn pass_value() -> Instr
 
 /// Adds what passes a name that stands alone: a variable whole, or the value of a constant.
 fn named(unit: &UnitView<'_>, name: &Name, out: &mut Seq<Instr>) -> Result<(), NoMemory>
-    ensures { OnOk result (out.new ≡ out.old ++ named_argument (unit_of unit.now) name.now (variable_of (unit_of unit.now) name.now)) }
+    ensures { OnOk result
+        (out.new ≡ out.old ++ named_argument (unit_of unit.now) name.now (variable_of (unit_of unit.now) name.now)) }
 {
     match unit.variable(name) {
         None => {
@@ -71,7 +72,8 @@ fn value(
     next: usize,
     out: &mut Seq<Instr>,
 ) -> Result<usize, NoMemory>
-    ensures code { OnOk result (out.new ≡ out.old ++ value_argument unit.now.program.now (unit_of unit.now) tree.now next) }
+    ensures code { OnOk result
+        (out.new ≡ out.old ++ value_argument unit.now.program.now (unit_of unit.now) tree.now next) }
     ensures next { IfOk result (λ k. k ≡ next + refs_in (names_in unit.now.program.now (unit_of unit.now)) tree.now) }
 {
     let next = emit(unit, tree, next, out)?;
@@ -94,8 +96,10 @@ fn applied(
     out: &mut Seq<Instr>,
 ) -> Result<usize, NoMemory>
     requires { it.tree.now ≡ Ref it.name.now (trees_from it.arguments.now) }
-    ensures code { OnOk result (out.new ≡ out.old ++ argument_code unit.now.program.now (unit_of unit.now) it.entry.tree.now next) }
-    ensures next { IfOk result (λ k. k ≡ next + refs_in (names_in unit.now.program.now (unit_of unit.now)) it.entry.tree.now) }
+    ensures code { OnOk result
+        (out.new ≡ out.old ++ argument_code unit.now.program.now (unit_of unit.now) it.entry.tree.now next) }
+    ensures next { IfOk result
+        (λ k. k ≡ next + refs_in (names_in unit.now.program.now (unit_of unit.now)) it.entry.tree.now) }
 {
     match referent(unit, it.name) {
         Reference::Element(_, variable) => {
@@ -114,7 +118,8 @@ fn argument(
     next: usize,
     out: &mut Seq<Instr>,
 ) -> Result<usize, NoMemory>
-    ensures code { OnOk result (out.new ≡ out.old ++ argument_code unit.now.program.now (unit_of unit.now) tree.now next) }
+    ensures code { OnOk result
+        (out.new ≡ out.old ++ argument_code unit.now.program.now (unit_of unit.now) tree.now next) }
     ensures next { IfOk result (λ k. k ≡ next + refs_in (names_in unit.now.program.now (unit_of unit.now)) tree.now) }
 {
     match &tree.node {
@@ -139,16 +144,18 @@ fn argument(
     }
 }
 
-/// Adds the code of arguments, or of the items of a message, before which `next` references of their entry stand: from left
-/// to right each is the next operand. The number of references that stand before what comes behind them.
+/// Adds the code of arguments, or of the items of a message, before which `next` references of their entry stand: from
+/// left to right each is the next operand. The number of references that stand before what comes behind them.
 pub fn arguments(
     unit: &UnitView<'_>,
     trees: &[Expr],
     next: usize,
     out: &mut Seq<Instr>,
 ) -> Result<usize, NoMemory>
-    ensures code { OnOk result (out.new ≡ out.old ++ arguments_code unit.now.program.now (unit_of unit.now) (trees_from trees.now) next) }
-    ensures next { IfOk result (λ k. k ≡ next + refs_in_all (names_in unit.now.program.now (unit_of unit.now)) (trees_from trees.now)) }
+    ensures code { OnOk result
+        (out.new ≡ out.old ++ arguments_code unit.now.program.now (unit_of unit.now) (trees_from trees.now) next) }
+    ensures next { IfOk result
+        (λ k. k ≡ next + refs_in_all (names_in unit.now.program.now (unit_of unit.now)) (trees_from trees.now)) }
 {
     let mut next = next;
     'trees: for tree in trees {
@@ -165,8 +172,13 @@ fn variable_target(
     next: usize,
     out: &mut Seq<Instr>,
 ) -> Result<usize, NoMemory>
-    ensures code { (place : ℕ) → OnOk result (out.new ≡ out.old ++ target_by unit.now.program.now (unit_of unit.now) (Some (place, variable.now)) (trees_from subscripts.now) next) }
-    ensures next { IfOk result (λ k. k ≡ next + refs_in_all (names_in unit.now.program.now (unit_of unit.now)) (trees_from subscripts.now)) }
+    ensures code { (place : ℕ)
+        → OnOk result (out.new
+        ≡ out.old
+        ++ target_by unit.now.program.now (unit_of unit.now) (Some (place, variable.now)) (trees_from subscripts.now)
+        next) }
+    ensures next { IfOk result
+        (λ k. k ≡ next + refs_in_all (names_in unit.now.program.now (unit_of unit.now)) (trees_from subscripts.now)) }
 {
     match subscripts.split_first() {
         None => {
@@ -187,7 +199,8 @@ fn target(
     out: &mut Seq<Instr>,
 ) -> Result<usize, NoMemory>
     ensures code { OnOk result (out.new ≡ out.old ++ target_code unit.now.program.now (unit_of unit.now) var.now next) }
-    ensures next { IfOk result (λ k. k ≡ next + refs_in_var (names_in unit.now.program.now (unit_of unit.now)) var.now) }
+    ensures next { IfOk result
+        (λ k. k ≡ next + refs_in_var (names_in unit.now.program.now (unit_of unit.now)) var.now) }
 {
     let subscripts = var.subscripts.as_slice();
     match unit.variable(&var.name) {
@@ -196,16 +209,18 @@ fn target(
     }
 }
 
-/// Adds the code of places that are to be filled: from left to right each is the next operand. The number of references that
-/// stand before what comes behind them.
+/// Adds the code of places that are to be filled: from left to right each is the next operand. The number of references
+/// that stand before what comes behind them.
 pub fn targets(
     unit: &UnitView<'_>,
     vars: &[Var],
     next: usize,
     out: &mut Seq<Instr>,
 ) -> Result<usize, NoMemory>
-    ensures code { OnOk result (out.new ≡ out.old ++ targets_code unit.now.program.now (unit_of unit.now) vars.now next) }
-    ensures next { IfOk result (λ k. k ≡ next + refs_in_vars (names_in unit.now.program.now (unit_of unit.now)) vars.now) }
+    ensures code { OnOk result
+        (out.new ≡ out.old ++ targets_code unit.now.program.now (unit_of unit.now) vars.now next) }
+    ensures next { IfOk result
+        (λ k. k ≡ next + refs_in_vars (names_in unit.now.program.now (unit_of unit.now)) vars.now) }
 {
     let mut next = next;
     'vars: for var in vars {

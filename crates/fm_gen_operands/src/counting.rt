@@ -36,7 +36,8 @@ fn references_in(unit: &UnitView<'_>, tree: &Expr, next: usize) -> Result<usize,
 /// The number of references that stand before expressions and in them, where `next` of them stand before.
 #[cycle(counting)]
 pub fn references(unit: &UnitView<'_>, trees: &[Expr], next: usize) -> Result<usize, NoMemory>
-    ensures { IfOk result (λ k. k ≡ next + refs_in_all (names_in unit.now.program.now (unit_of unit.now)) (trees_from trees.now)) }
+    ensures { IfOk result
+        (λ k. k ≡ next + refs_in_all (names_in unit.now.program.now (unit_of unit.now)) (trees_from trees.now)) }
 {
     let mut next = next;
     'trees: for tree in trees {

@@ -83,7 +83,8 @@ fn port_value(out: &mut Seq<Instr>) -> Result<(), NoMemory>
 
 /// Adds what makes the value of an element of its subscripts.
 pub fn element(variable: &Variable, subscripts: usize, out: &mut Seq<Instr>) -> Result<(), NoMemory>
-    ensures { OnOk result (out.new ≡ out.old ++ place_code variable.now subscripts (element_code variable.now.kind variable.now.first)) }
+    ensures { OnOk result
+        (out.new ≡ out.old ++ place_code variable.now subscripts (element_code variable.now.kind variable.now.first)) }
 {
     if has_elements(variable, subscripts) {
         dimensions(variable.bounds.as_slice(), out)?;

@@ -22,9 +22,11 @@ pub fn expression(
     next: usize,
     out: &mut Seq<Instr>,
 ) -> Result<usize, NoMemory>
-    ensures code { OnOk result (out.new ≡ out.old ++ expression_code unit.now.program.now (unit_of unit.now) tree.now next) }
+    ensures code { OnOk result
+        (out.new ≡ out.old ++ expression_code unit.now.program.now (unit_of unit.now) tree.now next) }
     ensures next { IfOk result (λ k. k ≡ next + refs_in (names_in unit.now.program.now (unit_of unit.now)) tree.now) }
-    ensures keeps { KeepsValue unit.now.program.now (unit_of unit.now) tree.now next (expression_code unit.now.program.now (unit_of unit.now) tree.now next) }
+    ensures keeps { KeepsValue unit.now.program.now (unit_of unit.now) tree.now next
+        (expression_code unit.now.program.now (unit_of unit.now) tree.now next) }
 {
     // It is a unit of its program, so its variables have as many words as elements.
     let _number = unit.number();

@@ -36,8 +36,8 @@ fn sign(op: Op, out: &mut Seq<Instr>) -> Result<(), NoMemory>
     }
 }
 
-/// Adds the code of an expression before which `next` references of its entry stand. The number of those that stand before
-/// what comes behind it.
+/// Adds the code of an expression before which `next` references of its entry stand. The number of those that stand
+/// before what comes behind it.
 #[cycle(emitting)]
 pub fn emit(
     unit: &UnitView<'_>,
@@ -45,7 +45,8 @@ pub fn emit(
     next: usize,
     out: &mut Seq<Instr>,
 ) -> Result<usize, NoMemory>
-    ensures code { OnOk result (out.new ≡ out.old ++ expression_code unit.now.program.now (unit_of unit.now) tree.now next) }
+    ensures code { OnOk result
+        (out.new ≡ out.old ++ expression_code unit.now.program.now (unit_of unit.now) tree.now next) }
     ensures next { IfOk result (λ k. k ≡ next + refs_in (names_in unit.now.program.now (unit_of unit.now)) tree.now) }
 {
     match &tree.node {
@@ -90,8 +91,11 @@ fn emit_reference(
     next: usize,
     out: &mut Seq<Instr>,
 ) -> Result<usize, NoMemory>
-    ensures code { OnOk result (out.new ≡ out.old ++ expression_code unit.now.program.now (unit_of unit.now) (Ref name.now (trees_from arguments.now)) next) }
-    ensures next { IfOk result (λ k. k ≡ next + refs_in (names_in unit.now.program.now (unit_of unit.now)) (Ref name.now (trees_from arguments.now))) }
+    ensures code { OnOk result (out.new
+        ≡ out.old
+        ++ expression_code unit.now.program.now (unit_of unit.now) (Ref name.now (trees_from arguments.now)) next) }
+    ensures next { IfOk result (λ k. k
+        ≡ next + refs_in (names_in unit.now.program.now (unit_of unit.now)) (Ref name.now (trees_from arguments.now))) }
 {
     match referent(unit, name) {
         Reference::Element(_, variable) => {
@@ -126,8 +130,10 @@ pub fn emit_all(
     next: usize,
     out: &mut Seq<Instr>,
 ) -> Result<usize, NoMemory>
-    ensures code { OnOk result (out.new ≡ out.old ++ expressions_code unit.now.program.now (unit_of unit.now) (trees_from trees.now) next) }
-    ensures next { IfOk result (λ k. k ≡ next + refs_in_all (names_in unit.now.program.now (unit_of unit.now)) (trees_from trees.now)) }
+    ensures code { OnOk result
+        (out.new ≡ out.old ++ expressions_code unit.now.program.now (unit_of unit.now) (trees_from trees.now) next) }
+    ensures next { IfOk result
+        (λ k. k ≡ next + refs_in_all (names_in unit.now.program.now (unit_of unit.now)) (trees_from trees.now)) }
 {
     let mut next = next;
     'trees: for tree in trees {

@@ -52,7 +52,8 @@ fn element_located(
     behind: Option<Instr>,
     out: &mut Seq<Instr>,
 ) -> Result<(), NoMemory>
-    ensures { OnOk result (out.new ≡ out.old ++ place_code variable.now subscripts (locate variable.now.first ∷ option_to_list behind)) }
+    ensures { OnOk result
+        (out.new ≡ out.old ++ place_code variable.now subscripts (locate variable.now.first ∷ option_to_list behind)) }
 {
     if has_elements(variable, subscripts) {
         dimensions(variable.bounds.as_slice(), out)?;
@@ -71,8 +72,12 @@ pub(crate) fn located(
     behind: Option<Instr>,
     out: &mut Seq<Instr>,
 ) -> Result<usize, NoMemory>
-    ensures code { OnOk result (out.new ≡ out.old ++ located_code unit.now.program.now (unit_of unit.now) variable.now (trees_from subscripts.now) next (option_to_list behind)) }
-    ensures next { IfOk result (λ k. k ≡ next + refs_in_all (names_in unit.now.program.now (unit_of unit.now)) (trees_from subscripts.now)) }
+    ensures code { OnOk result (out.new
+        ≡ out.old
+        ++ located_code unit.now.program.now (unit_of unit.now) variable.now (trees_from subscripts.now) next
+        (option_to_list behind)) }
+    ensures next { IfOk result
+        (λ k. k ≡ next + refs_in_all (names_in unit.now.program.now (unit_of unit.now)) (trees_from subscripts.now)) }
 {
     let next = emit_all(unit, subscripts, next, out)?;
     element_located(variable, subscripts.len(), behind, out)?;
@@ -87,8 +92,13 @@ fn variable_place(
     next: usize,
     out: &mut Seq<Instr>,
 ) -> Result<usize, NoMemory>
-    ensures code { (place : ℕ) → OnOk result (out.new ≡ out.old ++ place_by unit.now.program.now (unit_of unit.now) (Some (place, variable.now)) (trees_from subscripts.now) next) }
-    ensures next { IfOk result (λ k. k ≡ next + refs_in_all (names_in unit.now.program.now (unit_of unit.now)) (trees_from subscripts.now)) }
+    ensures code { (place : ℕ)
+        → OnOk result (out.new
+        ≡ out.old
+        ++ place_by unit.now.program.now (unit_of unit.now) (Some (place, variable.now)) (trees_from subscripts.now)
+        next) }
+    ensures next { IfOk result
+        (λ k. k ≡ next + refs_in_all (names_in unit.now.program.now (unit_of unit.now)) (trees_from subscripts.now)) }
 {
     match subscripts.split_first() {
         None => {
@@ -99,8 +109,9 @@ fn variable_place(
     }
 }
 
-/// Adds the code of a place, before which `next` references of its entry stand: the number of its first word goes on the stack.
-/// The number of references that stand before what comes behind it. Want of memory also where a number has no room.
+/// Adds the code of a place, before which `next` references of its entry stand: the number of its first word goes on
+/// the stack. The number of references that stand before what comes behind it. Want of memory also where a number has
+/// no room.
 pub fn place(
     unit: &UnitView<'_>,
     var: &Var,
@@ -108,7 +119,8 @@ pub fn place(
     out: &mut Seq<Instr>,
 ) -> Result<usize, NoMemory>
     ensures code { OnOk result (out.new ≡ out.old ++ var_code unit.now.program.now (unit_of unit.now) var.now next) }
-    ensures next { IfOk result (λ k. k ≡ next + refs_in_var (names_in unit.now.program.now (unit_of unit.now)) var.now) }
+    ensures next { IfOk result
+        (λ k. k ≡ next + refs_in_var (names_in unit.now.program.now (unit_of unit.now)) var.now) }
 {
     let subscripts = var.subscripts.as_slice();
     match unit.variable(&var.name) {

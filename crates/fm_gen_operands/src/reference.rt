@@ -29,7 +29,8 @@ fn function<'p>(unit: &UnitView<'p>, name: &Name) -> Reference<'p>
 }
 
 fn no_array<'p>(unit: &UnitView<'p>, name: &Name) -> Reference<'p>
-    ensures { reference_by result ≡ intrinsic_or (intrinsic_named name.now) (function_by (unit_named unit.now.program.now name.now)) }
+    ensures { reference_by result
+        ≡ intrinsic_or (intrinsic_named name.now) (function_by (unit_named unit.now.program.now name.now)) }
 {
     match Intrinsic::from_name(name.as_bytes()) {
         None => function(unit, name),

@@ -18,7 +18,8 @@ fn location(
     next: usize,
     out: &mut Seq<Instr>,
 ) -> Result<(), NoMemory>
-    ensures { OnOk result (out.new ≡ out.old ++ location_code unit.now.program.now (unit_of unit.now) (trees_from numbers.now) next) }
+    ensures { OnOk result
+        (out.new ≡ out.old ++ location_code unit.now.program.now (unit_of unit.now) (trees_from numbers.now) next) }
 {
     emit_all(unit, numbers, next, out)?;
     let count = operand(numbers.len())?;
@@ -26,8 +27,8 @@ fn location(
     Ok(())
 }
 
-/// Adds the code of where a process is put, before which `next` references of its entry stand; none where it is put on the
-/// node of its parent.
+/// Adds the code of where a process is put, before which `next` references of its entry stand; none where it is put on
+/// the node of its parent.
 pub fn seat(
     unit: &UnitView<'_>,
     place: &Option<Where>,

@@ -26,7 +26,8 @@ fn look(
 ) -> Result<(), NoMemory>
     requires { length flags.old.items ≡ length graph.now }
     ensures flags { IfOk result (λ _. flags.new.items ≡ flags_after flags.old.items node) }
-    ensures pending { IfOk result (λ _. pending.new.items ≡ pending_after graph.now flags.old.items node pending.old.items) }
+    ensures pending { IfOk result
+        (λ _. pending.new.items ≡ pending_after graph.now flags.old.items node pending.old.items) }
 {
     if is_seen(flags, node) {
         return Ok(());

@@ -93,10 +93,14 @@ impl Search {
     fn visit(&mut self, graph: &[Seq<usize>], node: usize) -> Result<(), NoMemory>
         requires sized { length self.old.marks.items ≡ length graph.now }
         requires within { node < length graph.now }
-        ensures marks { IfOk result (λ _. self.new.marks.items ≡ slice_set self.old.marks.items node (mark.OnPath (length self.old.path.items))) }
+        ensures marks { IfOk result (λ _. self.new.marks.items
+            ≡ slice_set self.old.marks.items node (mark.OnPath (length self.old.path.items))) }
         ensures path { IfOk result (λ _. self.new.path.items ≡ self.old.path.items ++ node ∷ []) }
-        ensures segments { IfOk result (λ _. reverse self.new.segments.items ≡ record { node = node; start = length self.old.path.items; rest = length self.old.pending.items } ∷ reverse self.old.segments.items) }
-        ensures pending { IfOk result (λ _. self.new.pending.items ≡ self.old.pending.items ++ edges_of graph.now node) }
+        ensures segments { IfOk result (λ _. reverse self.new.segments.items
+            ≡ record { node = node; start = length self.old.path.items; rest = length self.old.pending.items }
+            ∷ reverse self.old.segments.items) }
+        ensures pending { IfOk result
+            (λ _. self.new.pending.items ≡ self.old.pending.items ++ edges_of graph.now node) }
     {
         let start = self.path.len();
         let rest = self.pending.len();
@@ -109,7 +113,8 @@ impl Search {
 
     /// Follows an edge of the last segment to this node. It isn't pending any more.
     fn follow(&mut self, graph: &[Seq<usize>], node: usize) -> Result<(), NoMemory>
-        requires search { IsSearch graph.now self.old.marks.items self.old.path.items (reverse self.old.segments.items) (self.old.pending.items ++ node ∷ []) }
+        requires search { IsSearch graph.now self.old.marks.items self.old.path.items (reverse self.old.segments.items)
+            (self.old.pending.items ++ node ∷ []) }
         requires rest { IsRest (reverse self.old.segments.items) (length self.old.pending.items) }
         ensures { IfOk result (λ _. IsTurnFrom graph.now node self.old self.new) }
     {

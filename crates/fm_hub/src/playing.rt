@@ -39,8 +39,8 @@ impl<T: SharedTable> Held<T> {
         ensures grown { IfOk result (λ _. HasGrown (T.history_of self.old.table) (T.history_of self.new.table)) }
         ensures none { IfOk result (λ r. r ≡ false → T.history_of self.new.table ≡ T.history_of self.old.table) }
         ensures unchanged { OnErr result (T.history_of self.new.table ≡ T.history_of self.old.table) }
-        ensures made { HasMade (T.history_of self.old.table)
-            (made_at self.old.place (T.history_of self.old.table)) (made_at self.new.place (T.history_of self.new.table)) }
+        ensures made { HasMade (T.history_of self.old.table) (made_at self.old.place (T.history_of self.old.table))
+            (made_at self.new.place (T.history_of self.new.table)) }
     {
         self.table.turn_light(alloc, worker)
     }

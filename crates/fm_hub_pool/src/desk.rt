@@ -12,9 +12,10 @@ use fm_workers::{Phase, SharedTable};
 use std::alloc::Global;
 use std::sync::atomic::{AtomicU64, Ordering};
 
-/// What the worker does next. It stops where the table has ended, where no piece is ready and none is out with a worker, and
-/// where it finds no memory; and it waits only where a piece is out with another one. `working` counts those that are out.
-/// Nothing is played but what the table makes by itself, which it is asked for where `light` says so.
+/// What the worker does next. It stops where the table has ended, where no piece is ready and none is out with a
+/// worker, and where it finds no memory; and it waits only where a piece is out with another one. `working` counts
+/// those that are out. Nothing is played but what the table makes by itself, which it is asked for where `light` says
+/// so.
 pub fn taken<T: SharedTable>(
     alloc: Global,
     held: &mut Held<T>,
@@ -114,8 +115,8 @@ fn stopped<T: SharedTable>(held: &mut Held<T>) -> Next<T::Piece>
     Next::Stops
 }
 
-/// Gives what a piece came to, of which the table plays one entry of its process or nothing. Where there is no memory for
-/// it, or was none to compute it, all pieces that are out are made ready again, and the answer is false.
+/// Gives what a piece came to, of which the table plays one entry of its process or nothing. Where there is no memory
+/// for it, or was none to compute it, all pieces that are out are made ready again, and the answer is false.
 pub fn given<T: SharedTable>(
     alloc: Global,
     held: &mut Held<T>,
@@ -140,8 +141,8 @@ pub fn given<T: SharedTable>(
     }
 }
 
-// Gives what a piece came to. Where there is no memory for it, all pieces that are out are made ready again, and the answer
-// is false.
+// Gives what a piece came to. Where there is no memory for it, all pieces that are out are made ready again, and the
+// answer is false.
 #[tactic(auto, using(fm_workers::proofs::HistoryLaws::plays_at_most_once))]
 fn brought<T: SharedTable>(alloc: Global, held: &mut Held<T>, done: T::Done) -> bool
     ensures place { held.new.place ≡ held.old.place }

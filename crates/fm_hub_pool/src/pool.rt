@@ -13,8 +13,8 @@ use std::sync::atomic::AtomicU64;
 use std::thread;
 use std::thread::Threads;
 
-/// Plays a table by threads that take turns at it without a lock. The crate of a table says that it is one of that table's
-/// `Workers`, as with the pool of fm_pool.
+/// Plays a table by threads that take turns at it without a lock. The crate of a table says that it is one of that
+/// table's `Workers`, as with the pool of fm_pool.
 #[derive(Drop)]
 pub struct HubPool<G, R: Threads + Wait + Sync> {
     /// Who computes a piece.
@@ -26,8 +26,8 @@ pub struct HubPool<G, R: Threads + Wait + Sync> {
 }
 
 impl<G, R: Threads + Wait + Sync> HubPool<G, R> {
-    /// Plays the table with so many workers, until it has ended or no worker goes on, and gives it back. None comes where
-    /// a seat still has the turn.
+    /// Plays the table with so many workers, until it has ended or no worker goes on, and gives it back. None comes
+    /// where a seat still has the turn.
     pub fn play<T: SharedTable + Send + Drop>(&self, table: T, count: u32) -> Option<T>
     where
         G: Gate<T>,

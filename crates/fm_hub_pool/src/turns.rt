@@ -50,8 +50,8 @@ fn next_turn<T: KeepsHistory + Drop, R: Wait>(rt: &R, hub: &Hub<T>, held: Held<T
     turn(rt, hub, seat)
 }
 
-// The next piece, when there is one, and the seat that gave the turn back. None where the worker is to stop. Where `light`
-// says so, the table makes those pieces by itself that aren't worth giving out.
+// The next piece, when there is one, and the seat that gave the turn back. None where the worker is to stop. Where
+// `light` says so, the table makes those pieces by itself that aren't worth giving out.
 fn next_piece<T: SharedTable + Drop, R: Wait>(
     rt: &R,
     alloc: Global,

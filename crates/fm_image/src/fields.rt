@@ -57,7 +57,8 @@ fn next_number(place: usize) -> Result<u32, NoMemory>
 }
 
 fn field(field: &Field, of: u32) -> Result<FieldImage, NoMemory>
-    ensures { IfOk result (λ f. f ≡ field_with (kind_of field.now.kind) of field.now.bounds (sizing_place field.now.bounds)) }
+    ensures { IfOk result
+        (λ f. f ≡ field_with (kind_of field.now.kind) of field.now.bounds (sizing_place field.now.bounds)) }
 {
     let kind = kind_number(&field.kind);
     let bounds = field.bounds.as_slice();
@@ -77,7 +78,8 @@ fn field(field: &Field, of: u32) -> Result<FieldImage, NoMemory>
     }
 }
 
-/// What is said of these fields, where the types that they need are there; these are put behind the others where they aren't.
+/// What is said of these fields, where the types that they need are there; these are put behind the others where they
+/// aren't.
 #[cycle(types)]
 pub(crate) fn field_images(
     alloc: Global,
@@ -95,8 +97,8 @@ pub(crate) fn field_images(
     Ok(images)
 }
 
-/// The number of the type of a port, which is put behind the others with those that it needs where it isn't there; 0 of what
-/// is no port.
+/// The number of the type of a port, which is put behind the others with those that it needs where it isn't there; 0 of
+/// what is no port.
 #[cycle(types)]
 pub(crate) fn type_number(alloc: Global, types: &mut Types, kind: &Kind) -> Result<u32, NoMemory>
     ensures types { OnOk result (types.new ≡ needed_by types.old (kind_of kind.now)) }

@@ -55,7 +55,8 @@ fn add(
     code: Option<&fm_code::Unit>,
     units: &mut Seq<UnitImage>,
 ) -> Result<(), NoMemory>
-    ensures { OnOk result (units.new ≡ units.old ++ unit_by cells (option_copied tree.entry) names.now (option_copied code.entry)) }
+    ensures { OnOk result
+        (units.new ≡ units.old ++ unit_by cells (option_copied tree.entry) names.now (option_copied code.entry)) }
 {
     if let Some(tree) = tree {
         if let Some(code) = code {

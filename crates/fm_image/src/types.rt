@@ -46,8 +46,8 @@ impl Types {
         }
     }
 
-    /// The number of a type, which is put behind the others where it isn't among them. Want of memory also where the number has
-    /// more than 32 bits.
+    /// The number of a type, which is put behind the others where it isn't among them. Want of memory also where the
+    /// number has more than 32 bits.
     pub(crate) fn number(&mut self, fields: Seq<FieldImage>) -> Result<u32, NoMemory>
         ensures types { OnOk result (self.new ≡ with_type self.old fields) }
         ensures number { IfOk result (λ n. n ≡ number_of self.new fields) }

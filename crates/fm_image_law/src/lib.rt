@@ -1,8 +1,8 @@
 //! What an image is when it runs, and what that is good for.
 //!
-//! `specs/Image` has the machine of an image: main alone over its code, and the step of each process. Of one that makes sense
-//! (`Typed`) each process is good along every schedule: so the language of its processes is lawful, and nobody is ever stuck. Each
-//! function here has an empty body: its contract is a law.
+//! `specs/Image` has the machine of an image: main alone over its code, and the step of each process. Of one that makes
+//! sense (`Typed`) each process is good along every schedule: so the language of its processes is lawful, and nobody is
+//! ever stuck. Each function here has an empty body: its contract is a law.
 #![tactic(auto)]
 
 ghost use Rattle.std.specs.Prelude.{◌≡◌, false, List, Some, []};
@@ -27,11 +27,15 @@ pub fn first_is_good()
     ensures free { (i : declared_image.Image) → Typed i → held (first_process i) ≡ [] }
 {}
 
-/// Along every schedule of such an image each process is good: so ports stay where they are accounted for, and no body that has more to
-/// do is stuck.
+/// Along every schedule of such an image each process is good: so ports stay where they are accounted for, and no body
+/// that has more to do is stuck.
 pub fn nobody_is_stuck()
-    ensures good { (i : declared_image.Image) → Typed i → (choices : List Place) → IsLegal step (first i) choices → (q : Place) (y : CodeProc)
-        → get (play step (first i) choices).procs q ≡ Some y → IsGood (shapes_of i) y }
-    ensures moves { (i : declared_image.Image) → Typed i → (choices : List Place) → IsLegal step (first i) choices → (q : Place) (y : CodeProc) (b : declared_body.Body)
-        → get (play step (first i) choices).procs q ≡ Some y → y.body ≡ Some b → GoesOn y.phase → is_stuck b ≡ false }
+    ensures good { (i : declared_image.Image) → Typed i → (choices : List Place)
+        → IsLegal step (first i) choices → (q : Place) (y : CodeProc)
+        → get (play step (first i) choices).procs q ≡ Some y
+        → IsGood (shapes_of i) y }
+    ensures moves { (i : declared_image.Image) → Typed i → (choices : List Place)
+        → IsLegal step (first i) choices → (q : Place) (y : CodeProc) (b : declared_body.Body)
+        → get (play step (first i) choices).procs q ≡ Some y
+        → y.body ≡ Some b → GoesOn y.phase → is_stuck b ≡ false }
 {}

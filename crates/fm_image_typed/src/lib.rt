@@ -1,6 +1,7 @@
-//! Which images make sense, and what that is good for. `specs/Typed` says what is asked of an image before it runs: of the whole,
-//! its one PROGRAM and the types of ports, and of each unit its machine, the words of its variables, its formals, where its
-//! statements begin, and that its code has its kinds. Each function here has an empty body: its contract is a law.
+//! Which images make sense (`Typed`), and what follows for their code. `specs/Typed` says what is asked of an image
+//! before it runs: of the whole, its one PROGRAM and the types of ports, and of each unit its machine, the words of its
+//! variables, its formals, where its statements begin, and that its code has its kinds. Each function here has an empty
+//! body: its contract is a law.
 #![tactic(auto)]
 
 ghost use Rattle.std.specs.Prelude.{◌≡◌, false};
@@ -18,7 +19,8 @@ pub fn typed_code()
     ensures { (i : declared_image.Image) → Typed i → IsTypedCode (shapes_of i) (code_of i) }
 {}
 
-/// No body of the code of an image that makes sense is stuck, where its innermost frame stands at a statement as the kinds tell.
+/// No body of the code of an image that makes sense is stuck, where its innermost frame stands at a statement as the
+/// kinds tell.
 pub fn none_is_stuck()
     ensures { (i : declared_image.Image) (b : declared.Body) → Typed i → RunsImage i b → is_stuck b ≡ false }
 {}

@@ -66,7 +66,7 @@ without_at [] k = []
 without_at (x ∷ xs) zero = xs
 without_at (x ∷ xs) (suc k) = x ∷ without_at xs k
 
--- the packet at a place among those that the channel's reader hasn't acknowledged
+-- the packet at a place among those that aren't acknowledged
 abbrev pub packet_at : Option LinkedChan → ℕ → Option Packet
 packet_at None k = None
 packet_at (Some l) k = packet_of l.outgoing k

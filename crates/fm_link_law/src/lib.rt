@@ -38,16 +38,19 @@ pub fn the_network_is_still<P>()
         (state_of later ≡ state_of h) × IsSound later }
     ensures lost { (h : Hosts P) → IsSound h → (i : ℕ) (later : Hosts P) → lost h i ≡ Some later →
         (state_of later ≡ state_of h) × IsSound later }
-    ensures restarted { (h : Hosts P) → IsSound h → (stays : Carried → Bool) →
-        ((restarted stays h).channels ≡ h.channels) × (state_of (restarted stays h) ≡ state_of h) × IsSound (restarted stays h) }
+    ensures restarted { (h : Hosts P) → IsSound h → (stays : Carried → Bool)
+        → ((restarted stays h).channels ≡ h.channels) × (state_of (restarted stays h) ≡ state_of h)
+        × IsSound (restarted stays h) }
 {}
 
 /// Whatever happens, the steps that were made are a schedule of the machine, which leads to the state for which
 /// the hosts stand, at the cost of the steps.
 pub fn every_run_is_a_schedule<P>()
-    ensures { (language : Language P) (start : State P) → IsLawfulLanguage language → IsOwned language start →
-        AsksForWords language start → (h : Hosts P) → IsSound h →
-        IsReached (language_step language) start (state_of h) → (events : List HostEvent) →
-        Leads (language_step language) (state_of h) (steps_of language h events) (state_of (hosts_after language h events))
-        (cost_of language h events) × IsSound (hosts_after language h events) }
+    ensures { (language : Language P) (start : State P) → IsLawfulLanguage language
+        → IsOwned language start → AsksForWords language start
+        → (h : Hosts P) → IsSound h → IsReached (language_step language) start (state_of h)
+        → (events : List HostEvent)
+        → Leads (language_step language) (state_of h) (steps_of language h events)
+        (state_of (hosts_after language h events)) (cost_of language h events)
+        × IsSound (hosts_after language h events) }
 {}

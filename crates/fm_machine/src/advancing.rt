@@ -40,14 +40,15 @@ fn next_end(alloc: Global, work: &mut Work, body: &Body) -> Result<StatementEnd,
     statement(alloc, code_of(body), address, work, &body.frame)
 }
 
-/// Does the next statement where it calls with words of the frame alone, or returns and leaves no port. The cost; none, and no
-/// change, where it does something else.
+/// Does the next statement where it calls with words of the frame alone, or returns and leaves no port. The cost; none,
+/// and no change, where it does something else.
 fn pass_frame_words(
     alloc: Global,
     work: &mut Work,
     body: &mut Body,
 ) -> Result<Option<u64>, NoMemory>
-    ensures ran { IfOk result (λ c. IfSome c (λ cost. ran (action_of body.old) ≡ Some (record { body = body.new; lines = []; cost = cost }))) }
+    ensures ran { IfOk result (λ c. IfSome c
+        (λ cost. ran (action_of body.old) ≡ Some (record { body = body.new; lines = []; cost = cost }))) }
     ensures stays { IfOk result (λ c. c ≡ None → body.new ≡ body.old) }
 {
     let spare = &mut work.spare;
@@ -159,7 +160,8 @@ pub fn proceed(
     body: &mut Body,
     slice: u32,
 ) -> Result<Made, NoMemory>
-    ensures ran { IfOk result (λ m. run m.steps body.old ≡ Some (record { body = body.new; lines = m.lines; cost = m.cost })) }
+    ensures ran { IfOk result
+        (λ m. run m.steps body.old ≡ Some (record { body = body.new; lines = m.lines; cost = m.cost })) }
     ensures within { IfOk result (λ m. m.steps ≤ slice) }
     ensures next { IfOk result (λ m. m.next ≡ look_in (action_of body.new)) }
     ensures stops { IfOk result (λ m. m.steps ≢ slice → ran (action_of body.new) ≡ None) }

@@ -70,7 +70,8 @@ impl Done {
     /// What came of a slice: the body after it, and what was made of it.
     #[tactic(auto, using(crate::proofs::Telling::asked_look))]
     pub(crate) fn new(process: u32, start: Arc<Body>, end: Arc<Body>, made: Made) -> Done
-        requires ran { run made.steps start.value ≡ Some (record { body = end.value; lines = made.lines; cost = made.cost }) }
+        requires ran { run made.steps start.value
+            ≡ Some (record { body = end.value; lines = made.lines; cost = made.cost }) }
         requires next { made.next ≡ look_in (action_of end.value) }
         requires within { made.steps ≤ 1000000 }
         requires moves { ask_of end.value ≡ None → is_stuck start.value ≡ false → 1 ≤ made.steps }

@@ -89,7 +89,8 @@ fn add_start(
     seat: (Machine, u32),
     body: &mut Body,
 ) -> Result<Option<u64>, NoMemory>
-    ensures started { IfOk result (λ c. opened_by c body.new ≡ starting number (unit_at body.old number) to operands.now seat body.old) }
+    ensures started { IfOk result
+        (λ c. opened_by c body.new ≡ starting number (unit_at body.old number) to operands.now seat body.old) }
     ensures stays { IfOk result (λ c. c ≡ None → body.new ≡ body.old) }
 {
     let mine = body.frame.words.len();
@@ -191,8 +192,10 @@ pub(crate) fn start(
     place: &Place,
     body: &mut Body,
 ) -> Result<Finish, NoMemory>
-    ensures ran { IfOk result (λ f. went f body.new ≡ ran (starts number (unit_at body.old number) body.old to operands.now place.now)) }
-    ensures tells { IfOk result (λ f. told f ≡ look_in (starts number (unit_at body.old number) body.old to operands.now place.now)) }
+    ensures ran { IfOk result
+        (λ f. went f body.new ≡ ran (starts number (unit_at body.old number) body.old to operands.now place.now)) }
+    ensures tells { IfOk result
+        (λ f. told f ≡ look_in (starts number (unit_at body.old number) body.old to operands.now place.now)) }
     ensures stays { IfOk result (λ f. Stays f body.old body.new) }
 {
     match seat_for(body, number, place) {

@@ -58,7 +58,8 @@ fn give_back_cost(backs: &[Back]) -> Result<u64, NoMemory>
 #[tactic(auto, using(crate::proofs::Returning::returns_fit, crate::proofs::Returning::returns_so))]
 fn give_back(alloc: Global, spare: &mut Pile<Frame>, body: &mut Body) -> Result<u64, NoMemory>
     requires { is_stuck_in (gives_back body.old body.old.below) ≡ false }
-    ensures { IfOk result (λ cost. gives_back body.old body.old.below ≡ Own body.new [] (drops_in (gives_back body.old body.old.below)) cost) }
+    ensures { IfOk result (λ cost. gives_back body.old body.old.below
+        ≡ Own body.new [] (drops_in (gives_back body.old body.old.below)) cost) }
 {
     // A step was told, so there is a caller.
     let Some(caller) = body.below.pop() else {
@@ -82,7 +83,8 @@ fn give_back(alloc: Global, spare: &mut Pile<Frame>, body: &mut Body) -> Result<
 /// The words of a caller to which a frame has given back. Both stay as they are.
 fn words_given(alloc: Global, caller: &Frame, frame: &Frame) -> Result<Seq<i64>, NoMemory>
     requires { backs_fit (length caller.now.words) (length frame.now.words) frame.now.backs ≡ true }
-    ensures { IfOk result (λ ws. ws ≡ (passing.give_all frame.now.backs (given caller.now.words frame.now.words [])).mine) }
+    ensures { IfOk result
+        (λ ws. ws ≡ (passing.give_all frame.now.backs (given caller.now.words frame.now.words [])).mine) }
 {
     let mut mine = Seq::from_slice(alloc, caller.words.as_slice())?;
     let mut theirs = Seq::from_slice(alloc, frame.words.as_slice())?;
@@ -95,7 +97,8 @@ fn words_given(alloc: Global, caller: &Frame, frame: &Frame) -> Result<Seq<i64>,
 /// As `give_back`, over copies: after want of memory the body is as it was.
 fn give_back_whole(alloc: Global, spare: &mut Pile<Frame>, body: &mut Body) -> Result<u64, NoMemory>
     requires { is_stuck_in (gives_back body.old body.old.below) ≡ false }
-    ensures gives { IfOk result (λ cost. gives_back body.old body.old.below ≡ Own body.new [] (drops_in (gives_back body.old body.old.below)) cost) }
+    ensures gives { IfOk result (λ cost. gives_back body.old body.old.below
+        ≡ Own body.new [] (drops_in (gives_back body.old body.old.below)) cost) }
     ensures stays { OnErr result (body.new ≡ body.old) }
 {
     let cost = give_back_cost(body.frame.backs.as_slice())?;
@@ -112,9 +115,11 @@ fn give_back_whole(alloc: Global, spare: &mut Pile<Frame>, body: &mut Body) -> R
     Ok(cost)
 }
 
-/// Returns from a subroutine where no port is left or given back. The cost; none, and no change, where there may be one.
+/// Returns from a subroutine where no port is left or given back. The cost; none, and no change, where there may be
+/// one.
 pub(crate) fn return_plainly(spare: &mut Pile<Frame>, body: &mut Body) -> Option<u64>
-    ensures ran { IfSome result (λ cost. ran (gives_back body.old body.old.below) ≡ Some (record { body = body.new; lines = []; cost = cost })) }
+    ensures ran { IfSome result (λ cost. ran (gives_back body.old body.old.below)
+        ≡ Some (record { body = body.new; lines = []; cost = cost })) }
     ensures stays { result ≡ None → body.new ≡ body.old }
 {
     let cost = look_plainly(body)?;
@@ -128,7 +133,8 @@ pub(crate) fn return_plainly(spare: &mut Pile<Frame>, body: &mut Body) -> Option
 /// The innermost frame leaves a result with the one below it.
 #[tactic(auto, using(crate::proofs::Returning::results_so))]
 fn leave_result(value: i64, spare: &mut Pile<Frame>, body: &mut Body) -> Result<(), NoMemory>
-    ensures { OnOk result (results_in body.old value body.old.below ≡ Own body.new [] (drops_in (results_in body.old value body.old.below)) 1) }
+    ensures { OnOk result (results_in body.old value body.old.below
+        ≡ Own body.new [] (drops_in (results_in body.old value body.old.below)) 1) }
 {
     // A step was told, so there is a caller.
     let Some(caller) = body.below.pop() else {
@@ -146,7 +152,8 @@ fn leave_result_whole(
     spare: &mut Pile<Frame>,
     body: &mut Body,
 ) -> Result<(), NoMemory>
-    ensures gives { OnOk result (results_in body.old value body.old.below ≡ Own body.new [] (drops_in (results_in body.old value body.old.below)) 1) }
+    ensures gives { OnOk result (results_in body.old value body.old.below
+        ≡ Own body.new [] (drops_in (results_in body.old value body.old.below)) 1) }
     ensures stays { OnErr result (body.new ≡ body.old) }
 {
     // A step was told, so there is a caller.
@@ -169,7 +176,8 @@ pub(crate) fn return_value_plainly(
     spare: &mut Pile<Frame>,
     body: &mut Body,
 ) -> Result<Option<u64>, NoMemory>
-    ensures ran { IfOk result (λ c. IfSome c (λ cost. ran (results_in body.old value body.old.below) ≡ Some (record { body = body.new; lines = []; cost = cost }))) }
+    ensures ran { IfOk result (λ c. IfSome c (λ cost. ran (results_in body.old value body.old.below)
+        ≡ Some (record { body = body.new; lines = []; cost = cost }))) }
     ensures stays { IfOk result (λ c. c ≡ None → body.new ≡ body.old) }
 {
     let Some(_) = body.below.first() else {
@@ -311,7 +319,8 @@ pub(crate) fn let_go_at_ending(
     body: &mut Body,
 ) -> Result<u64, NoMemory>
     requires { is_stuck_in (action_by body.old (ended ending body.old.frame)) ≡ false }
-    ensures acts { IfOk result (λ cost. action_by body.old (ended ending body.old.frame) ≡ Own body.new [] (drops_in (action_by body.old (ended ending body.old.frame))) cost) }
+    ensures acts { IfOk result (λ cost. action_by body.old (ended ending body.old.frame)
+        ≡ Own body.new [] (drops_in (action_by body.old (ended ending body.old.frame))) cost) }
     ensures stays { OnErr result (body.new ≡ body.old) }
 {
     match ending {
@@ -361,8 +370,10 @@ pub(crate) fn perform(
     spare: &mut Pile<Frame>,
     body: &mut Body,
 ) -> Result<Finish, NoMemory>
-    ensures ran { IfOk result (λ f. went f body.new ≡ ran (action_by body.old (told_end statement_end scratch.now body.old.frame))) }
-    ensures tells { IfOk result (λ f. told f ≡ look_in (action_by body.old (told_end statement_end scratch.now body.old.frame))) }
+    ensures ran { IfOk result
+        (λ f. went f body.new ≡ ran (action_by body.old (told_end statement_end scratch.now body.old.frame))) }
+    ensures tells { IfOk result
+        (λ f. told f ≡ look_in (action_by body.old (told_end statement_end scratch.now body.old.frame))) }
     ensures stays { IfOk result (λ f. Stays f body.old body.new) }
 {
     let operands = scratch.operands.as_slice();

@@ -113,7 +113,8 @@ fn give_ports(
     drops: &mut Seq<i64>,
 ) -> Result<(), NoMemory>
     requires { back_fits (length mine.old) (length theirs.old) back ≡ true }
-    ensures gives { OnOk result (give_ports back (given mine.old theirs.old drops.old) ≡ given mine.new theirs.new drops.new) }
+    ensures gives { OnOk result
+        (give_ports back (given mine.old theirs.old drops.old) ≡ given mine.new theirs.new drops.new) }
     ensures mine { OnOk result (length mine.new ≡ length mine.old) }
     ensures theirs { OnOk result (length theirs.new ≡ length theirs.old) }
 {
@@ -134,7 +135,8 @@ fn give_one(
     drops: &mut Seq<i64>,
 ) -> Result<(), NoMemory>
     requires { back_fits (length mine.old) (length theirs.old) back ≡ true }
-    ensures gives { OnOk result (give back (given mine.old theirs.old drops.old) ≡ given mine.new theirs.new drops.new) }
+    ensures gives { OnOk result
+        (give back (given mine.old theirs.old drops.old) ≡ given mine.new theirs.new drops.new) }
     ensures mine { OnOk result (length mine.new ≡ length mine.old) }
     ensures theirs { OnOk result (length theirs.new ≡ length theirs.old) }
 {
@@ -155,7 +157,8 @@ pub fn give_all(
     drops: &mut Seq<i64>,
 ) -> Result<(), NoMemory>
     requires { backs_fit (length mine.old) (length theirs.old) backs.now ≡ true }
-    ensures gives { OnOk result (give_all backs.now (given mine.old theirs.old drops.old) ≡ given mine.new theirs.new drops.new) }
+    ensures gives { OnOk result
+        (give_all backs.now (given mine.old theirs.old drops.old) ≡ given mine.new theirs.new drops.new) }
 {
     'backs: for back in backs {
         give_one(alloc, *back, mine, theirs, drops)?;

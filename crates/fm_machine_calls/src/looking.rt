@@ -110,7 +110,9 @@ pub fn push_start_ports(
     starts: &[Start],
     ports: &mut Seq<i64>,
 ) -> Result<(), NoMemory>
-    ensures { OnOk result (ports.new ≡ ports.old ++ flat_map (λ (s : Start). ports_in (ports_of (slice_get code.now.units s.unit)) s.words) starts.now) }
+    ensures { OnOk result (ports.new
+        ≡ ports.old
+        ++ flat_map (λ (s : Start). ports_in (ports_of (slice_get code.now.units s.unit)) s.words) starts.now) }
 {
     'starts: for start in starts {
         push_unit_ports(code, start.unit, start.words.as_slice(), ports)?;
@@ -125,7 +127,10 @@ fn push_ports_with(
     words: &[i64],
     ports: &mut Seq<i64>,
 ) -> Result<(), NoMemory>
-    ensures { OnOk result (ports.new ≡ ports.old ++ (ports_in (ports_of (slice_get code.now.units frame.now.unit)) words.now ++ flat_map (λ (s : Start). ports_in (ports_of (slice_get code.now.units s.unit)) s.words) frame.now.starts)) }
+    ensures { OnOk result (ports.new
+        ≡ ports.old
+        ++ (ports_in (ports_of (slice_get code.now.units frame.now.unit)) words.now
+        ++ flat_map (λ (s : Start). ports_in (ports_of (slice_get code.now.units s.unit)) s.words) frame.now.starts)) }
 {
     push_unit_ports(code, frame.unit, words, ports)?;
     push_start_ports(code, frame.starts.as_slice(), ports)
@@ -137,7 +142,10 @@ pub fn push_frame_ports(
     frame: &Frame,
     ports: &mut Seq<i64>,
 ) -> Result<(), NoMemory>
-    ensures { OnOk result (ports.new ≡ ports.old ++ (ports_in (ports_of (slice_get code.now.units frame.now.unit)) frame.now.words ++ flat_map (λ (s : Start). ports_in (ports_of (slice_get code.now.units s.unit)) s.words) frame.now.starts)) }
+    ensures { OnOk result (ports.new
+        ≡ ports.old
+        ++ (ports_in (ports_of (slice_get code.now.units frame.now.unit)) frame.now.words
+        ++ flat_map (λ (s : Start). ports_in (ports_of (slice_get code.now.units s.unit)) s.words) frame.now.starts)) }
 {
     push_ports_with(code, frame, frame.words.as_slice(), ports)
 }
@@ -164,7 +172,8 @@ fn gives_ports(backs: &[Back]) -> bool
 #[tactic(auto, using(crate::proofs::Plain::plain_theirs, crate::proofs::Plain::plain_drops))]
 fn dropped(alloc: Global, body: &Body, caller: &Frame) -> Result<Seq<i64>, NoMemory>
     requires { backs_fit (length caller.now.words) (length body.now.frame.words) body.now.frame.backs ≡ true }
-    ensures { IfOk result (λ ports. ports ≡ (given body.now caller.now).drops ++ left_ports body.now (given body.now caller.now).theirs) }
+    ensures { IfOk result
+        (λ ports. ports ≡ (given body.now caller.now).drops ++ left_ports body.now (given body.now caller.now).theirs) }
 {
     let mut ports = Seq::new(alloc);
     let backs = body.frame.backs.as_slice();
@@ -209,7 +218,8 @@ pub fn leaves_no_port(body: &Body) -> bool
     }
 }
 
-/// What the return from a subroutine costs, where no port is left or given back; nothing is told where there may be one.
+/// What the return from a subroutine costs, where no port is left or given back; nothing is told where there may be
+/// one.
 pub fn look_plainly(body: &Body) -> Option<u64>
     ensures goes { IfSome result (λ cost. look_in (gives_back body.now body.now.below) ≡ look.Goes) }
     ensures plain { IfSome result (λ cost. list_any (λ (b : Back). b.port) body.now.frame.backs ≡ false) }

@@ -88,7 +88,8 @@ fn pass_words(
     backs: &mut Seq<Back>,
 ) -> Result<(), NoMemory>
     requires { fits (length mine.now) (length theirs.old) formal (operand.Words span) ≡ true }
-    ensures gives { OnOk result (pass formal (operand.Words span) (passed mine.now theirs.old backs.old) ≡ passed mine.now theirs.new backs.new) }
+    ensures gives { OnOk result (pass formal (operand.Words span) (passed mine.now theirs.old backs.old)
+        ≡ passed mine.now theirs.new backs.new) }
     ensures size { OnOk result (length theirs.new ≡ length theirs.old) }
 {
     let words = words_of(mine.as_slice(), span);
@@ -120,7 +121,8 @@ fn pass_ports(
     backs: &mut Seq<Back>,
 ) -> Result<(), NoMemory>
     requires { fits (length mine.old) (length theirs.old) formal (operand.Ports span) ≡ true }
-    ensures gives { OnOk result (pass formal (operand.Ports span) (passed mine.old theirs.old backs.old) ≡ passed mine.new theirs.new backs.new) }
+    ensures gives { OnOk result (pass formal (operand.Ports span) (passed mine.old theirs.old backs.old)
+        ≡ passed mine.new theirs.new backs.new) }
     ensures size { OnOk result (length theirs.new ≡ length theirs.old) }
     ensures mine { OnOk result (length mine.new ≡ length mine.old) }
 {
@@ -139,7 +141,8 @@ fn pass_one(
     backs: &mut Seq<Back>,
 ) -> Result<(), NoMemory>
     requires { fits (length mine.old) (length theirs.old) formal operand ≡ true }
-    ensures gives { OnOk result (pass formal operand (passed mine.old theirs.old backs.old) ≡ passed mine.new theirs.new backs.new) }
+    ensures gives { OnOk result
+        (pass formal operand (passed mine.old theirs.old backs.old) ≡ passed mine.new theirs.new backs.new) }
     ensures size { OnOk result (length theirs.new ≡ length theirs.old) }
     ensures mine { OnOk result (length mine.new ≡ length mine.old) }
 {
@@ -164,7 +167,8 @@ pub fn enter(
     backs: &mut Seq<Back>,
 ) -> Result<(), NoMemory>
     requires { all_fit (length mine.old) (length theirs.old) formals.now operands.now ≡ true }
-    ensures { OnOk result (pass_all formals.now operands.now (passed mine.old theirs.old backs.old) ≡ passed mine.new theirs.new backs.new) }
+    ensures { OnOk result (pass_all formals.now operands.now (passed mine.old theirs.old backs.old)
+        ≡ passed mine.new theirs.new backs.new) }
 {
     let mut formals = formals;
     let mut operands = operands;

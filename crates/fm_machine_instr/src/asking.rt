@@ -38,7 +38,9 @@ pub(crate) fn port_at(frame: &Frame, number: u32) -> Port
 
 #[inline(always)]
 fn send(alloc: Global, work: &mut Work, next: u32, frame: &Frame) -> Result<Ending, NoMemory>
-    ensures { IfOk result (λ e. Over (ended e frame.now) ≡ with_one work.old.stack (λ x s. at_port frame.now x (λ slot. asks (ask.Send slot work.old.scratch.operands next)))) }
+    ensures { IfOk result (λ e. Over (ended e frame.now)
+        ≡ with_one work.old.stack
+        (λ x s. at_port frame.now x (λ slot. asks (ask.Send slot work.old.scratch.operands next)))) }
 {
     let Some(word) = work.stack.pop() else {
         return Ok(Ending::Stuck);
@@ -64,7 +66,8 @@ fn receive(
     next: u32,
     frame: &Frame,
 ) -> Result<Ending, NoMemory>
-    ensures { IfOk result (λ e. Over (ended e frame.now) ≡ with_one work.old.stack (λ x s. receives work.old.scratch frame.now x at_end next)) }
+    ensures { IfOk result (λ e. Over (ended e frame.now)
+        ≡ with_one work.old.stack (λ x s. receives work.old.scratch frame.now x at_end next)) }
 {
     let Some(word) = work.stack.pop() else {
         return Ok(Ending::Stuck);
@@ -86,7 +89,9 @@ fn receive(
 }
 
 fn channel(work: &mut Work, next: u32, frame: &Frame) -> Result<Ending, NoMemory>
-    ensures { IfOk result (λ e. Over (ended e frame.now) ≡ with_two work.old.stack (λ x y s. at_word frame.now x (λ i. at_word frame.now y (λ o. asks (ask.Channel i o next))))) }
+    ensures { IfOk result (λ e. Over (ended e frame.now)
+        ≡ with_two work.old.stack
+        (λ x y s. at_word frame.now x (λ i. at_word frame.now y (λ o. asks (ask.Channel i o next))))) }
 {
     let Some(second) = work.stack.pop() else {
         return Ok(Ending::Stuck);
@@ -108,7 +113,9 @@ fn channel(work: &mut Work, next: u32, frame: &Frame) -> Result<Ending, NoMemory
 }
 
 fn channel_from(work: &mut Work, next: u32, frame: &Frame) -> Result<Ending, NoMemory>
-    ensures { IfOk result (λ e. Over (ended e frame.now) ≡ with_two work.old.stack (λ x y s. at_word frame.now x (λ o. at_word frame.now y (λ i. asks (ask.Channel i o next))))) }
+    ensures { IfOk result (λ e. Over (ended e frame.now)
+        ≡ with_two work.old.stack
+        (λ x y s. at_word frame.now x (λ o. at_word frame.now y (λ i. asks (ask.Channel i o next))))) }
 {
     let Some(second) = work.stack.pop() else {
         return Ok(Ending::Stuck);
@@ -130,7 +137,9 @@ fn channel_from(work: &mut Work, next: u32, frame: &Frame) -> Result<Ending, NoM
 }
 
 fn merger(alloc: Global, work: &mut Work, next: u32, frame: &Frame) -> Result<Ending, NoMemory>
-    ensures { IfOk result (λ e. Over (ended e frame.now) ≡ with_one work.old.stack (λ x s. at_word frame.now x (λ i. asks (ask.Merger i work.old.scratch.operands next)))) }
+    ensures { IfOk result (λ e. Over (ended e frame.now)
+        ≡ with_one work.old.stack
+        (λ x s. at_word frame.now x (λ i. asks (ask.Merger i work.old.scratch.operands next)))) }
 {
     let Some(word) = work.stack.pop() else {
         return Ok(Ending::Stuck);
@@ -147,7 +156,8 @@ fn merger(alloc: Global, work: &mut Work, next: u32, frame: &Frame) -> Result<En
 }
 
 fn end_channel(work: &mut Work, next: u32, frame: &Frame) -> Result<Ending, NoMemory>
-    ensures { IfOk result (λ e. Over (ended e frame.now) ≡ with_one work.old.stack (λ x s. at_word frame.now x (λ k. closes frame.now next k))) }
+    ensures { IfOk result (λ e. Over (ended e frame.now)
+        ≡ with_one work.old.stack (λ x s. at_word frame.now x (λ k. closes frame.now next k))) }
 {
     let Some(word) = work.stack.pop() else {
         return Ok(Ending::Stuck);
@@ -163,7 +173,9 @@ fn end_channel(work: &mut Work, next: u32, frame: &Frame) -> Result<Ending, NoMe
 }
 
 fn move_port(work: &mut Work, next: u32, frame: &Frame) -> Result<Ending, NoMemory>
-    ensures { IfOk result (λ e. Over (ended e frame.now) ≡ with_two work.old.stack (λ x y s. at_word frame.now x (λ from. at_word frame.now y (λ into. Over (Moves from into next))))) }
+    ensures { IfOk result (λ e. Over (ended e frame.now)
+        ≡ with_two work.old.stack
+        (λ x y s. at_word frame.now x (λ from. at_word frame.now y (λ into. Over (Moves from into next))))) }
 {
     let Some(second) = work.stack.pop() else {
         return Ok(Ending::Stuck);
@@ -181,7 +193,9 @@ fn move_port(work: &mut Work, next: u32, frame: &Frame) -> Result<Ending, NoMemo
 }
 
 fn probe(work: &mut Work, next: u32, frame: &Frame) -> Result<Ending, NoMemory>
-    ensures { IfOk result (λ e. Over (ended e frame.now) ≡ with_two work.old.stack (λ x y s. at_word frame.now y (λ k. at_port frame.now x (λ slot. asks (ask.Probe slot k next))))) }
+    ensures { IfOk result (λ e. Over (ended e frame.now)
+        ≡ with_two work.old.stack
+        (λ x y s. at_word frame.now y (λ k. at_port frame.now x (λ slot. asks (ask.Probe slot k next))))) }
 {
     let Some(second) = work.stack.pop() else {
         return Ok(Ending::Stuck);

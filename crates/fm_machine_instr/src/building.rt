@@ -18,7 +18,8 @@ use std::alloc::Global;
 /// The words of a span, if the frame has them.
 #[inline(always)]
 pub(crate) fn span_of(words: &Seq<i64>, span: Span) -> Option<&[i64]>
-    ensures { MatchOption result (has_span (length words.now) span ≡ false) (λ ws. (has_span (length words.now) span ≡ true) × (ws.now ≡ span_of words.now span)) }
+    ensures { MatchOption result (has_span (length words.now) span ≡ false)
+        (λ ws. (has_span (length words.now) span ≡ true) × (ws.now ≡ span_of words.now span)) }
 {
     let words = words.as_slice();
     let first = span.first as usize;
@@ -47,7 +48,8 @@ pub(crate) fn word_number(frame: &Frame, word: i64) -> Result<Option<u32>, NoMem
 }
 
 fn show_text(alloc: Global, work: &mut Work) -> Result<Progress, NoMemory>
-    ensures { IfOk result (λ p. progressed p work.new.stack work.new.scratch ≡ On work.old.stack (record (shown work.old.scratch (printed.Text work.old.scratch.text ∷ [])) { text = [] })) }
+    ensures { IfOk result (λ p. progressed p work.new.stack work.new.scratch
+        ≡ On work.old.stack (record (shown work.old.scratch (printed.Text work.old.scratch.text ∷ [])) { text = [] })) }
 {
     let text = work.scratch.text.take(alloc);
     work.scratch.line.push(Printed::Text(text))?;
@@ -55,7 +57,8 @@ fn show_text(alloc: Global, work: &mut Work) -> Result<Progress, NoMemory>
 }
 
 fn show_number(work: &mut Work) -> Result<Progress, NoMemory>
-    ensures { IfOk result (λ p. progressed p work.new.stack work.new.scratch ≡ with_one work.old.stack (λ x s. On s (shown work.old.scratch (number_item x ∷ [])))) }
+    ensures { IfOk result (λ p. progressed p work.new.stack work.new.scratch
+        ≡ with_one work.old.stack (λ x s. On s (shown work.old.scratch (number_item x ∷ [])))) }
 {
     let Some(word) = work.stack.pop() else {
         return Ok(Progress::Stuck);
@@ -65,7 +68,8 @@ fn show_number(work: &mut Work) -> Result<Progress, NoMemory>
 }
 
 fn show_truth(work: &mut Work) -> Result<Progress, NoMemory>
-    ensures { IfOk result (λ p. progressed p work.new.stack work.new.scratch ≡ with_one work.old.stack (λ x s. On s (shown work.old.scratch (truth_item x ∷ [])))) }
+    ensures { IfOk result (λ p. progressed p work.new.stack work.new.scratch
+        ≡ with_one work.old.stack (λ x s. On s (shown work.old.scratch (truth_item x ∷ [])))) }
 {
     let Some(word) = work.stack.pop() else {
         return Ok(Progress::Stuck);
@@ -93,7 +97,8 @@ fn push_truths(line: &mut Seq<Printed>, words: &[i64]) -> Result<(), NoMemory>
 }
 
 fn show_numbers(work: &mut Work, span: Span, frame: &Frame) -> Result<Progress, NoMemory>
-    ensures { IfOk result (λ p. progressed p work.new.stack work.new.scratch ≡ spanned frame.now span (λ ws. On work.old.stack (shown work.old.scratch (map number_item ws)))) }
+    ensures { IfOk result (λ p. progressed p work.new.stack work.new.scratch
+        ≡ spanned frame.now span (λ ws. On work.old.stack (shown work.old.scratch (map number_item ws)))) }
 {
     let Some(words) = span_of(&frame.words, span) else {
         return Ok(Progress::Stuck);
@@ -103,7 +108,8 @@ fn show_numbers(work: &mut Work, span: Span, frame: &Frame) -> Result<Progress, 
 }
 
 fn show_truths(work: &mut Work, span: Span, frame: &Frame) -> Result<Progress, NoMemory>
-    ensures { IfOk result (λ p. progressed p work.new.stack work.new.scratch ≡ spanned frame.now span (λ ws. On work.old.stack (shown work.old.scratch (map truth_item ws)))) }
+    ensures { IfOk result (λ p. progressed p work.new.stack work.new.scratch
+        ≡ spanned frame.now span (λ ws. On work.old.stack (shown work.old.scratch (map truth_item ws)))) }
 {
     let Some(words) = span_of(&frame.words, span) else {
         return Ok(Progress::Stuck);
@@ -114,7 +120,8 @@ fn show_truths(work: &mut Work, span: Span, frame: &Frame) -> Result<Progress, N
 
 #[inline(always)]
 fn pass(work: &mut Work, operand: Operand) -> Result<Progress, NoMemory>
-    ensures { IfOk result (λ p. progressed p work.new.stack work.new.scratch ≡ On work.old.stack (passed work.old.scratch operand)) }
+    ensures { IfOk result
+        (λ p. progressed p work.new.stack work.new.scratch ≡ On work.old.stack (passed work.old.scratch operand)) }
 {
     work.scratch.operands.push(operand)?;
     Ok(Progress::On)
@@ -122,7 +129,8 @@ fn pass(work: &mut Work, operand: Operand) -> Result<Progress, NoMemory>
 
 #[inline(always)]
 fn pass_value(work: &mut Work) -> Result<Progress, NoMemory>
-    ensures { IfOk result (λ p. progressed p work.new.stack work.new.scratch ≡ with_one work.old.stack (λ x s. On s (passed work.old.scratch (operand.Value x)))) }
+    ensures { IfOk result (λ p. progressed p work.new.stack work.new.scratch
+        ≡ with_one work.old.stack (λ x s. On s (passed work.old.scratch (operand.Value x)))) }
 {
     let Some(word) = work.stack.pop() else {
         return Ok(Progress::Stuck);
@@ -132,7 +140,9 @@ fn pass_value(work: &mut Work) -> Result<Progress, NoMemory>
 
 #[inline(always)]
 fn pass_span(work: &mut Work, span: Span, port: bool, frame: &Frame) -> Result<Progress, NoMemory>
-    ensures { IfOk result (λ p. progressed p work.new.stack work.new.scratch ≡ spanned frame.now span (λ ws. On work.old.stack (passed work.old.scratch (if port then operand.Ports span else operand.Words span)))) }
+    ensures { IfOk result (λ p. progressed p work.new.stack work.new.scratch
+        ≡ spanned frame.now span
+        (λ ws. On work.old.stack (passed work.old.scratch (if port then operand.Ports span else operand.Words span)))) }
 {
     if span_of(&frame.words, span).is_none() {
         return Ok(Progress::Stuck);
@@ -145,7 +155,9 @@ fn pass_span(work: &mut Work, span: Span, port: bool, frame: &Frame) -> Result<P
 }
 
 fn pass_at(work: &mut Work, port: bool, frame: &Frame) -> Result<Progress, NoMemory>
-    ensures { IfOk result (λ p. progressed p work.new.stack work.new.scratch ≡ with_one work.old.stack (λ x s. at_word frame.now x (λ k. On s (passed work.old.scratch (if port then operand.Ports (single k) else operand.Words (single k)))))) }
+    ensures { IfOk result (λ p. progressed p work.new.stack work.new.scratch
+        ≡ with_one work.old.stack (λ x s. at_word frame.now x
+        (λ k. On s (passed work.old.scratch (if port then operand.Ports (single k) else operand.Words (single k)))))) }
 {
     let Some(word) = work.stack.pop() else {
         return Ok(Progress::Stuck);
@@ -162,7 +174,9 @@ fn pass_at(work: &mut Work, port: bool, frame: &Frame) -> Result<Progress, NoMem
 }
 
 fn status(work: &mut Work, frame: &Frame) -> Result<Progress, NoMemory>
-    ensures { IfOk result (λ p. progressed p work.new.stack work.new.scratch ≡ with_one work.old.stack (λ x s. at_word frame.now x (λ k. On s (record work.old.scratch { status = Some k })))) }
+    ensures { IfOk result (λ p. progressed p work.new.stack work.new.scratch
+        ≡ with_one work.old.stack
+        (λ x s. at_word frame.now x (λ k. On s (record work.old.scratch { status = Some k })))) }
 {
     let Some(word) = work.stack.pop() else {
         return Ok(Progress::Stuck);
@@ -175,7 +189,8 @@ fn status(work: &mut Work, frame: &Frame) -> Result<Progress, NoMemory>
 }
 
 fn location(alloc: Global, work: &mut Work, count: u32) -> Result<Progress, NoMemory>
-    ensures { IfOk result (λ p. progressed p work.new.stack work.new.scratch ≡ with_words count work.old.stack (λ xs s. On s (record work.old.scratch { place = place.Location xs }))) }
+    ensures { IfOk result (λ p. progressed p work.new.stack work.new.scratch
+        ≡ with_words count work.old.stack (λ xs s. On s (record work.old.scratch { place = place.Location xs }))) }
 {
     let count = count as usize;
     let subscripts = match work.stack.top(count) {
@@ -188,7 +203,9 @@ fn location(alloc: Global, work: &mut Work, count: u32) -> Result<Progress, NoMe
 }
 
 fn submachine(work: &mut Work) -> Result<Progress, NoMemory>
-    ensures { IfOk result (λ p. progressed p work.new.stack work.new.scratch ≡ with_two work.old.stack (λ low high s. On s (record work.old.scratch { place = place.Submachine low high }))) }
+    ensures { IfOk result (λ p. progressed p work.new.stack work.new.scratch
+        ≡ with_two work.old.stack
+        (λ low high s. On s (record work.old.scratch { place = place.Submachine low high }))) }
 {
     let Some(high) = work.stack.pop() else {
         return Ok(Progress::Stuck);
@@ -208,7 +225,8 @@ pub(crate) fn build(
     work: &mut Work,
     frame: &Frame,
 ) -> Result<Progress, NoMemory>
-    ensures { IfOk result (λ p. progressed p work.new.stack work.new.scratch ≡ builds instr work.old.stack work.old.scratch frame.now) }
+    ensures { IfOk result
+        (λ p. progressed p work.new.stack work.new.scratch ≡ builds instr work.old.stack work.old.scratch frame.now) }
 {
     match instr {
         Build::Letter(byte) => {

@@ -82,7 +82,8 @@ fn cut_to(size: i64, operand: Operand) -> Result<Operand, Fault>
 
 /// An operand is cut to the number that an earlier one is.
 fn cut_operand(work: &mut Work, item: usize, size: usize, frame: &Frame) -> Progress
-    ensures { progressed result work.new.stack work.new.scratch ≡ cuts item size work.old.stack work.old.scratch frame.now }
+    ensures { progressed result work.new.stack work.new.scratch
+        ≡ cuts item size work.old.stack work.old.scratch frame.now }
 {
     let Some(operand) = work.scratch.operands.get(item) else {
         return Progress::On;
@@ -104,7 +105,9 @@ pub(crate) fn cut(
     size: u32,
     frame: &Frame,
 ) -> Result<Progress, NoMemory>
-    ensures { IfOk result (λ p. progressed p work.new.stack work.new.scratch ≡ with_one work.old.stack (λ x s. at_port frame.now x (λ slot. cuts item size work.old.stack work.old.scratch frame.now))) }
+    ensures { IfOk result (λ p. progressed p work.new.stack work.new.scratch
+        ≡ with_one work.old.stack
+        (λ x s. at_port frame.now x (λ slot. cuts item size work.old.stack work.old.scratch frame.now))) }
 {
     let Some(word) = work.stack.peek() else {
         return Ok(Progress::Stuck);

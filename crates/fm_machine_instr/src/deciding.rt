@@ -25,7 +25,8 @@ fn go(to: u32, frame: &Frame) -> Ending
 }
 
 fn test(work: &mut Work, holding: u32, failing: u32, frame: &Frame) -> Ending
-    ensures { Over (ended result frame.now) ≡ with_one work.old.stack (λ x s. Over (Goes (cond (is_truth x) holding failing) frame.now)) }
+    ensures { Over (ended result frame.now)
+        ≡ with_one work.old.stack (λ x s. Over (Goes (cond (is_truth x) holding failing) frame.now)) }
 {
     let Some(word) = work.stack.pop() else {
         return Ending::Stuck;
@@ -59,7 +60,8 @@ fn store(work: &mut Work, number: u32, to: u32, frame: &Frame) -> Ending
 }
 
 fn store_at(work: &mut Work, to: u32, frame: &Frame) -> Result<Ending, NoMemory>
-    ensures { IfOk result (λ e. Over (ended e frame.now) ≡ with_two work.old.stack (λ x v s. at_word frame.now x (λ k. stored to k v frame.now))) }
+    ensures { IfOk result (λ e. Over (ended e frame.now)
+        ≡ with_two work.old.stack (λ x v s. at_word frame.now x (λ k. stored to k v frame.now))) }
 {
     let Some(value) = work.stack.pop() else {
         return Ok(Ending::Stuck);
@@ -74,7 +76,9 @@ fn store_at(work: &mut Work, to: u32, frame: &Frame) -> Result<Ending, NoMemory>
 }
 
 fn enter_loop(work: &mut Work, ways: Ways, frame: &Frame) -> Ending
-    ensures { Over (ended result frame.now) ≡ with_three work.old.stack (λ from to by s. found work.old.scratch.counts (λ l. enters l ways.body ways.behind from to by frame.now)) }
+    ensures { Over (ended result frame.now)
+        ≡ with_three work.old.stack
+        (λ from to by s. found work.old.scratch.counts (λ l. enters l ways.body ways.behind from to by frame.now)) }
 {
     let Some(by) = work.stack.pop() else {
         return Ending::Stuck;
@@ -92,7 +96,9 @@ fn enter_loop(work: &mut Work, ways: Ways, frame: &Frame) -> Ending
 }
 
 fn end_trip_of_loop(work: &Work, ways: Ways, frame: &Frame) -> Ending
-    ensures { Over (ended result frame.now) ≡ found work.now.scratch.counts (λ l. found (slice_get frame.now.loops l.number) (λ t. ends_trip l ways.body ways.behind t frame.now)) }
+    ensures { Over (ended result frame.now)
+        ≡ found work.now.scratch.counts
+        (λ l. found (slice_get frame.now.loops l.number) (λ t. ends_trip l ways.body ways.behind t frame.now)) }
 {
     let Some(counts) = work.scratch.counts else {
         return Ending::Stuck;
@@ -114,7 +120,8 @@ fn return_value(number: u32, frame: &Frame) -> Ending
 
 /// How a statement of the process alone ends.
 pub(crate) fn decide(instr: End, work: &mut Work, frame: &Frame) -> Result<StatementEnd, NoMemory>
-    ensures { IfOk result (λ t. Over (told_end t work.new.scratch frame.now) ≡ ends instr work.old.stack work.old.scratch frame.now) }
+    ensures { IfOk result
+        (λ t. Over (told_end t work.new.scratch frame.now) ≡ ends instr work.old.stack work.old.scratch frame.now) }
 {
     match instr {
         End::Goto(to) => Ok(StatementEnd::Over(go(to, frame))),

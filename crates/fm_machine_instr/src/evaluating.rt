@@ -28,7 +28,8 @@ pub fn distance(low: i64, extent: u32, subscript: i64) -> Result<i64, Fault>
 }
 
 fn subscript(work: &mut Work, low: i64, extent: u32) -> Result<Progress, NoMemory>
-    ensures { IfOk result (λ p. progressed p work.new.stack work.new.scratch ≡ with_one work.old.stack (λ x s. gives (distance low extent x) (λ d. On (d ∷ s) work.old.scratch))) }
+    ensures { IfOk result (λ p. progressed p work.new.stack work.new.scratch
+        ≡ with_one work.old.stack (λ x s. gives (distance low extent x) (λ d. On (d ∷ s) work.old.scratch))) }
 {
     let Some(subscript) = work.stack.pop() else {
         return Ok(Progress::Stuck);
@@ -43,7 +44,9 @@ fn push_place(
     extent: u32,
     place: i64,
 ) -> Result<Progress, NoMemory>
-    ensures { IfOk result (λ p. progressed p work.new.stack work.new.scratch ≡ gives distance (λ d. gives (product (pos extent) place) (λ p. gives (sum d p) (λ n. On (n ∷ work.old.stack) work.old.scratch)))) }
+    ensures { IfOk result (λ p. progressed p work.new.stack work.new.scratch
+        ≡ gives distance (λ d. gives (product (pos extent) place)
+        (λ p. gives (sum d p) (λ n. On (n ∷ work.old.stack) work.old.scratch)))) }
 {
     match (distance, multiply(i64::from(extent), place)) {
         (Err(fault), _) => Ok(Progress::Fails(fault)),
@@ -53,7 +56,8 @@ fn push_place(
 }
 
 fn dimension(work: &mut Work, low: i64, extent: u32) -> Result<Progress, NoMemory>
-    ensures { IfOk result (λ p. progressed p work.new.stack work.new.scratch ≡ with_two work.old.stack (λ x place s. dimension low extent x place work.old.scratch s)) }
+    ensures { IfOk result (λ p. progressed p work.new.stack work.new.scratch
+        ≡ with_two work.old.stack (λ x place s. dimension low extent x place work.old.scratch s)) }
 {
     let Some(place) = work.stack.pop() else {
         return Ok(Progress::Stuck);
@@ -75,7 +79,9 @@ pub fn word_of(frame: &Frame, number: i64) -> Option<i64>
 }
 
 fn element(work: &mut Work, first: u32, frame: &Frame) -> Result<Progress, NoMemory>
-    ensures { IfOk result (λ p. progressed p work.new.stack work.new.scratch ≡ with_one work.old.stack (λ n s. gives (sum (pos first) n) (λ k. found (word_of frame.now k) (λ v. On (v ∷ s) work.old.scratch)))) }
+    ensures { IfOk result (λ p. progressed p work.new.stack work.new.scratch
+        ≡ with_one work.old.stack
+        (λ n s. gives (sum (pos first) n) (λ k. found (word_of frame.now k) (λ v. On (v ∷ s) work.old.scratch)))) }
 {
     let Some(place) = work.stack.pop() else {
         return Ok(Progress::Stuck);
@@ -87,7 +93,8 @@ fn element(work: &mut Work, first: u32, frame: &Frame) -> Result<Progress, NoMem
 }
 
 fn locate(work: &mut Work, first: u32) -> Result<Progress, NoMemory>
-    ensures { IfOk result (λ p. progressed p work.new.stack work.new.scratch ≡ with_one work.old.stack (λ n s. gives (sum (pos first) n) (λ k. On (k ∷ s) work.old.scratch))) }
+    ensures { IfOk result (λ p. progressed p work.new.stack work.new.scratch
+        ≡ with_one work.old.stack (λ n s. gives (sum (pos first) n) (λ k. On (k ∷ s) work.old.scratch))) }
 {
     let Some(place) = work.stack.pop() else {
         return Ok(Progress::Stuck);
@@ -97,7 +104,8 @@ fn locate(work: &mut Work, first: u32) -> Result<Progress, NoMemory>
 
 #[inline(always)]
 fn apply(work: &mut Work, op: Op) -> Result<Progress, NoMemory>
-    ensures { IfOk result (λ p. progressed p work.new.stack work.new.scratch ≡ with_two work.old.stack (λ x y s. gives (applied_words op x y) (λ v. On (v ∷ s) work.old.scratch))) }
+    ensures { IfOk result (λ p. progressed p work.new.stack work.new.scratch
+        ≡ with_two work.old.stack (λ x y s. gives (applied_words op x y) (λ v. On (v ∷ s) work.old.scratch))) }
 {
     let Some(right) = work.stack.pop() else {
         return Ok(Progress::Stuck);
@@ -109,7 +117,8 @@ fn apply(work: &mut Work, op: Op) -> Result<Progress, NoMemory>
 }
 
 fn opposite(work: &mut Work) -> Result<Progress, NoMemory>
-    ensures { IfOk result (λ p. progressed p work.new.stack work.new.scratch ≡ with_one work.old.stack (λ x s. gives (opposite x) (λ v. On (v ∷ s) work.old.scratch))) }
+    ensures { IfOk result (λ p. progressed p work.new.stack work.new.scratch
+        ≡ with_one work.old.stack (λ x s. gives (opposite x) (λ v. On (v ∷ s) work.old.scratch))) }
 {
     let Some(word) = work.stack.pop() else {
         return Ok(Progress::Stuck);
@@ -118,7 +127,8 @@ fn opposite(work: &mut Work) -> Result<Progress, NoMemory>
 }
 
 fn other_truth(work: &mut Work) -> Result<Progress, NoMemory>
-    ensures { IfOk result (λ p. progressed p work.new.stack work.new.scratch ≡ with_one work.old.stack (λ x s. On (truth_word (not (is_truth x)) ∷ s) work.old.scratch)) }
+    ensures { IfOk result (λ p. progressed p work.new.stack work.new.scratch
+        ≡ with_one work.old.stack (λ x s. On (truth_word (not (is_truth x)) ∷ s) work.old.scratch)) }
 {
     let Some(word) = work.stack.pop() else {
         return Ok(Progress::Stuck);
@@ -127,7 +137,9 @@ fn other_truth(work: &mut Work) -> Result<Progress, NoMemory>
 }
 
 fn intrinsic(work: &mut Work, function: Intrinsic, count: u32) -> Result<Progress, NoMemory>
-    ensures { IfOk result (λ p. progressed p work.new.stack work.new.scratch ≡ with_words count work.old.stack (λ xs s. gives (intrinsic_value function xs) (λ v. On (v ∷ s) work.old.scratch))) }
+    ensures { IfOk result (λ p. progressed p work.new.stack work.new.scratch
+        ≡ with_words count work.old.stack
+        (λ xs s. gives (intrinsic_value function xs) (λ v. On (v ∷ s) work.old.scratch))) }
 {
     let count = count as usize;
     let value = match work.stack.top(count) {
@@ -141,7 +153,8 @@ fn intrinsic(work: &mut Work, function: Intrinsic, count: u32) -> Result<Progres
 /// Does an instruction that evaluates.
 #[inline(always)]
 pub(crate) fn evaluate(instr: Eval, work: &mut Work, frame: &Frame) -> Result<Progress, NoMemory>
-    ensures { IfOk result (λ p. progressed p work.new.stack work.new.scratch ≡ evaluates instr work.old.stack work.old.scratch frame.now) }
+    ensures { IfOk result (λ p. progressed p work.new.stack work.new.scratch
+        ≡ evaluates instr work.old.stack work.old.scratch frame.now) }
 {
     match instr {
         Eval::Push(word) => work.push(word),

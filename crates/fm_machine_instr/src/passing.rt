@@ -53,7 +53,8 @@ fn passing_by(end: End, frame: &Frame, operands: &Seq<Operand>) -> Passing
     }
 }
 
-/// Tells at once how the next statement of a frame ends, where it passes words of the frame alone: the operands are what it passes.
+/// Tells at once how the next statement of a frame ends, where it passes words of the frame alone: the operands are
+/// what it passes.
 pub fn tell_passing(code: &[Instr], frame: &Frame, operands: &mut Seq<Operand>) -> Passing
     ensures { IsTold result (statement code.now frame.now.address frame.now) operands.new }
 {

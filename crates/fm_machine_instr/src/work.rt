@@ -65,7 +65,8 @@ impl Work {
     /// A word goes on the stack.
     #[inline(always)]
     pub(crate) fn push(&mut self, word: i64) -> Result<Progress, NoMemory>
-        ensures { IfOk result (λ p. progressed p self.new.stack self.new.scratch ≡ On (word ∷ self.old.stack) self.old.scratch) }
+        ensures { IfOk result
+            (λ p. progressed p self.new.stack self.new.scratch ≡ On (word ∷ self.old.stack) self.old.scratch) }
     {
         self.stack.push(word)?;
         Ok(Progress::On)
@@ -74,7 +75,8 @@ impl Work {
     /// A word goes on the stack, if it is there.
     #[inline(always)]
     pub(crate) fn push_found(&mut self, word: Option<i64>) -> Result<Progress, NoMemory>
-        ensures { IfOk result (λ p. progressed p self.new.stack self.new.scratch ≡ found word (λ v. On (v ∷ self.old.stack) self.old.scratch)) }
+        ensures { IfOk result (λ p. progressed p self.new.stack self.new.scratch
+            ≡ found word (λ v. On (v ∷ self.old.stack) self.old.scratch)) }
     {
         match word {
             Some(word) => self.push(word),
@@ -85,7 +87,8 @@ impl Work {
     /// A value goes on the stack, or the statement faults.
     #[inline(always)]
     pub(crate) fn push_value(&mut self, value: Result<i64, Fault>) -> Result<Progress, NoMemory>
-        ensures { IfOk result (λ p. progressed p self.new.stack self.new.scratch ≡ gives value (λ v. On (v ∷ self.old.stack) self.old.scratch)) }
+        ensures { IfOk result (λ p. progressed p self.new.stack self.new.scratch
+            ≡ gives value (λ v. On (v ∷ self.old.stack) self.old.scratch)) }
     {
         match value {
             Ok(word) => self.push(word),

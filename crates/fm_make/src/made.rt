@@ -10,7 +10,8 @@ use fm_base::NoMemory;
 use std::alloc::Global;
 
 fn push_stages(out: &mut String, number: u64, stages: u64) -> Result<(), NoMemory>
-    ensures { OnOk result (string_bytes out.new ≡ string_bytes out.old ++ for_stages (λ stage. stage_text stage (step_of number stage)) stages) }
+    ensures { OnOk result (string_bytes out.new
+        ≡ string_bytes out.old ++ for_stages (λ stage. stage_text stage (step_of number stage)) stages) }
 {
     for stage in 1..=stages {
         push_stage(out, stage, step_of(number, stage))?;

@@ -23,7 +23,8 @@ fn place_in_front(extent: u32, subscript: i64, behind: u32) -> u64
     u64::from(extent) * u64::from(behind) + offset
 }
 
-// The place of subscripts from 1 in column order, where it is one of so many; none where a subscript is outside its extent.
+// The place of subscripts from 1 in column order, where it is one of so many; none where a subscript is outside its
+// extent.
 fn place_in(count: u32, extents: &[u32], subscripts: &[i64]) -> Option<u32>
     ensures { result ≡ one_of count (place_in extents.now subscripts.now) }
 {
@@ -47,8 +48,9 @@ fn place_in(count: u32, extents: &[u32], subscripts: &[i64]) -> Option<u32>
     }
 }
 
-/// The node of a machine at subscripts from 1 in a shape of these extents, in column order. None exactly where there are not as many
-/// subscripts as extents, or one is outside 1 to its extent, or the machine has no such node. Takes no memory.
+/// The node of a machine at subscripts from 1 in a shape of these extents, in column order. None exactly where there
+/// are not as many subscripts as extents, or one is outside 1 to its extent, or the machine has no such node. Takes no
+/// memory.
 pub fn place(machine: Machine, extents: &[u32], subscripts: &[i64]) -> Option<u32>
     ensures { result ≡ node_of machine extents.now subscripts.now }
 {

@@ -7,7 +7,8 @@ use crate::nodes::is_numbered;
 use fm_base::Machine;
 
 /// The nodes of a machine from `low` to `high`, both counted from 1. None exactly where they aren't
-/// `1 <= low <= high <= machine.count`, or a node of the machine would have a number over 4,294,967,295. Takes no memory.
+/// `1 <= low <= high <= machine.count`, or a node of the machine would have a number over 4,294,967,295. Takes no
+/// memory.
 pub fn part(machine: Machine, low: i64, high: i64) -> Option<Machine>
     ensures { result ≡ part_of machine low high }
 {

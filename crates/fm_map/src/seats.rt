@@ -78,7 +78,8 @@ pub fn parted(machine: Machine, low: i64, high: i64) -> Seat
     at_first(part(machine, low, high))
 }
 
-/// What a unit takes of the machine at which it is put: as many nodes as its shape has, from the first on. Takes no memory.
+/// What a unit takes of the machine at which it is put: as many nodes as its shape has, from the first on. Takes no
+/// memory.
 pub fn fitted(extents: &[u32], machine: Machine, node: u32) -> Seat
     ensures { result ≡ fitted extents.now (machine, node) }
 {

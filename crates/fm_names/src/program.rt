@@ -64,7 +64,8 @@ fn add_unit(
     names: &mut Seq<UnitNames>,
 ) -> Result<Option<Refusal>, NoMemory>
     ensures best { IfOk result (λ least. least ≡ least_from best (broken_in titles.now unit.now)) }
-    ensures names { IfOk result (λ least. names.new ≡ names.old ++ names_unless least (unit_names titles.now unit.now)) }
+    ensures names { IfOk result
+        (λ least. names.new ≡ names.old ++ names_unless least (unit_names titles.now unit.now)) }
 {
     let sheet = make_sheet(alloc, unit)?;
     let best = judge_unit(alloc, titles, unit, &sheet, best)?;

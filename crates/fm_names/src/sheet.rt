@@ -65,7 +65,8 @@ fn add_kinds_at(
     placed: &Placed,
     kinds: &mut NameMap<Kind>,
 ) -> Result<(), NoMemory>
-    ensures { OnOk result (kinds.new ≡ with_all kinds.old (with_values kept_field_kind (kinds_at known.now at placed.now))) }
+    ensures { OnOk result
+        (kinds.new ≡ with_all kinds.old (with_values kept_field_kind (kinds_at known.now at placed.now))) }
 {
     match kind_in(alloc, known, at, &placed.stmt)? {
         Some(kind) => add_kinds(alloc, &kind, decls_of(&placed.stmt), kinds),
@@ -79,7 +80,8 @@ fn add_all_kinds(
     specs: &[Placed],
     kinds: &mut NameMap<Kind>,
 ) -> Result<(), NoMemory>
-    ensures { OnOk result (kinds.new ≡ with_all kinds.old (with_values kept_field_kind (kinds_from known.now 0 specs.now))) }
+    ensures { OnOk result
+        (kinds.new ≡ with_all kinds.old (with_values kept_field_kind (kinds_from known.now 0 specs.now))) }
 {
     'specs: for at in 0..specs.len() {
         add_kinds_at(alloc, known, at, &specs[at], kinds)?;
@@ -100,7 +102,9 @@ fn add_own_kind(alloc: Global, heading: &Stmt, kinds: &mut NameMap<Kind>) -> Res
 
 #[tactic(auto, using(fm_symbols::proofs::Maps::with_all_append, crate::proofs::KeptMaps::with_values_append, crate::proofs::KeptSheets::own_kept))]
 fn kinds(alloc: Global, known: &NameMap<Known>, unit: &Unit) -> Result<NameMap<Kind>, NoMemory>
-    ensures { IfOk result (λ m. m ≡ first_of_each (with_values kept_field_kind (own_kind unit.now.heading.stmt ++ kinds_from known.now 0 unit.now.specs))) }
+    ensures { IfOk result (λ m. m
+        ≡ first_of_each
+        (with_values kept_field_kind (own_kind unit.now.heading.stmt ++ kinds_from known.now 0 unit.now.specs))) }
 {
     let mut kinds = NameMap::new(alloc);
     add_own_kind(alloc, &unit.heading.stmt, &mut kinds)?;
@@ -134,7 +138,8 @@ fn add_shape(
     bounds: &[Bound],
     arrays: &mut NameMap<ArrayShape>,
 ) -> Result<(), NoMemory>
-    ensures { OnOk result (arrays.new ≡ with_all arrays.old (with_values kept_array (shape_entries known.now at name.now bounds.now))) }
+    ensures { OnOk result
+        (arrays.new ≡ with_all arrays.old (with_values kept_array (shape_entries known.now at name.now bounds.now))) }
 {
     if bounds.is_empty() {
         return Ok(());
@@ -150,7 +155,8 @@ fn add_shapes(
     decls: &[Decl],
     arrays: &mut NameMap<ArrayShape>,
 ) -> Result<(), NoMemory>
-    ensures { OnOk result (arrays.new ≡ with_all arrays.old (with_values kept_array (flat_map (decl_shapes known.now at) decls.now))) }
+    ensures { OnOk result
+        (arrays.new ≡ with_all arrays.old (with_values kept_array (flat_map (decl_shapes known.now at) decls.now))) }
 {
     'decls: for decl in decls {
         let bounds = decl.bounds.as_slice();

@@ -133,8 +133,10 @@ pub(crate) fn lay_out(
     sheet: &Sheet,
     first: &[Occurrence],
 ) -> Result<Layout, NoMemory>
-    ensures variables { IfOk result (λ l. l.variables ≡ laid_out sheet.now 0 (variables_among titles.now heading.now sheet.now first.now)) }
-    ensures words { IfOk result (λ l. l.words ≡ all_words sheet.now (variables_among titles.now heading.now sheet.now first.now)) }
+    ensures variables { IfOk result
+        (λ l. l.variables ≡ laid_out sheet.now 0 (variables_among titles.now heading.now sheet.now first.now)) }
+    ensures words { IfOk result
+        (λ l. l.words ≡ all_words sheet.now (variables_among titles.now heading.now sheet.now first.now)) }
 {
     let mut layout = Layout {
         variables: Seq::new(alloc),

@@ -114,7 +114,8 @@ fn shape_with(shape: Shape, dimension: Option<(i64, i64)>) -> Shape
     }
 }
 
-/// What the bounds of an array come to, with the elements as they are kept. The bounds stand in the statement at this place.
+/// What the bounds of an array come to, with the elements as they are kept. The bounds stand in the statement at this
+/// place.
 #[tactic(auto, using(crate::proofs::Shapes::comes_alone))]
 pub(crate) fn shape_of(known: &NameMap<Known>, place: usize, bounds: &[Bound]) -> Shape
     ensures { result ≡ kept_shape (shape_of known.now place bounds.now) }
@@ -138,8 +139,8 @@ pub(crate) fn machine_shape(known: &NameMap<Known>, place: usize, extents: &[Exp
     shape
 }
 
-/// The elements, and so the words, of what is declared with bounds: 1 where there are none, 0 where one is no constant or
-/// under its lower. Where there are more than 65,536, it is 65,537.
+/// The elements, and so the words, of what is declared with bounds: 1 where there are none, 0 where one is no constant
+/// or under its lower. Where there are more than 65,536, it is 65,537.
 pub fn elements(known: &NameMap<Known>, place: usize, bounds: &[Bound]) -> u32
     ensures { result ≡ kept (elements known.now place bounds.now) }
 {

@@ -230,8 +230,8 @@ fn judge_statement(
 }
 
 /// The earliest of the best so far and of what is broken in the constants, bounds and types of messages of the
-/// specification statements of a unit: bad bounds, what is no constant, and messages of too many words. `known` and `types`
-/// are of the same statements.
+/// specification statements of a unit: bad bounds, what is no constant, and messages of too many words. `known` and
+/// `types` are of the same statements.
 pub fn judge_constants(
     known: &NameMap<Known>,
     types: &Types,

@@ -100,8 +100,8 @@ fn push_entries(
     Ok(())
 }
 
-/// The constants that have a value, each once, in the order of their definitions, of what `constants` answers for the same
-/// statements.
+/// The constants that have a value, each once, in the order of their definitions, of what `constants` answers for the
+/// same statements.
 pub fn constant_list(
     alloc: Global,
     known: &NameMap<Known>,

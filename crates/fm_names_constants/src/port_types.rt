@@ -78,8 +78,8 @@ fn normal_bounds(
     }
 }
 
-/// The type without names, each array by its number of elements alone, as it is kept, or by the place of the field that sizes
-/// it. The type stands in the statement at this place.
+/// The type without names, each array by its number of elements alone, as it is kept, or by the place of the field that
+/// sizes it. The type stands in the statement at this place.
 #[cycle(normal_port_type)]
 pub fn normal_port_type(
     alloc: Global,

@@ -41,7 +41,8 @@ fn note_bounds(
     bounds: &[Bound],
     notes: &mut Notes,
 ) -> Result<(), NoMemory>
-    ensures { OnOk result (notes.new ≡ with_facts titles.now heading.now notes.old (bounds_facts line name.now bounds.now)) }
+    ensures { OnOk result
+        (notes.new ≡ with_facts titles.now heading.now notes.old (bounds_facts line name.now bounds.now)) }
 {
     if bounds.is_empty() {
         return Ok(());
@@ -97,7 +98,8 @@ fn note_dimensions(
     decls: &[Decl],
     notes: &mut Notes,
 ) -> Result<(), NoMemory>
-    ensures { OnOk result (notes.new ≡ with_facts titles.now heading.now notes.old (flat_map (dimension_facts line) decls.now)) }
+    ensures { OnOk result
+        (notes.new ≡ with_facts titles.now heading.now notes.old (flat_map (dimension_facts line) decls.now)) }
 {
     'decls: for decl in decls {
         let bounds = decl.bounds.as_slice();
@@ -114,7 +116,8 @@ fn note_constants(
     constants: &[Defined],
     notes: &mut Notes,
 ) -> Result<(), NoMemory>
-    ensures { OnOk result (notes.new ≡ with_facts titles.now heading.now notes.old (map (constant_fact line) constants.now)) }
+    ensures { OnOk result
+        (notes.new ≡ with_facts titles.now heading.now notes.old (map (constant_fact line) constants.now)) }
 {
     'constants: for constant in constants {
         let name = &constant.name;
@@ -141,7 +144,8 @@ fn note_function(
     formals: &[Name],
     notes: &mut Notes,
 ) -> Result<(), NoMemory>
-    ensures { OnOk result (notes.new ≡ with_facts titles.now heading.now notes.old (fact line Own name.now ∷ name_facts line Formal formals.now)) }
+    ensures { OnOk result (notes.new
+        ≡ with_facts titles.now heading.now notes.old (fact line Own name.now ∷ name_facts line Formal formals.now)) }
 {
     note(alloc, titles, heading, line, Aspect::Own, name, notes)?;
     note_names(alloc, titles, heading, line, Aspect::Formal, formals, notes)
@@ -156,7 +160,9 @@ fn note_typed_function(
     formals: &[Name],
     notes: &mut Notes,
 ) -> Result<(), NoMemory>
-    ensures { OnOk result (notes.new ≡ with_facts titles.now heading.now notes.old (fact line Own name.now ∷ fact line Value name.now ∷ name_facts line Formal formals.now)) }
+    ensures { OnOk result (notes.new
+        ≡ with_facts titles.now heading.now notes.old
+        (fact line Own name.now ∷ fact line Value name.now ∷ name_facts line Formal formals.now)) }
 {
     note(alloc, titles, heading, line, Aspect::Own, name, notes)?;
     note(alloc, titles, heading, line, Aspect::Value, name, notes)?;

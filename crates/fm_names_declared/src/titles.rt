@@ -14,7 +14,9 @@ use fm_tree::{Stmt, Unit};
 use std::alloc::Global;
 
 fn add_title(alloc: Global, unit: &Unit, titles: &mut NameMap<bool>) -> Result<(), NoMemory>
-    ensures { OnOk result (titles.new ≡ with_all titles.old (title_by (heading_name unit.now.heading.stmt) (is_function (heading_kind unit.now.heading.stmt)))) }
+    ensures { OnOk result (titles.new
+        ≡ with_all titles.old
+        (title_by (heading_name unit.now.heading.stmt) (is_function (heading_kind unit.now.heading.stmt)))) }
 {
     let heading = &unit.heading.stmt;
     let function = is_function(heading_kind(heading));

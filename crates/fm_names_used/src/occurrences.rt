@@ -76,7 +76,8 @@ fn meet_listed<T: Standing>(
     items: &Option<Seq<T>>,
     seen: &mut Seen,
 ) -> Result<(), NoMemory>
-    ensures { OnOk result (seen.new ≡ with_names line seen.old (optional (flat_map (T.names (is_array arrays.now))) items.now)) }
+    ensures { OnOk result
+        (seen.new ≡ with_names line seen.old (optional (flat_map (T.names (is_array arrays.now))) items.now)) }
 {
     match items {
         None => Ok(()),
@@ -151,7 +152,8 @@ fn meet_exprs(
     exprs: &[Expr],
     seen: &mut Seen,
 ) -> Result<(), NoMemory>
-    ensures { OnOk result (seen.new ≡ with_names line seen.old (in_trees (is_array arrays.now) (trees_from exprs.now))) }
+    ensures { OnOk result
+        (seen.new ≡ with_names line seen.old (in_trees (is_array arrays.now) (trees_from exprs.now))) }
 {
     'exprs: for expr in exprs {
         meet_expr(alloc, arrays, line, expr, seen)?;
@@ -258,7 +260,8 @@ fn meet_fields(
     fields: &[Field],
     seen: &mut Seen,
 ) -> Result<(), NoMemory>
-    ensures { OnOk result (seen.new ≡ with_names line seen.old (in_fields (is_array arrays.now) [] (fields_of fields.now))) }
+    ensures { OnOk result
+        (seen.new ≡ with_names line seen.old (in_fields (is_array arrays.now) [] (fields_of fields.now))) }
 {
     'fields: for index in 0..fields.len() {
         let (earlier, _) = fields.split_at(index);
@@ -276,7 +279,8 @@ fn meet_field(
     field: &Field,
     seen: &mut Seen,
 ) -> Result<(), NoMemory>
-    ensures { OnOk result (seen.new ≡ with_names line seen.old (in_field (is_array arrays.now) (sizes_of earlier.now) field.now)) }
+    ensures { OnOk result
+        (seen.new ≡ with_names line seen.old (in_field (is_array arrays.now) (sizes_of earlier.now) field.now)) }
 {
     meet_kind(alloc, arrays, line, &field.kind, seen)?;
     let size = sized_by(earlier, field);
@@ -410,7 +414,9 @@ fn meet_two(
     second: &Var,
     seen: &mut Seen,
 ) -> Result<(), NoMemory>
-    ensures { OnOk result (seen.new ≡ with_names line seen.old (in_var (is_array arrays.now) first.now ++ in_var (is_array arrays.now) second.now)) }
+    ensures { OnOk result (seen.new
+        ≡ with_names line seen.old
+        (in_var (is_array arrays.now) first.now ++ in_var (is_array arrays.now) second.now)) }
 {
     first.meet(alloc, arrays, line, seen)?;
     second.meet(alloc, arrays, line, seen)
@@ -425,7 +431,8 @@ fn meet_channel(
     outport: &Var,
     seen: &mut Seen,
 ) -> Result<(), NoMemory>
-    ensures { OnOk result (seen.new ≡ with_names line seen.old (in_channel (is_array arrays.now) in_first inport.now outport.now)) }
+    ensures { OnOk result
+        (seen.new ≡ with_names line seen.old (in_channel (is_array arrays.now) in_first inport.now outport.now)) }
 {
     if in_first {
         meet_two(alloc, arrays, line, inport, outport, seen)
@@ -443,7 +450,10 @@ fn meet_receive(
     items: &[Var],
     seen: &mut Seen,
 ) -> Result<(), NoMemory>
-    ensures { OnOk result (seen.new ≡ with_names line seen.old (in_var (is_array arrays.now) port.now ++ (flat_map (in_extra (is_array arrays.now)) extras.now ++ flat_map (in_var (is_array arrays.now)) items.now))) }
+    ensures { OnOk result (seen.new
+        ≡ with_names line seen.old (in_var (is_array arrays.now) port.now
+        ++ (flat_map (in_extra (is_array arrays.now)) extras.now
+        ++ flat_map (in_var (is_array arrays.now)) items.now))) }
 {
     port.meet(alloc, arrays, line, seen)?;
     meet_all::<Extra>(alloc, arrays, line, extras, seen)?;
@@ -530,7 +540,9 @@ fn meet_ports(
     decls: &[Decl],
     seen: &mut Seen,
 ) -> Result<(), NoMemory>
-    ensures { OnOk result (seen.new ≡ with_names line seen.old (in_fields (is_array arrays.now) [] port_type.now ++ flat_map (in_decl (is_array arrays.now)) decls.now)) }
+    ensures { OnOk result (seen.new
+        ≡ with_names line seen.old
+        (in_fields (is_array arrays.now) [] port_type.now ++ flat_map (in_decl (is_array arrays.now)) decls.now)) }
 {
     meet_port_type(alloc, arrays, line, port_type, seen)?;
     meet_all::<Decl>(alloc, arrays, line, decls, seen)
@@ -544,7 +556,9 @@ fn meet_logical_if(
     contained: &Simple,
     seen: &mut Seen,
 ) -> Result<(), NoMemory>
-    ensures { OnOk result (seen.new ≡ with_names line seen.old (in_tree (is_array arrays.now) condition.now ++ in_simple (is_array arrays.now) contained.now)) }
+    ensures { OnOk result (seen.new
+        ≡ with_names line seen.old
+        (in_tree (is_array arrays.now) condition.now ++ in_simple (is_array arrays.now) contained.now)) }
 {
     condition.meet(alloc, arrays, line, seen)?;
     meet_simple(alloc, arrays, line, contained, seen)
@@ -642,7 +656,8 @@ fn meet_specs(
     specs: &[Placed],
     seen: &mut Seen,
 ) -> Result<(), NoMemory>
-    ensures { OnOk result (seen.new ≡ with_occurrences seen.old (flat_map (in_placed (is_array arrays.now)) specs.now)) }
+    ensures { OnOk result
+        (seen.new ≡ with_occurrences seen.old (flat_map (in_placed (is_array arrays.now)) specs.now)) }
 {
     'specs: for placed in specs {
         meet_placed(alloc, arrays, placed, seen)?;
@@ -677,8 +692,8 @@ fn in_order(alloc: Global, seen: Seen) -> Result<Seq<Occurrence>, NoMemory>
 }
 
 #[tactic(auto, using(crate::proofs::Meetings::with_occurrences_append, crate::proofs::Meetings::firsts))]
-/// The names that stand in a unit as variables, formal arguments, constants or the result of a FUNCTION, each once, in the
-/// order of the text, with the line of its first statement.
+/// The names that stand in a unit as variables, formal arguments, constants or the result of a FUNCTION, each once, in
+/// the order of the text, with the line of its first statement.
 pub fn first_occurrences(
     alloc: Global,
     arrays: &Arrays,

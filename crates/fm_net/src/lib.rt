@@ -62,18 +62,28 @@ pub fn one_step<P>()
         f (name_of p 0) (reply_with []) ≡ o → o.starts ≡ [] →
         language_step language s p
         ≡ Some (record { procs = insert s.procs p o.self; chans = all_shed o.drops s.chans }, o.cost) }
-    ensures channel { (language : Language P) (s : State P) (p : Place) (x : P) → get s.procs p ≡ Some x →
-        (n k : ℕ) (f : ChanName → Reply P → Onward P) (o : Onward P) → language.ask x ≡ Go (New n k) f →
-        f (name_of p n) (reply_with []) ≡ o → o.starts ≡ [] →
-        language_step language s p
-        ≡ Some (record { procs = insert s.procs p o.self; chans = all_shed o.drops (insert s.chans (name_of p n) (fresh k)) }, o.cost) }
-    ensures event { (language : Language P) (s : State P) (p : Place) (x : P) → get s.procs p ≡ Some x →
-        (c : ChanName) (a : ChannelOp) (f : ChanName → Reply P → Onward P) →
-        language.ask x ≡ Go (Event c a) f → (ch : Chan) → get s.chans c ≡ Some ch → (o : Onward P) →
-        f (name_of p 0) (reply_at a ch) ≡ o → o.starts ≡ [] →
-        is_ready a ch ≡ true →
-        language_step language s p
-        ≡ Some (record { procs = insert s.procs p o.self; chans = all_shed (o.drops ++ spills a ch) (insert s.chans c (changed a ch)) }, o.cost) }
+    ensures channel { (language : Language P) (s : State P) (p : Place) (x : P)
+        → get s.procs p ≡ Some x → (n k : ℕ) (f : ChanName → Reply P → Onward P) (o : Onward P)
+        → language.ask x ≡ Go (New n k) f → f (name_of p n) (reply_with []) ≡ o
+        → o.starts ≡ []
+        → language_step language s p
+        ≡ Some (
+          record { procs = insert s.procs p o.self; chans = all_shed o.drops (insert s.chans (name_of p n) (fresh k)) },
+          o.cost,
+        ) }
+    ensures event { (language : Language P) (s : State P) (p : Place) (x : P)
+        → get s.procs p ≡ Some x → (c : ChanName) (a : ChannelOp) (f : ChanName → Reply P → Onward P)
+        → language.ask x ≡ Go (Event c a) f → (ch : Chan) → get s.chans c ≡ Some ch
+        → (o : Onward P) → f (name_of p 0) (reply_at a ch) ≡ o
+        → o.starts ≡ [] → is_ready a ch ≡ true
+        → language_step language s p
+        ≡ Some (
+          record {
+            procs = insert s.procs p o.self;
+            chans = all_shed (o.drops ++ spills a ch) (insert s.chans c (changed a ch));
+          },
+          o.cost,
+        ) }
     ensures event_waits { (language : Language P) (s : State P) (p : Place) (x : P) → get s.procs p ≡ Some x →
         (c : ChanName) (a : ChannelOp) (f : ChanName → Reply P → Onward P) →
         language.ask x ≡ Go (Event c a) f → (ch : Chan) → get s.chans c ≡ Some ch →
@@ -255,8 +265,9 @@ pub fn languages_alike<P, Q>()
 /// The premise of that law can be met: a language whose processes carry marks corresponds to the one
 /// without.
 pub fn marks_tell_nothing<P, M>()
-    ensures { (language : Language P) →
-        IsCorrespondence (ReadsAs (unmarked {M = M}) (λ y. true)) (Passes (λ s. true)) language (marked {M = M} language) }
+    ensures { (language : Language P)
+        → IsCorrespondence (ReadsAs (unmarked {M = M}) (λ y. true)) (Passes (λ s. true)) language
+        (marked {M = M} language) }
 {}
 
 /// What the laws ask for can be met: a small language with channels, ports in messages and blocks of

@@ -54,7 +54,8 @@ impl<L: Drop, P: Proc<Look = L>> Entry<P, L> {
 impl<L: Drop, P: Proc<Look = L>> Entries<P, L> {
     /// Whether the process of a number has ended.
     pub fn has_ended(&self, number: u32) -> bool
-        ensures { (p : P.Program) (q : Place) → place_at self.now.rows number ≡ Some q → result ≡ ended_at (P.language p).has_ended (get (procs_of (P.seen p) self.now) q) }
+        ensures { (p : P.Program) (q : Place) → place_at self.now.rows number ≡ Some q
+            → result ≡ ended_at (P.language p).has_ended (get (procs_of (P.seen p) self.now) q) }
     {
         self.is_over(number)
     }
@@ -62,23 +63,31 @@ impl<L: Drop, P: Proc<Look = L>> Entries<P, L> {
     /// How many of some children have ended, from the first on, where so many are known to have.
     pub fn count_ended(&self, family: Family, from: usize) -> Result<usize, NoMemory>
         ensures within { IfOk result (λ r. from ≤ family.count → r ≤ family.count) }
-        ensures ended { IfOk result (λ r. (p : P.Program) (q : Place) (b : ℕ) → AreChildren (order_of self.now) family.first q b family.count →
-            is_some (gathered (P.language p).has_ended (procs_of (P.seen p) self.now) q b 1 from) ≡ true →
-            is_some (gathered (P.language p).has_ended (procs_of (P.seen p) self.now) q b 1 r) ≡ true) }
-        ensures not_all { IfOk result (λ r. (p : P.Program) (q : Place) (b : ℕ) → AreChildren (order_of self.now) family.first q b family.count →
-            r < family.count → is_some (gathered (P.language p).has_ended (procs_of (P.seen p) self.now) q b 1 family.count) ≡ false) }
-        ensures next { IfOk result (λ r. (p : P.Program) (q : Place) (b : ℕ) → AreChildren (order_of self.now) family.first q b family.count →
-            r < family.count → child_ended (P.language p).has_ended (procs_of (P.seen p) self.now) q b (r + 1) ≡ false) }
-        ensures so_far { IfOk result (λ r. (p : P.Program) (q : Place) (b : ℕ) → AreChildren (order_of self.now) family.first q b family.count →
-            HaveEnded (child_ended (P.language p).has_ended (procs_of (P.seen p) self.now) q) b family.count from → EndedSoFar (child_ended (P.language p).has_ended (procs_of (P.seen p) self.now) q) b family.count r) }
+        ensures ended { IfOk result (λ r. (p : P.Program) (q : Place) (b : ℕ)
+            → AreChildren (order_of self.now) family.first q b family.count
+            → is_some (gathered (P.language p).has_ended (procs_of (P.seen p) self.now) q b 1 from) ≡ true
+            → is_some (gathered (P.language p).has_ended (procs_of (P.seen p) self.now) q b 1 r) ≡ true) }
+        ensures not_all { IfOk result (λ r. (p : P.Program) (q : Place) (b : ℕ)
+            → AreChildren (order_of self.now) family.first q b family.count
+            → r < family.count
+            → is_some (gathered (P.language p).has_ended (procs_of (P.seen p) self.now) q b 1 family.count) ≡ false) }
+        ensures next { IfOk result (λ r. (p : P.Program) (q : Place) (b : ℕ)
+            → AreChildren (order_of self.now) family.first q b family.count
+            → r < family.count
+            → child_ended (P.language p).has_ended (procs_of (P.seen p) self.now) q b (r + 1) ≡ false) }
+        ensures so_far { IfOk result (λ r. (p : P.Program) (q : Place) (b : ℕ)
+            → AreChildren (order_of self.now) family.first q b family.count
+            → HaveEnded (child_ended (P.language p).has_ended (procs_of (P.seen p) self.now) q) b family.count from
+            → EndedSoFar (child_ended (P.language p).has_ended (procs_of (P.seen p) self.now) q) b family.count r) }
     {
         count_ended(self, family, from)
     }
 
     /// Whether children have all ended.
     pub fn have_ended(&self, family: Family) -> Result<bool, NoMemory>
-        ensures { IfOk result (λ r. (p : P.Program) (q : Place) (b : ℕ) → AreChildren (order_of self.now) family.first q b family.count →
-            r ≡ is_some (gathered (P.language p).has_ended (procs_of (P.seen p) self.now) q b 1 family.count)) }
+        ensures { IfOk result (λ r. (p : P.Program) (q : Place) (b : ℕ)
+            → AreChildren (order_of self.now) family.first q b family.count
+            → r ≡ is_some (gathered (P.language p).has_ended (procs_of (P.seen p) self.now) q b 1 family.count)) }
     {
         let ended = self.count_ended(family, 0)?;
         Ok(ended == family.count)
@@ -86,9 +95,12 @@ impl<L: Drop, P: Proc<Look = L>> Entries<P, L> {
 
     /// The children that the process of a number waits for.
     pub fn family(&self, number: u32) -> Family
-        ensures count { (p : P.Program) (q : Place) (y : P.Seen) → place_at self.now.rows number ≡ Some q → get (procs_of (P.seen p) self.now) q ≡ Some y → result.count ≡ count_awaited (P.awaits y) }
-        ensures first { (p : P.Program) (q : Place) (y : P.Seen) → place_at self.now.rows number ≡ Some q → get (procs_of (P.seen p) self.now) q ≡ Some y →
-            AreFamilies (P.seen p) P.awaits self.now → HasFamily (order_of self.now) q (P.awaits y) result.first }
+        ensures count { (p : P.Program) (q : Place) (y : P.Seen)
+            → place_at self.now.rows number ≡ Some q → get (procs_of (P.seen p) self.now) q ≡ Some y
+            → result.count ≡ count_awaited (P.awaits y) }
+        ensures first { (p : P.Program) (q : Place) (y : P.Seen)
+            → place_at self.now.rows number ≡ Some q → get (procs_of (P.seen p) self.now) q ≡ Some y
+            → AreFamilies (P.seen p) P.awaits self.now → HasFamily (order_of self.now) q (P.awaits y) result.first }
     {
         match self.rows.get(number) {
             Some(entry) => entry.family(),
@@ -96,13 +108,18 @@ impl<L: Drop, P: Proc<Look = L>> Entries<P, L> {
         }
     }
 
-    /// What is known of the children that the process of a number waits for, where so many of them, from the first on, are
-    /// known to have ended.
+    /// What is known of the children that the process of a number waits for, where so many of them, from the first on,
+    /// are known to have ended.
     pub fn awaited(&self, number: u32, before: usize) -> Result<Awaited, NoMemory>
-        ensures told { IfOk result (λ r. (p : P.Program) (q : Place) (y : P.Seen) → AreFamilies (P.seen p) P.awaits self.now → place_at self.now.rows number ≡ Some q → get (procs_of (P.seen p) self.now) q ≡ Some y →
-            AreKnown (child_ended (P.language p).has_ended (procs_of (P.seen p) self.now) q) (P.awaits y) before → IsAwaited (child_ended (P.language p).has_ended (procs_of (P.seen p) self.now) q) (P.awaits y) r) }
-        ensures left { IfOk result (λ r. (p : P.Program) (q : Place) (y : P.Seen) → AreFamilies (P.seen p) P.awaits self.now → place_at self.now.rows number ≡ Some q → get (procs_of (P.seen p) self.now) q ≡ Some y →
-            r.waits ≡ true → HasOneLeft (child_ended (P.language p).has_ended (procs_of (P.seen p) self.now) q) (P.awaits y)) }
+        ensures told { IfOk result (λ r. (p : P.Program) (q : Place) (y : P.Seen)
+            → AreFamilies (P.seen p) P.awaits self.now → place_at self.now.rows number ≡ Some q
+            → get (procs_of (P.seen p) self.now) q ≡ Some y
+            → AreKnown (child_ended (P.language p).has_ended (procs_of (P.seen p) self.now) q) (P.awaits y) before
+            → IsAwaited (child_ended (P.language p).has_ended (procs_of (P.seen p) self.now) q) (P.awaits y) r) }
+        ensures left { IfOk result (λ r. (p : P.Program) (q : Place) (y : P.Seen)
+            → AreFamilies (P.seen p) P.awaits self.now → place_at self.now.rows number ≡ Some q
+            → get (procs_of (P.seen p) self.now) q ≡ Some y → r.waits ≡ true
+            → HasOneLeft (child_ended (P.language p).has_ended (procs_of (P.seen p) self.now) q) (P.awaits y)) }
     {
         let family = self.family(number);
         let ended = self.count_ended(family, before)?;
@@ -114,7 +131,8 @@ impl<L: Drop, P: Proc<Look = L>> Entries<P, L> {
 
     /// The number of the block that a process starts next.
     pub fn next_block(&self, number: u32) -> u32
-        ensures { (p : P.Program) (q : Place) (y : P.Seen) → place_at self.now.rows number ≡ Some q → get (procs_of (P.seen p) self.now) q ≡ Some y → result ≡ (P.language p).next_block y }
+        ensures { (p : P.Program) (q : Place) (y : P.Seen) → place_at self.now.rows number ≡ Some q
+            → get (procs_of (P.seen p) self.now) q ≡ Some y → result ≡ (P.language p).next_block y }
     {
         match self.rows.get(number) {
             Some(entry) => entry.process.next_block(),
@@ -127,9 +145,13 @@ impl<L: Drop, P: Proc<Look = L>> Entries<P, L> {
         requires { IsActor self.old actor.now }
         ensures processes { (p : P.Program) → procs_of (P.seen p) self.new ≡ procs_of (P.seen p) self.old }
         ensures order { order_of self.new ≡ order_of self.old }
-        ensures told { (p : P.Program) → AreToldBut (P.seen p) (P.IsNext p) (actor_place actor.now) self.old → AreToldBut (P.seen p) (P.IsNext p) (actor_place actor.now) self.new }
-        ensures families { (p : P.Program) → AreFamiliesBut (P.seen p) P.awaits (actor_place actor.now) self.old → AreFamiliesBut (P.seen p) P.awaits (actor_place actor.now) self.new }
-        ensures first { (e : declared_entry.Entry P L) → get (numbered_map self.new.rows) (actor_place actor.now) ≡ Some e → e.first_child ≡ first }
+        ensures told { (p : P.Program) → AreToldBut (P.seen p) (P.IsNext p) (actor_place actor.now) self.old
+            → AreToldBut (P.seen p) (P.IsNext p) (actor_place actor.now) self.new }
+        ensures families { (p : P.Program) → AreFamiliesBut (P.seen p) P.awaits (actor_place actor.now) self.old
+            → AreFamiliesBut (P.seen p) P.awaits (actor_place actor.now) self.new }
+        ensures first { (e : declared_entry.Entry P L)
+            → get (numbered_map self.new.rows) (actor_place actor.now) ≡ Some e
+            → e.first_child ≡ first }
     {
         match self.rows.get_mut(actor.number) {
             Some(entry) => entry.first_child = first,
@@ -148,13 +170,23 @@ impl<L: Drop, P: Proc<Look = L>> Entries<P, L> {
         place: usize,
         process: P,
     ) -> Result<(), NoMemory>
-        requires { get (procs_of (P.seen program.now) self.old) (child (actor_place actor.now) block (place + 1)) ≡ None }
-        ensures entries { OnOk result ((e : declared_entry.Entry P L) → get (numbered_map self.new.rows) (actor_place actor.now) ≡ Some e → get (numbered_map self.old.rows) (actor_place actor.now) ≡ Some e) }
-        ensures processes { OnOk result (procs_of (P.seen program.now) self.new ≡ insert (procs_of (P.seen program.now) self.old) (child (actor_place actor.now) block (place + 1)) (P.seen program.now process)) }
-        ensures order { OnOk result (order_of self.new ≡ order_of self.old ++ child (actor_place actor.now) block (place + 1) ∷ []) }
-        ensures fits { OnOk result ((s : State P.Seen) → P.Fits program.now work.old s → P.Fits program.now work.new s) }
-        ensures told { OnOk result ((own : Place) → AreToldBut (P.seen program.now) (P.IsNext program.now) own self.old → AreToldBut (P.seen program.now) (P.IsNext program.now) own self.new) }
-        ensures families { OnOk result ((own : Place) → P.awaits (P.seen program.now process) ≡ None → AreFamiliesBut (P.seen program.now) P.awaits own self.old → AreFamiliesBut (P.seen program.now) P.awaits own self.new) }
+        requires { get (procs_of (P.seen program.now) self.old) (child (actor_place actor.now) block (place + 1))
+            ≡ None }
+        ensures entries { OnOk result ((e : declared_entry.Entry P L)
+            → get (numbered_map self.new.rows) (actor_place actor.now) ≡ Some e
+            → get (numbered_map self.old.rows) (actor_place actor.now) ≡ Some e) }
+        ensures processes { OnOk result (procs_of (P.seen program.now) self.new
+            ≡ insert (procs_of (P.seen program.now) self.old) (child (actor_place actor.now) block (place + 1))
+            (P.seen program.now process)) }
+        ensures order { OnOk result
+            (order_of self.new ≡ order_of self.old ++ child (actor_place actor.now) block (place + 1) ∷ []) }
+        ensures fits { OnOk result
+            ((s : State P.Seen) → P.Fits program.now work.old s → P.Fits program.now work.new s) }
+        ensures told { OnOk result ((own : Place) → AreToldBut (P.seen program.now) (P.IsNext program.now) own self.old
+            → AreToldBut (P.seen program.now) (P.IsNext program.now) own self.new) }
+        ensures families { OnOk result ((own : Place) → P.awaits (P.seen program.now process) ≡ None
+            → AreFamiliesBut (P.seen program.now) P.awaits own self.old
+            → AreFamiliesBut (P.seen program.now) P.awaits own self.new) }
     {
         let at = child_path(alloc, &actor.path, block, place)?;
         let path = Arc::new(alloc, at)?;
@@ -181,15 +213,23 @@ impl<L: Drop, P: Proc<Look = L>> Entries<P, L> {
         children: Vec<P>,
     ) -> Result<(), NoMemory>
         requires actor { IsActor self.old actor.now }
-        requires new { (i : ℕ) → get (procs_of (P.seen program.now) self.old) (child (actor_place actor.now) block i) ≡ None }
+        requires new { (i : ℕ)
+            → get (procs_of (P.seen program.now) self.old) (child (actor_place actor.now) block i) ≡ None }
         requires run { AllByRecursion (λ (y : P.Seen). P.awaits y ≡ None) (map (P.seen program.now) children.items) }
-        ensures told { OnOk result (AreToldBut (P.seen program.now) (P.IsNext program.now) (actor_place actor.now) self.old → AreToldBut (P.seen program.now) (P.IsNext program.now) (actor_place actor.now) self.new) }
-        ensures processes { OnOk result (procs_of (P.seen program.now) self.new ≡ alters (start_changes (actor_place actor.now) block 1 (map (P.seen program.now) children.items)) (procs_of (P.seen program.now) self.old)) }
-        ensures order { OnOk result (order_of self.new ≡ order_of self.old ++ child_places (actor_place actor.now) block 1 (length children.items)) }
-        ensures fits { OnOk result ((s : State P.Seen) → P.Fits program.now work.old s → P.Fits program.now work.new s) }
-        ensures families { OnOk result ((y : P.Seen) → get (procs_of (P.seen program.now) self.old) (actor_place actor.now) ≡ Some y →
-            ((b n : ℕ) → P.awaits y ≡ Some (b, n) → (b ≡ block) × (n ≡ length children.items)) →
-            AreFamiliesBut (P.seen program.now) P.awaits (actor_place actor.now) self.old → AreFamilies (P.seen program.now) P.awaits self.new) }
+        ensures told { OnOk result (AreToldBut (P.seen program.now) (P.IsNext program.now) (actor_place actor.now)
+            self.old → AreToldBut (P.seen program.now) (P.IsNext program.now) (actor_place actor.now) self.new) }
+        ensures processes { OnOk result (procs_of (P.seen program.now) self.new
+            ≡ alters (start_changes (actor_place actor.now) block 1 (map (P.seen program.now) children.items))
+            (procs_of (P.seen program.now) self.old)) }
+        ensures order { OnOk result (order_of self.new
+            ≡ order_of self.old ++ child_places (actor_place actor.now) block 1 (length children.items)) }
+        ensures fits { OnOk result
+            ((s : State P.Seen) → P.Fits program.now work.old s → P.Fits program.now work.new s) }
+        ensures families { OnOk result ((y : P.Seen)
+            → get (procs_of (P.seen program.now) self.old) (actor_place actor.now) ≡ Some y
+            → ((b n : ℕ) → P.awaits y ≡ Some (b, n) → (b ≡ block) × (n ≡ length children.items))
+            → AreFamiliesBut (P.seen program.now) P.awaits (actor_place actor.now) self.old
+            → AreFamilies (P.seen program.now) P.awaits self.new) }
     {
         let first = number_behind(0, self.rows.len())?;
         self.keep_first(actor, first);
@@ -203,12 +243,18 @@ impl<L: Drop, P: Proc<Look = L>> Entries<P, L> {
 
     /// Takes out what the process of a number leaves, which has ended.
     pub fn release(&mut self, alloc: Global, number: u32) -> Option<P::Left>
-        ensures processes { (p : P.Program) (q : Place) → place_at self.old.rows number ≡ Some q → procs_of (P.seen p) self.new ≡ alter (procs_of (P.seen p) self.old) q (option_map (P.language p).emptied) }
+        ensures processes { (p : P.Program) (q : Place) → place_at self.old.rows number ≡ Some q
+            → procs_of (P.seen p) self.new
+            ≡ alter (procs_of (P.seen p) self.old) q (option_map (P.language p).emptied) }
         ensures order { order_of self.new ≡ order_of self.old }
-        ensures left { (p : P.Program) (q : Place) → place_at self.old.rows number ≡ Some q → option_map (P.left_of p) result ≡ option_map P.left_by (get (procs_of (P.seen p) self.old) q) }
-        ensures told { (p : P.Program) (own q : Place) → place_at self.old.rows number ≡ Some q → ended_at (P.language p).has_ended (get (procs_of (P.seen p) self.old) q) ≡ true →
-            AreToldBut (P.seen p) (P.IsNext p) own self.old → AreToldBut (P.seen p) (P.IsNext p) own self.new }
-        ensures families { (p : P.Program) → AreFamilies (P.seen p) P.awaits self.old → AreFamilies (P.seen p) P.awaits self.new }
+        ensures left { (p : P.Program) (q : Place) → place_at self.old.rows number ≡ Some q
+            → option_map (P.left_of p) result ≡ option_map P.left_by (get (procs_of (P.seen p) self.old) q) }
+        ensures told { (p : P.Program) (own q : Place) → place_at self.old.rows number ≡ Some q
+            → ended_at (P.language p).has_ended (get (procs_of (P.seen p) self.old) q) ≡ true
+            → AreToldBut (P.seen p) (P.IsNext p) own self.old
+            → AreToldBut (P.seen p) (P.IsNext p) own self.new }
+        ensures families { (p : P.Program) → AreFamilies (P.seen p) P.awaits self.old
+            → AreFamilies (P.seen p) P.awaits self.new }
     {
         let entry = match self.rows.get_mut(number) {
             Some(entry) => entry,
@@ -220,15 +266,22 @@ impl<L: Drop, P: Proc<Look = L>> Entries<P, L> {
 
     /// Takes out what the children of a family leave, which have ended, in order.
     pub fn release_all(&mut self, alloc: Global, family: Family) -> Result<Vec<P::Left>, NoMemory>
-        ensures processes { OnOk result ((p : P.Program) (q : Place) (b : ℕ) → AreChildren (order_of self.old) family.first q b family.count →
-            procs_of (P.seen p) self.new ≡ alters (child_changes (P.language p).emptied q b 1 family.count) (procs_of (P.seen p) self.old)) }
+        ensures processes { OnOk result ((p : P.Program) (q : Place) (b : ℕ)
+            → AreChildren (order_of self.old) family.first q b family.count
+            → procs_of (P.seen p) self.new
+            ≡ alters (child_changes (P.language p).emptied q b 1 family.count) (procs_of (P.seen p) self.old)) }
         ensures order { OnOk result (order_of self.new ≡ order_of self.old) }
-        ensures left { IfOk result (λ v. (p : P.Program) (q : Place) (b : ℕ) (kids : List P.Seen) → AreChildren (order_of self.old) family.first q b family.count →
-            gathered (P.language p).has_ended (procs_of (P.seen p) self.old) q b 1 family.count ≡ Some kids → map P.left_by kids ≡ map (P.left_of p) v.items) }
-        ensures told { OnOk result ((p : P.Program) (own q : Place) (b : ℕ) (kids : List P.Seen) → AreChildren (order_of self.old) family.first q b family.count →
-            gathered (P.language p).has_ended (procs_of (P.seen p) self.old) q b 1 family.count ≡ Some kids →
-            AreToldBut (P.seen p) (P.IsNext p) own self.old → AreToldBut (P.seen p) (P.IsNext p) own self.new) }
-        ensures families { OnOk result ((p : P.Program) → AreFamilies (P.seen p) P.awaits self.old → AreFamilies (P.seen p) P.awaits self.new) }
+        ensures left { IfOk result (λ v. (p : P.Program) (q : Place) (b : ℕ) (kids : List P.Seen)
+            → AreChildren (order_of self.old) family.first q b family.count
+            → gathered (P.language p).has_ended (procs_of (P.seen p) self.old) q b 1 family.count ≡ Some kids
+            → map P.left_by kids ≡ map (P.left_of p) v.items) }
+        ensures told { OnOk result ((p : P.Program) (own q : Place) (b : ℕ) (kids : List P.Seen)
+            → AreChildren (order_of self.old) family.first q b family.count
+            → gathered (P.language p).has_ended (procs_of (P.seen p) self.old) q b 1 family.count ≡ Some kids
+            → AreToldBut (P.seen p) (P.IsNext p) own self.old
+            → AreToldBut (P.seen p) (P.IsNext p) own self.new) }
+        ensures families { OnOk result
+            ((p : P.Program) → AreFamilies (P.seen p) P.awaits self.old → AreFamilies (P.seen p) P.awaits self.new) }
     {
         let mut all = Vec::with_capacity(alloc, family.count)?;
         'children: for place in 0..family.count {

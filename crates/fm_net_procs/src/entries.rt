@@ -27,8 +27,8 @@ pub struct Entry<P, L> {
     pub first_child: u32,
 }
 
-/// The processes by their numbers, in the order of starting, also those that have ended. Contracts see a finite map by place
-/// (`procs_of`), and the places in their order (`order_of`).
+/// The processes by their numbers, in the order of starting, also those that have ended. Contracts see a finite map by
+/// place (`procs_of`), and the places in their order (`order_of`).
 #[derive(Drop)]
 pub struct Entries<P, L> {
     /// The processes, each at its path.
@@ -67,7 +67,8 @@ impl<L: Drop, P: Proc<Look = L>> Entries<P, L> {
 
     /// The process of a number.
     pub fn process(&self, number: u32) -> Option<&P>
-        ensures { (p : P.Program) (q : Place) → place_at self.now.rows number ≡ Some q → option_map (P.seen p) (option_copied result) ≡ get (procs_of (P.seen p) self.now) q }
+        ensures { (p : P.Program) (q : Place) → place_at self.now.rows number ≡ Some q
+            → option_map (P.seen p) (option_copied result) ≡ get (procs_of (P.seen p) self.now) q }
     {
         match self.rows.get(number) {
             Some(entry) => Some(&entry.process),
@@ -103,12 +104,19 @@ impl<L: Drop, P: Proc<Look = L>> Entries<P, L> {
     /// Puts a process at a new path.
     pub fn push(&mut self, path: Arc<Path>, entry: Entry<P, L>) -> Result<(), NoMemory>
         requires { get (numbered_map self.old.rows) (arc_value path) ≡ None }
-        ensures entries { OnOk result (numbered_map self.new.rows ≡ insert (numbered_map self.old.rows) (arc_value path) entry) }
-        ensures processes { OnOk result ((p : P.Program) → procs_of (P.seen p) self.new ≡ insert (procs_of (P.seen p) self.old) (arc_value path) (proc_in (P.seen p) entry)) }
+        ensures entries { OnOk result
+            (numbered_map self.new.rows ≡ insert (numbered_map self.old.rows) (arc_value path) entry) }
+        ensures processes { OnOk result ((p : P.Program)
+            → procs_of (P.seen p) self.new
+            ≡ insert (procs_of (P.seen p) self.old) (arc_value path) (proc_in (P.seen p) entry)) }
         ensures order { OnOk result (order_of self.new ≡ order_of self.old ++ arc_value path ∷ []) }
-        ensures told { OnOk result ((p : P.Program) (own : Place) → IsTold (P.seen p) (P.IsNext p) entry → AreToldBut (P.seen p) (P.IsNext p) own self.old → AreToldBut (P.seen p) (P.IsNext p) own self.new) }
-        ensures families { OnOk result ((p : P.Program) (own : Place) → HasFamily (order_of self.new) (arc_value path) (P.awaits (proc_in (P.seen p) entry)) entry.first_child →
-            AreFamiliesBut (P.seen p) P.awaits own self.old → AreFamiliesBut (P.seen p) P.awaits own self.new) }
+        ensures told { OnOk result ((p : P.Program) (own : Place)
+            → IsTold (P.seen p) (P.IsNext p) entry → AreToldBut (P.seen p) (P.IsNext p) own self.old
+            → AreToldBut (P.seen p) (P.IsNext p) own self.new) }
+        ensures families { OnOk result ((p : P.Program) (own : Place)
+            → HasFamily (order_of self.new) (arc_value path) (P.awaits (proc_in (P.seen p) entry)) entry.first_child
+            → AreFamiliesBut (P.seen p) P.awaits own self.old
+            → AreFamiliesBut (P.seen p) P.awaits own self.new) }
     {
         self.rows.push(path, entry)
     }
@@ -118,9 +126,13 @@ impl<L: Drop, P: Proc<Look = L>> Entries<P, L> {
         requires { IsActor self.old actor.now }
         ensures processes { (p : P.Program) → procs_of (P.seen p) self.new ≡ procs_of (P.seen p) self.old }
         ensures order { order_of self.new ≡ order_of self.old }
-        ensures told { (p : P.Program) → AreTold (P.seen p) (P.IsNext p) self.old → AreToldBut (P.seen p) (P.IsNext p) (actor_place actor.now) self.new }
-        ensures next { (p : P.Program) (y : P.Seen) → AreTold (P.seen p) (P.IsNext p) self.old → get (procs_of (P.seen p) self.old) (actor_place actor.now) ≡ Some y → P.IsNext p y result }
-        ensures families { (p : P.Program) → AreFamilies (P.seen p) P.awaits self.old → AreFamilies (P.seen p) P.awaits self.new }
+        ensures told { (p : P.Program) → AreTold (P.seen p) (P.IsNext p) self.old
+            → AreToldBut (P.seen p) (P.IsNext p) (actor_place actor.now) self.new }
+        ensures next { (p : P.Program) (y : P.Seen) → AreTold (P.seen p) (P.IsNext p) self.old
+            → get (procs_of (P.seen p) self.old) (actor_place actor.now) ≡ Some y
+            → P.IsNext p y result }
+        ensures families { (p : P.Program) → AreFamilies (P.seen p) P.awaits self.old
+            → AreFamilies (P.seen p) P.awaits self.new }
     {
         match self.rows.get_mut(actor.number) {
             Some(entry) => replace(&mut entry.next, P::rests()),
@@ -133,9 +145,12 @@ impl<L: Drop, P: Proc<Look = L>> Entries<P, L> {
         requires { IsActor self.old actor.now }
         ensures processes { (p : P.Program) → procs_of (P.seen p) self.new ≡ procs_of (P.seen p) self.old }
         ensures order { order_of self.new ≡ order_of self.old }
-        ensures told { (p : P.Program) → ((y : P.Seen) → get (procs_of (P.seen p) self.old) (actor_place actor.now) ≡ Some y → P.IsNext p y next) →
-            AreToldBut (P.seen p) (P.IsNext p) (actor_place actor.now) self.old → AreTold (P.seen p) (P.IsNext p) self.new }
-        ensures families { (p : P.Program) → AreFamilies (P.seen p) P.awaits self.old → AreFamilies (P.seen p) P.awaits self.new }
+        ensures told { (p : P.Program)
+            → ((y : P.Seen) → get (procs_of (P.seen p) self.old) (actor_place actor.now) ≡ Some y → P.IsNext p y next)
+            → AreToldBut (P.seen p) (P.IsNext p) (actor_place actor.now) self.old
+            → AreTold (P.seen p) (P.IsNext p) self.new }
+        ensures families { (p : P.Program) → AreFamilies (P.seen p) P.awaits self.old
+            → AreFamilies (P.seen p) P.awaits self.new }
     {
         match self.rows.get_mut(actor.number) {
             Some(entry) => entry.next = next,
@@ -152,11 +167,15 @@ impl<L: Drop, P: Proc<Look = L>> Entries<P, L> {
         actor: &Actor,
     ) -> Result<(), NoMemory>
         requires { IsActor self.old actor.now }
-        ensures processes { OnOk result ((p : P.Program) → procs_of (P.seen p) self.new ≡ procs_of (P.seen p) self.old) }
+        ensures processes { OnOk result
+            ((p : P.Program) → procs_of (P.seen p) self.new ≡ procs_of (P.seen p) self.old) }
         ensures order { OnOk result (order_of self.new ≡ order_of self.old) }
-        ensures told { OnOk result (AreToldBut (P.seen program.now) (P.IsNext program.now) (actor_place actor.now) self.old → AreTold (P.seen program.now) (P.IsNext program.now) self.new) }
-        ensures fits { OnOk result ((s : State P.Seen) → P.Fits program.now work.old s → P.Fits program.now work.new s) }
-        ensures families { OnOk result ((p : P.Program) → AreFamilies (P.seen p) P.awaits self.old → AreFamilies (P.seen p) P.awaits self.new) }
+        ensures told { OnOk result (AreToldBut (P.seen program.now) (P.IsNext program.now) (actor_place actor.now)
+            self.old → AreTold (P.seen program.now) (P.IsNext program.now) self.new) }
+        ensures fits { OnOk result
+            ((s : State P.Seen) → P.Fits program.now work.old s → P.Fits program.now work.new s) }
+        ensures families { OnOk result
+            ((p : P.Program) → AreFamilies (P.seen p) P.awaits self.old → AreFamilies (P.seen p) P.awaits self.new) }
     {
         let next = match self.rows.get(actor.number) {
             Some(entry) => entry.process.look(alloc, program, work)?,

@@ -1,11 +1,12 @@
 //! Processes by number, in the order of starting, whatever their statements are: stack code, or trees.
 //!
-//! A process is what has the trait `Proc`: it says what it does next, whether it has ended, and for how many children it waits; it
-//! makes steps of its own, does its event, joins its children, and leaves what its parent joins. Contracts see the processes
-//! (`Entries`) as the machine of processes does (`procs_of`), each under its place, and the places in the order of the numbers
-//! (`order_of`); with the channels (`Processes`) they are a state of that machine (`state_of`). A piece (`make_piece`) is so many
-//! of its steps (`IsPiece`), all of one process. Of each process it is kept what it does next (`AreTold`), and the number of the
-//! first of the children that it waits for (`AreFamilies`): a process that waits isn't asked again.
+//! A process is what has the trait `Proc`: it says what it does next, whether it has ended, and for how many children
+//! it waits; it makes steps of its own, does its event, joins its children, and leaves what its parent joins. Contracts
+//! see the processes (`Entries`) as the machine of processes does (`procs_of`), each under its place, and the places in
+//! the order of the numbers (`order_of`); with the channels (`Processes`) they are a state of that machine
+//! (`state_of`). A piece (`make_piece`) is so many of its steps (`IsPiece`), all of one process. Of each process it is
+//! kept what it does next (`AreTold`), and the number of the first of the children that it waits for (`AreFamilies`): a
+//! process that waits isn't asked again.
 #![tactic(auto)]
 
 mod children;

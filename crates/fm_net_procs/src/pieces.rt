@@ -30,7 +30,8 @@ pub fn local_piece(steps: u32, cost: u64) -> Piece
 }
 
 fn with_step(steps: u32, cost: u64, stepped: Stepped) -> Result<Piece, NoMemory>
-    ensures { IfOk result (λ r. r ≡ record { steps = steps + 1; cost = cost + stepped.cost; block = stepped.block; started = stepped.started }) }
+    ensures { IfOk result (λ r. r
+        ≡ record { steps = steps + 1; cost = cost + stepped.cost; block = stepped.block; started = stepped.started }) }
 {
     let steps = steps.checked_add(1).ok_or(NoMemory)?;
     let cost = cost.checked_add(stepped.cost).ok_or(NoMemory)?;
@@ -58,15 +59,23 @@ impl<E: Drop, L: Drop, W: Drop, P: JoiningProc<Event = E, Look = L, Work = W>> P
         requires families { AreFamilies (P.seen program.now) P.awaits self.old.entries }
         requires fits { P.Fits program.now self.old.work (state_of (P.seen program.now) self.old) }
         requires actor { IsActor self.old.entries actor.now }
-        requires can { is_some (language_step (P.language program.now) (state_of (P.seen program.now) self.old) (actor_place actor.now)) ≡ true }
-        requires new { IsNewAt (P.language program.now) (state_of (P.seen program.now) self.old) (actor_place actor.now) }
-        requires event { (y : P.Seen) → get (procs_of (P.seen program.now) self.old.entries) (actor_place actor.now) ≡ Some y → P.MeetsIt program.now y event }
-        requires told { AreToldBut (P.seen program.now) (P.IsNext program.now) (actor_place actor.now) self.old.entries }
+        requires can { is_some
+            (language_step (P.language program.now) (state_of (P.seen program.now) self.old) (actor_place actor.now))
+            ≡ true }
+        requires new { IsNewAt (P.language program.now) (state_of (P.seen program.now) self.old)
+            (actor_place actor.now) }
+        requires event { (y : P.Seen)
+            → get (procs_of (P.seen program.now) self.old.entries) (actor_place actor.now) ≡ Some y
+            → P.MeetsIt program.now y event }
+        requires told { AreToldBut (P.seen program.now) (P.IsNext program.now) (actor_place actor.now)
+            self.old.entries }
         ensures told { OnOk result (AreTold (P.seen program.now) (P.IsNext program.now) self.new.entries) }
         ensures families { OnOk result (AreFamilies (P.seen program.now) P.awaits self.new.entries) }
         ensures fits { OnOk result (P.Fits program.now self.new.work (state_of (P.seen program.now) self.new)) }
-        ensures order { IfOk result (λ r. order_of self.new.entries ≡ order_of self.old.entries ++ child_places (actor_place actor.now) r.block 1 r.started) }
-        ensures steps { IfOk result (λ r. Steps (P.language program.now) (state_of (P.seen program.now) self.old) (actor_place actor.now) steps cost r (state_of (P.seen program.now) self.new)) }
+        ensures order { IfOk result (λ r. order_of self.new.entries
+            ≡ order_of self.old.entries ++ child_places (actor_place actor.now) r.block 1 r.started) }
+        ensures steps { IfOk result (λ r. Steps (P.language program.now) (state_of (P.seen program.now) self.old)
+            (actor_place actor.now) steps cost r (state_of (P.seen program.now) self.new)) }
         ensures waking { OnOk result (WakesAll self.old.channels self.new.channels) }
     {
         let stepped = self.step(alloc, program, actor, event)?;
@@ -89,14 +98,20 @@ impl<E: Drop, L: Drop, W: Drop, P: JoiningProc<Event = E, Look = L, Work = W>> P
         requires families { AreFamilies (P.seen program.now) P.awaits self.old.entries }
         requires fits { P.Fits program.now self.old.work (state_of (P.seen program.now) self.old) }
         requires actor { IsActor self.old.entries actor.now }
-        requires new { IsNewAt (P.language program.now) (state_of (P.seen program.now) self.old) (actor_place actor.now) }
-        requires event { (y : P.Seen) → get (procs_of (P.seen program.now) self.old.entries) (actor_place actor.now) ≡ Some y → P.MeetsIt program.now y event }
-        requires told { AreToldBut (P.seen program.now) (P.IsNext program.now) (actor_place actor.now) self.old.entries }
+        requires new { IsNewAt (P.language program.now) (state_of (P.seen program.now) self.old)
+            (actor_place actor.now) }
+        requires event { (y : P.Seen)
+            → get (procs_of (P.seen program.now) self.old.entries) (actor_place actor.now) ≡ Some y
+            → P.MeetsIt program.now y event }
+        requires told { AreToldBut (P.seen program.now) (P.IsNext program.now) (actor_place actor.now)
+            self.old.entries }
         ensures told { OnOk result (AreTold (P.seen program.now) (P.IsNext program.now) self.new.entries) }
         ensures families { OnOk result (AreFamilies (P.seen program.now) P.awaits self.new.entries) }
         ensures fits { OnOk result (P.Fits program.now self.new.work (state_of (P.seen program.now) self.new)) }
-        ensures order { IfOk result (λ r. order_of self.new.entries ≡ order_of self.old.entries ++ child_places (actor_place actor.now) r.block 1 r.started) }
-        ensures steps { IfOk result (λ r. StepsOrWaits (P.language program.now) (state_of (P.seen program.now) self.old) (actor_place actor.now) steps cost r (state_of (P.seen program.now) self.new)) }
+        ensures order { IfOk result (λ r. order_of self.new.entries
+            ≡ order_of self.old.entries ++ child_places (actor_place actor.now) r.block 1 r.started) }
+        ensures steps { IfOk result (λ r. StepsOrWaits (P.language program.now) (state_of (P.seen program.now) self.old)
+            (actor_place actor.now) steps cost r (state_of (P.seen program.now) self.new)) }
         ensures waking { OnOk result (WakesAll self.old.channels self.new.channels) }
     {
         if self.is_able(actor.number, &event)? {
@@ -106,8 +121,8 @@ impl<E: Drop, L: Drop, W: Drop, P: JoiningProc<Event = E, Look = L, Work = W>> P
         Ok(local_piece(steps, cost))
     }
 
-    // Makes a piece of a process, which can step, and doesn't stand at an event: steps of its own, and then its event, if there is room for
-    // it and it can do it.
+    // Makes a piece of a process, which can step, and doesn't stand at an event: steps of its own, and then its event,
+    // if there is room for it and it can do it.
     fn running_piece(
         &mut self,
         alloc: Global,
@@ -120,15 +135,24 @@ impl<E: Drop, L: Drop, W: Drop, P: JoiningProc<Event = E, Look = L, Work = W>> P
         requires families { AreFamilies (P.seen program.now) P.awaits self.old.entries }
         requires fits { P.Fits program.now self.old.work (state_of (P.seen program.now) self.old) }
         requires actor { IsActor self.old.entries actor.now }
-        requires can { is_some (language_step (P.language program.now) (state_of (P.seen program.now) self.old) (actor_place actor.now)) ≡ true }
-        requires new { IsNewAlong (P.language program.now) (state_of (P.seen program.now) self.old) (actor_place actor.now) }
-        requires goes { (y : P.Seen) → get (procs_of (P.seen program.now) self.old.entries) (actor_place actor.now) ≡ Some y → (l : L) × P.IsNext program.now y l × (P.event_in l ≡ None) }
-        requires told { AreToldBut (P.seen program.now) (P.IsNext program.now) (actor_place actor.now) self.old.entries }
+        requires can { is_some
+            (language_step (P.language program.now) (state_of (P.seen program.now) self.old) (actor_place actor.now))
+            ≡ true }
+        requires new { IsNewAlong (P.language program.now) (state_of (P.seen program.now) self.old)
+            (actor_place actor.now) }
+        requires goes { (y : P.Seen)
+            → get (procs_of (P.seen program.now) self.old.entries) (actor_place actor.now) ≡ Some y
+            → (l : L) × P.IsNext program.now y l × (P.event_in l ≡ None) }
+        requires told { AreToldBut (P.seen program.now) (P.IsNext program.now) (actor_place actor.now)
+            self.old.entries }
         ensures told { OnOk result (AreTold (P.seen program.now) (P.IsNext program.now) self.new.entries) }
         ensures families { OnOk result (AreFamilies (P.seen program.now) P.awaits self.new.entries) }
         ensures fits { OnOk result (P.Fits program.now self.new.work (state_of (P.seen program.now) self.new)) }
-        ensures order { IfOk result (λ r. order_of self.new.entries ≡ order_of self.old.entries ++ child_places (actor_place actor.now) r.block 1 r.started) }
-        ensures piece { IfOk result (λ r. IsPiece (P.language program.now) (P.is_local program.now) slice spare (state_of (P.seen program.now) self.old) (actor_place actor.now) r (state_of (P.seen program.now) self.new)) }
+        ensures order { IfOk result (λ r. order_of self.new.entries
+            ≡ order_of self.old.entries ++ child_places (actor_place actor.now) r.block 1 r.started) }
+        ensures piece { IfOk result (λ r. IsPiece (P.language program.now) (P.is_local program.now) slice spare
+            (state_of (P.seen program.now) self.old) (actor_place actor.now) r
+            (state_of (P.seen program.now) self.new)) }
         ensures waking { OnOk result (WakesAll self.old.channels self.new.channels) }
     {
         let Advanced { stop, steps, cost } = self.advance_one(alloc, program, actor, slice, spare)?;
@@ -141,8 +165,9 @@ impl<E: Drop, L: Drop, W: Drop, P: JoiningProc<Event = E, Look = L, Work = W>> P
         }
     }
 
-    /// Makes a piece of a process, which can step: steps of its own, as many as `slice` at most, and then, where there is room for one more
-    /// step, one that concerns others, if it comes to one that it can do. With a step to `spare` there is room for it behind a whole slice too.
+    /// Makes a piece of a process, which can step: steps of its own, as many as `slice` at most, and then, where there
+    /// is room for one more step, one that concerns others, if it comes to one that it can do. With a step to `spare`
+    /// there is room for it behind a whole slice too.
     ///
     /// After want of memory these aren't to be used any more.
     pub fn make_piece(
@@ -158,13 +183,19 @@ impl<E: Drop, L: Drop, W: Drop, P: JoiningProc<Event = E, Look = L, Work = W>> P
         requires families { AreFamilies (P.seen program.now) P.awaits self.old.entries }
         requires fits { P.Fits program.now self.old.work (state_of (P.seen program.now) self.old) }
         requires actor { IsActor self.old.entries actor.now }
-        requires can { is_some (language_step (P.language program.now) (state_of (P.seen program.now) self.old) (actor_place actor.now)) ≡ true }
-        requires new { IsNewAlong (P.language program.now) (state_of (P.seen program.now) self.old) (actor_place actor.now) }
+        requires can { is_some
+            (language_step (P.language program.now) (state_of (P.seen program.now) self.old) (actor_place actor.now))
+            ≡ true }
+        requires new { IsNewAlong (P.language program.now) (state_of (P.seen program.now) self.old)
+            (actor_place actor.now) }
         ensures told { OnOk result (AreTold (P.seen program.now) (P.IsNext program.now) self.new.entries) }
         ensures families { OnOk result (AreFamilies (P.seen program.now) P.awaits self.new.entries) }
         ensures fits { OnOk result (P.Fits program.now self.new.work (state_of (P.seen program.now) self.new)) }
-        ensures order { IfOk result (λ r. order_of self.new.entries ≡ order_of self.old.entries ++ child_places (actor_place actor.now) r.block 1 r.started) }
-        ensures piece { IfOk result (λ r. IsPiece (P.language program.now) (P.is_local program.now) slice spare (state_of (P.seen program.now) self.old) (actor_place actor.now) r (state_of (P.seen program.now) self.new)) }
+        ensures order { IfOk result (λ r. order_of self.new.entries
+            ≡ order_of self.old.entries ++ child_places (actor_place actor.now) r.block 1 r.started) }
+        ensures piece { IfOk result (λ r. IsPiece (P.language program.now) (P.is_local program.now) slice spare
+            (state_of (P.seen program.now) self.old) (actor_place actor.now) r
+            (state_of (P.seen program.now) self.new)) }
         ensures waking { OnOk result (WakesAll self.old.channels self.new.channels) }
     {
         let next = self.entries.take_next(actor);

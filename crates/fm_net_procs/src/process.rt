@@ -92,21 +92,27 @@ pub trait Proc: Drop {
 
     /// What a process does next that was joined: nothing.
     fn rests() -> Self::Look
-        ensures { (p : Self.Program) (y : Seen) → (language p).has_ended y ≡ true → IsNext p ((language p).emptied y) result };
+        ensures { (p : Self.Program) (y : Seen) → (language p).has_ended y ≡ true
+            → IsNext p ((language p).emptied y) result };
 
     /// The event at which it stands that does this next, if it stands at one.
     fn event(look: &Self::Look) -> Option<&Self::Event>
         ensures event { option_copied result ≡ event_in look.now }
-        ensures meets { (p : Self.Program) (y : Seen) → IsNext p y look.now → IfSome (event_in look.now) (λ e. MeetsIt p y e) };
+        ensures meets { (p : Self.Program) (y : Seen) → IsNext p y look.now
+            → IfSome (event_in look.now) (λ e. MeetsIt p y e) };
 
     /// The same event, taken out. The step concerns others then.
     fn into_event(look: Self::Look) -> Option<Self::Event>
         ensures event { result ≡ event_in look }
-        ensures meets { (p : Self.Program) (y : Seen) → IsNext p y look → IfSome (event_in look) (λ e. MeetsIt p y e × (is_local p y ≡ false)) };
+        ensures meets { (p : Self.Program) (y : Seen) → IsNext p y look
+            → IfSome (event_in look) (λ e. MeetsIt p y e × (is_local p y ≡ false)) };
 
     /// What it does next that stands at an event which it can't do yet: that event.
     fn waiting(event: Self::Event) -> Self::Look
-        ensures { (p : Self.Program) (w : Self.Work) (s : State Seen) (q : Place) (y : Seen) → get s.procs q ≡ Some y → Fits p w s → MeetsIt p y event → is_some (language_step (language p) s q) ≡ false → IsNext p y result };
+        ensures { (p : Self.Program) (w : Self.Work) (s : State Seen) (q : Place) (y : Seen)
+            → get s.procs q ≡ Some y → Fits p w s → MeetsIt p y event
+            → is_some (language_step (language p) s q) ≡ false
+            → IsNext p y result };
 
     /// Whether an event is the join of a block.
     fn is_join(event: &Self::Event) -> bool
@@ -114,21 +120,28 @@ pub trait Proc: Drop {
 
     /// Whether it can step, where it does this next and stands at no event.
     fn can_go(&self, look: &Self::Look) -> bool
-        ensures { (p : Self.Program) (w : Self.Work) (s : State Seen) (q : Place) → get s.procs q ≡ Some (seen p self.now) → Fits p w s → IsNext p (seen p self.now) look.now → event_in look.now ≡ None →
-            result ≡ is_some (language_step (language p) s q) };
+        ensures { (p : Self.Program) (w : Self.Work) (s : State Seen) (q : Place)
+            → get s.procs q ≡ Some (seen p self.now) → Fits p w s
+            → IsNext p (seen p self.now) look.now → event_in look.now ≡ None
+            → result ≡ is_some (language_step (language p) s q) };
 
     /// Whether the channels let it do the event at which it stands, or nothing where its children do.
     fn is_served(&self, channels: &Channels, work: &Self::Work, event: &Self::Event) -> Option<bool>
-        ensures served { IfSome result (λ r. (p : Self.Program) (s : State Seen) (q : Place) → get s.procs q ≡ Some (seen p self.now) → s.chans ≡ chans_of channels.now → Fits p work.now s → MeetsIt p (seen p self.now) event.now →
-            r ≡ is_some (language_step (language p) s q)) }
-        ensures joins { IfNone result ((p : Self.Program) → MeetsIt p (seen p self.now) event.now → JoinsBlock (language p) awaits (seen p self.now)) };
+        ensures served { IfSome result (λ r. (p : Self.Program) (s : State Seen) (q : Place)
+            → get s.procs q ≡ Some (seen p self.now) → s.chans ≡ chans_of channels.now
+            → Fits p work.now s → MeetsIt p (seen p self.now) event.now
+            → r ≡ is_some (language_step (language p) s q)) }
+        ensures joins { IfNone result ((p : Self.Program) → MeetsIt p (seen p self.now) event.now
+            → JoinsBlock (language p) awaits (seen p self.now)) };
 
     /// The channel at which it waits for a message that does this next, if it waits at one.
     fn channel<'a>(&'a self, look: &'a Self::Look) -> Option<&'a ChanName>
-        ensures { (p : Self.Program) → IsNext p (seen p self.now) look.now → option_copied result ≡ channel_waited (language p) (seen p self.now) };
+        ensures { (p : Self.Program) → IsNext p (seen p self.now) look.now
+            → option_copied result ≡ channel_waited (language p) (seen p self.now) };
 
-    /// Steps of its own, as many as `slice` at most, and those that let ports go, of which there is one at most: behind the others, where there is
-    /// room for one more step. With a step to `spare` there is room behind a whole slice too.
+    /// Steps of its own, as many as `slice` at most, and those that let ports go, of which there is one at most: behind
+    /// the others, where there is room for one more step. With a step to `spare` there is room behind a whole slice
+    /// too.
     fn advance(
         &mut self,
         alloc: Global,
@@ -139,10 +152,17 @@ pub trait Proc: Drop {
         spare: bool,
     ) -> Result<Advanced<Self::Event, Self::Look>, NoMemory>
         requires some { 1 ≤ slice }
-        requires can { (q : Place) × CanStep (language program.now) (Fits program.now work.old) q (seen program.now self.old) (chans_of channels.old) }
+        requires can { (q : Place)
+            × CanStep (language program.now) (Fits program.now work.old) q (seen program.now self.old)
+            (chans_of channels.old) }
         requires goes { (l : Self.Look) × IsNext program.now (seen program.now self.old) l × (event_in l ≡ None) }
-        ensures advances { IfOk result (λ a. (s : State Seen) (q : Place) → get s.procs q ≡ Some (seen program.now self.old) → s.chans ≡ chans_of channels.old → Fits program.now work.old s → is_some (language_step (language program.now) s q) ≡ true →
-            Advances (language program.now) (is_local program.now) awaits (IsNext program.now) (MeetsIt program.now) (Fits program.now work.new) slice spare s q (seen program.now self.old) (seen program.now self.new) a (chans_of channels.new)) }
+        ensures advances { IfOk result (λ a. (s : State Seen) (q : Place)
+            → get s.procs q ≡ Some (seen program.now self.old)
+            → s.chans ≡ chans_of channels.old → Fits program.now work.old s
+            → is_some (language_step (language program.now) s q) ≡ true
+            → Advances (language program.now) (is_local program.now) awaits (IsNext program.now) (MeetsIt program.now)
+            (Fits program.now work.new) slice spare s q (seen program.now self.old) (seen program.now self.new) a
+            (chans_of channels.new)) }
         ensures waking { OnOk result (WakesAll channels.old channels.new) };
 
     /// Does the event at which it stands, other than a join.
@@ -157,9 +177,14 @@ pub trait Proc: Drop {
     ) -> Result<Done<Self>, NoMemory>
         requires event { MeetsIt program.now (seen program.now self.old) event }
         requires alone { joins event ≡ false }
-        requires can { CanStep (language program.now) (Fits program.now work.old) path.now (seen program.now self.old) (chans_of channels.old) }
-        ensures performs { IfOk result (λ d. (s : State Seen) → get s.procs path.now ≡ Some (seen program.now self.old) → s.chans ≡ chans_of channels.old → Fits program.now work.old s → is_some (language_step (language program.now) s path.now) ≡ true →
-            StepsTo (language program.now) awaits (Fits program.now work.new) s path.now (seen program.now self.old) (seen program.now self.new) (map (seen program.now) d.children.items) (chans_of channels.new) d.cost) }
+        requires can { CanStep (language program.now) (Fits program.now work.old) path.now (seen program.now self.old)
+            (chans_of channels.old) }
+        ensures performs { IfOk result (λ d. (s : State Seen)
+            → get s.procs path.now ≡ Some (seen program.now self.old)
+            → s.chans ≡ chans_of channels.old → Fits program.now work.old s
+            → is_some (language_step (language program.now) s path.now) ≡ true
+            → StepsTo (language program.now) awaits (Fits program.now work.new) s path.now (seen program.now self.old)
+            (seen program.now self.new) (map (seen program.now) d.children.items) (chans_of channels.new) d.cost) }
         ensures waking { OnOk result (WakesAll channels.old channels.new) };
 
     /// Whether it has ended.
@@ -200,16 +225,29 @@ pub trait JoiningProc: Proc {
     ) -> Result<u64, NoMemory>
         requires families { AreFamilies (Self.seen program.now) Self.awaits entries.old }
         requires actor { IsActor entries.old actor.now }
-        requires fits { Self.Fits program.now work.old (record { procs = procs_of (Self.seen program.now) entries.old; chans = chans_of channels.old }) }
-        requires can { is_some (language_step (Self.language program.now) (record { procs = procs_of (Self.seen program.now) entries.old; chans = chans_of channels.old }) (actor_place actor.now)) ≡ true }
-        requires event { (y : Self.Seen) → get (procs_of (Self.seen program.now) entries.old) (actor_place actor.now) ≡ Some y → Self.MeetsIt program.now y event }
+        requires fits { Self.Fits program.now work.old
+            (record { procs = procs_of (Self.seen program.now) entries.old; chans = chans_of channels.old }) }
+        requires can { is_some (language_step (Self.language program.now)
+            (record { procs = procs_of (Self.seen program.now) entries.old; chans = chans_of channels.old })
+            (actor_place actor.now)) ≡ true }
+        requires event { (y : Self.Seen)
+            → get (procs_of (Self.seen program.now) entries.old) (actor_place actor.now) ≡ Some y
+            → Self.MeetsIt program.now y event }
         requires joins { Self.joins event ≡ true }
-        ensures step { IfOk result (λ cost. language_step (Self.language program.now) (record { procs = procs_of (Self.seen program.now) entries.old; chans = chans_of channels.old }) (actor_place actor.now)
-            ≡ Some (record { procs = procs_of (Self.seen program.now) entries.new; chans = chans_of channels.new }, cost)) }
-        ensures starts { OnOk result (starts_at (Self.language program.now) (record { procs = procs_of (Self.seen program.now) entries.old; chans = chans_of channels.old }) (actor_place actor.now) ≡ []) }
+        ensures step { IfOk result (λ cost. language_step (Self.language program.now)
+            (record { procs = procs_of (Self.seen program.now) entries.old; chans = chans_of channels.old })
+            (actor_place actor.now)
+            ≡ Some
+            (record { procs = procs_of (Self.seen program.now) entries.new; chans = chans_of channels.new }, cost)) }
+        ensures starts { OnOk result (starts_at (Self.language program.now)
+            (record { procs = procs_of (Self.seen program.now) entries.old; chans = chans_of channels.old })
+            (actor_place actor.now) ≡ []) }
         ensures order { OnOk result (order_of entries.new ≡ order_of entries.old) }
-        ensures told { OnOk result (AreToldBut (Self.seen program.now) (Self.IsNext program.now) (actor_place actor.now) entries.old → AreToldBut (Self.seen program.now) (Self.IsNext program.now) (actor_place actor.now) entries.new) }
+        ensures told { OnOk result (AreToldBut (Self.seen program.now) (Self.IsNext program.now) (actor_place actor.now)
+            entries.old
+            → AreToldBut (Self.seen program.now) (Self.IsNext program.now) (actor_place actor.now) entries.new) }
         ensures families { OnOk result (AreFamilies (Self.seen program.now) Self.awaits entries.new) }
-        ensures fits { OnOk result (Self.Fits program.now work.new (record { procs = procs_of (Self.seen program.now) entries.new; chans = chans_of channels.new })) }
+        ensures fits { OnOk result (Self.Fits program.now work.new
+            (record { procs = procs_of (Self.seen program.now) entries.new; chans = chans_of channels.new })) }
         ensures waking { OnOk result (WakesAll channels.old channels.new) };
 }

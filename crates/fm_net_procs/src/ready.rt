@@ -22,9 +22,12 @@ use fm_chan::Channels;
 
 // Notes the number of a process, which can't step, at the channel at which it waits, if it waits at one that is there.
 fn note_at(channels: &mut Channels, channel: Option<&ChanName>, number: u32) -> Result<(), NoMemory>
-    requires { (c : declared_channel.ChanName) → option_copied channel ≡ Some c → pops_at (get (chans_of channels.old) c) ≡ false }
+    requires { (c : declared_channel.ChanName) → option_copied channel ≡ Some c
+        → pops_at (get (chans_of channels.old) c) ≡ false }
     ensures channels { OnOk result (chans_of channels.new ≡ chans_of channels.old) }
-    ensures noted { OnOk result ((c : declared_channel.ChanName) → option_copied channel.entry ≡ Some c → contains_key (chans_of channels.old) c ≡ true → waiting_reader channels.new c ≡ Some number) }
+    ensures noted { OnOk result ((c : declared_channel.ChanName)
+        → option_copied channel.entry ≡ Some c → contains_key (chans_of channels.old) c ≡ true
+        → waiting_reader channels.new c ≡ Some number) }
     ensures waking { OnOk result (WakesAll channels.old channels.new) }
 {
     match channel {
@@ -43,8 +46,12 @@ impl<E: Drop, L: Drop, W: Drop, P: Proc<Event = E, Look = L, Work = W>> Processe
     // Whether a process, which stands at this event, can step.
     #[inline(always)]
     fn is_served(&self, entry: &Entry<P, L>, event: &E) -> Result<bool, NoMemory>
-        ensures { IfOk result (λ r. (p : P.Program) (q : Place) → get (procs_of (P.seen p) self.now.entries) q ≡ Some (proc_in (P.seen p) entry.now) → HasFamily (order_of self.now.entries) q (P.awaits (proc_in (P.seen p) entry.now)) entry.now.first_child →
-            P.Fits p self.now.work (state_of (P.seen p) self.now) → P.MeetsIt p (proc_in (P.seen p) entry.now) event.now → r ≡ is_some (language_step (P.language p) (state_of (P.seen p) self.now) q)) }
+        ensures { IfOk result (λ r. (p : P.Program) (q : Place)
+            → get (procs_of (P.seen p) self.now.entries) q ≡ Some (proc_in (P.seen p) entry.now)
+            → HasFamily (order_of self.now.entries) q (P.awaits (proc_in (P.seen p) entry.now)) entry.now.first_child
+            → P.Fits p self.now.work (state_of (P.seen p) self.now)
+            → P.MeetsIt p (proc_in (P.seen p) entry.now) event.now
+            → r ≡ is_some (language_step (P.language p) (state_of (P.seen p) self.now) q)) }
     {
         match entry.process.is_served(&self.channels, &self.work, event) {
             Some(served) => Ok(served),
@@ -55,9 +62,12 @@ impl<E: Drop, L: Drop, W: Drop, P: Proc<Event = E, Look = L, Work = W>> Processe
     // Whether the process of a number, which stands at this event, can step.
     #[inline(always)]
     pub(crate) fn is_able(&self, number: u32, event: &E) -> Result<bool, NoMemory>
-        ensures { IfOk result (λ r. (p : P.Program) → AreFamilies (P.seen p) P.awaits self.now.entries → P.Fits p self.now.work (state_of (P.seen p) self.now) →
-            ((q : Place) (y : P.Seen) → place_at self.now.entries.rows number ≡ Some q → get (procs_of (P.seen p) self.now.entries) q ≡ Some y → P.MeetsIt p y event.now) →
-            r ≡ can_at (P.language p) (state_of (P.seen p) self.now) (order_of self.now.entries) number) }
+        ensures { IfOk result (λ r. (p : P.Program) → AreFamilies (P.seen p) P.awaits self.now.entries
+            → P.Fits p self.now.work (state_of (P.seen p) self.now)
+            → ((q : Place) (y : P.Seen) → place_at self.now.entries.rows number ≡ Some q
+            → get (procs_of (P.seen p) self.now.entries) q ≡ Some y
+            → P.MeetsIt p y event.now)
+            → r ≡ can_at (P.language p) (state_of (P.seen p) self.now) (order_of self.now.entries) number) }
     {
         match self.entries.rows.get(number) {
             Some(entry) => self.is_served(entry, event),
@@ -67,8 +77,12 @@ impl<E: Drop, L: Drop, W: Drop, P: Proc<Event = E, Look = L, Work = W>> Processe
 
     // Whether a process can step, by what it does next.
     fn can_entry(&self, entry: &Entry<P, L>) -> Result<bool, NoMemory>
-        ensures { IfOk result (λ r. (p : P.Program) (q : Place) → get (procs_of (P.seen p) self.now.entries) q ≡ Some (proc_in (P.seen p) entry.now) → HasFamily (order_of self.now.entries) q (P.awaits (proc_in (P.seen p) entry.now)) entry.now.first_child →
-            P.Fits p self.now.work (state_of (P.seen p) self.now) → P.IsNext p (proc_in (P.seen p) entry.now) entry.now.next → r ≡ is_some (language_step (P.language p) (state_of (P.seen p) self.now) q)) }
+        ensures { IfOk result (λ r. (p : P.Program) (q : Place)
+            → get (procs_of (P.seen p) self.now.entries) q ≡ Some (proc_in (P.seen p) entry.now)
+            → HasFamily (order_of self.now.entries) q (P.awaits (proc_in (P.seen p) entry.now)) entry.now.first_child
+            → P.Fits p self.now.work (state_of (P.seen p) self.now)
+            → P.IsNext p (proc_in (P.seen p) entry.now) entry.now.next
+            → r ≡ is_some (language_step (P.language p) (state_of (P.seen p) self.now) q)) }
     {
         match P::event(&entry.next) {
             Some(event) => self.is_served(entry, event),
@@ -78,8 +92,10 @@ impl<E: Drop, L: Drop, W: Drop, P: Proc<Event = E, Look = L, Work = W>> Processe
 
     /// Whether the process of a number can step.
     pub fn can_step(&self, number: u32) -> Result<bool, NoMemory>
-        ensures { IfOk result (λ r. (p : P.Program) → AreTold (P.seen p) (P.IsNext p) self.now.entries → AreFamilies (P.seen p) P.awaits self.now.entries → P.Fits p self.now.work (state_of (P.seen p) self.now) →
-            r ≡ can_at (P.language p) (state_of (P.seen p) self.now) (order_of self.now.entries) number) }
+        ensures { IfOk result (λ r. (p : P.Program) → AreTold (P.seen p) (P.IsNext p) self.now.entries
+            → AreFamilies (P.seen p) P.awaits self.now.entries
+            → P.Fits p self.now.work (state_of (P.seen p) self.now)
+            → r ≡ can_at (P.language p) (state_of (P.seen p) self.now) (order_of self.now.entries) number) }
     {
         match self.entries.rows.get(number) {
             Some(entry) => self.can_entry(entry),
@@ -87,15 +103,21 @@ impl<E: Drop, L: Drop, W: Drop, P: Proc<Event = E, Look = L, Work = W>> Processe
         }
     }
 
-    /// Notes the process of a number, which can't step, at the channel at which it waits for a message, if it waits at one.
+    /// Notes the process of a number, which can't step, at the channel at which it waits for a message, if it waits at
+    /// one.
     pub fn note(&mut self, program: &P::Program, number: u32) -> Result<(), NoMemory>
         requires told { AreTold (P.seen program.now) (P.IsNext program.now) self.old.entries }
-        requires waits { can_at (P.language program.now) (state_of (P.seen program.now) self.old) (order_of self.old.entries) number ≡ false }
+        requires waits { can_at (P.language program.now) (state_of (P.seen program.now) self.old)
+            (order_of self.old.entries) number ≡ false }
         ensures entries { OnOk result (self.new.entries ≡ self.old.entries) }
         ensures work { OnOk result (self.new.work ≡ self.old.work) }
         ensures channels { OnOk result (chans_of self.new.channels ≡ chans_of self.old.channels) }
-        ensures noted { OnOk result ((q : Place) (y : P.Seen) → place_at self.old.entries.rows number ≡ Some q → get (procs_of (P.seen program.now) self.old.entries) q ≡ Some y →
-            ((c : declared_channel.ChanName) → channel_waited (P.language program.now) y ≡ Some c → contains_key (chans_of self.old.channels) c ≡ true) → IsNoted (P.language program.now) self.new.channels number y) }
+        ensures noted { OnOk result ((q : Place) (y : P.Seen)
+            → place_at self.old.entries.rows number ≡ Some q
+            → get (procs_of (P.seen program.now) self.old.entries) q ≡ Some y
+            → ((c : declared_channel.ChanName) → channel_waited (P.language program.now) y ≡ Some c
+            → contains_key (chans_of self.old.channels) c ≡ true)
+            → IsNoted (P.language program.now) self.new.channels number y) }
         ensures waking { OnOk result (WakesAll self.old.channels self.new.channels) }
     {
         let _program = program;

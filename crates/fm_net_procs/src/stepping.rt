@@ -44,15 +44,27 @@ impl<E: Drop, L: Drop, W: Drop, P: JoiningProc<Event = E, Look = L, Work = W>> P
         requires families { AreFamilies (P.seen program.now) P.awaits self.old.entries }
         requires fits { P.Fits program.now self.old.work (state_of (P.seen program.now) self.old) }
         requires actor { IsActor self.old.entries actor.now }
-        requires can { is_some (language_step (P.language program.now) (state_of (P.seen program.now) self.old) (actor_place actor.now)) ≡ true }
-        requires new { IsNewAt (P.language program.now) (state_of (P.seen program.now) self.old) (actor_place actor.now) }
-        requires goes { (y : P.Seen) → get (procs_of (P.seen program.now) self.old.entries) (actor_place actor.now) ≡ Some y → (l : L) × P.IsNext program.now y l × (P.event_in l ≡ None) }
+        requires can { is_some
+            (language_step (P.language program.now) (state_of (P.seen program.now) self.old) (actor_place actor.now))
+            ≡ true }
+        requires new { IsNewAt (P.language program.now) (state_of (P.seen program.now) self.old)
+            (actor_place actor.now) }
+        requires goes { (y : P.Seen)
+            → get (procs_of (P.seen program.now) self.old.entries) (actor_place actor.now) ≡ Some y
+            → (l : L) × P.IsNext program.now y l × (P.event_in l ≡ None) }
         ensures order { OnOk result (order_of self.new.entries ≡ order_of self.old.entries) }
         ensures families { OnOk result (AreFamilies (P.seen program.now) P.awaits self.new.entries) }
-        ensures told { OnOk result (AreToldBut (P.seen program.now) (P.IsNext program.now) (actor_place actor.now) self.old.entries → AreToldBut (P.seen program.now) (P.IsNext program.now) (actor_place actor.now) self.new.entries) }
-        ensures advances { IfOk result (λ a. (y : P.Seen) → get (procs_of (P.seen program.now) self.old.entries) (actor_place actor.now) ≡ Some y → (z : P.Seen) ×
-            (procs_of (P.seen program.now) self.new.entries ≡ insert (procs_of (P.seen program.now) self.old.entries) (actor_place actor.now) z) ×
-            Advances (P.language program.now) (P.is_local program.now) P.awaits (P.IsNext program.now) (P.MeetsIt program.now) (P.Fits program.now self.new.work) slice spare (state_of (P.seen program.now) self.old) (actor_place actor.now) y z a (chans_of self.new.channels)) }
+        ensures told { OnOk result (AreToldBut (P.seen program.now) (P.IsNext program.now) (actor_place actor.now)
+            self.old.entries
+            → AreToldBut (P.seen program.now) (P.IsNext program.now) (actor_place actor.now) self.new.entries) }
+        ensures advances { IfOk result (λ a. (y : P.Seen)
+            → get (procs_of (P.seen program.now) self.old.entries) (actor_place actor.now) ≡ Some y
+            → (z : P.Seen)
+            × (procs_of (P.seen program.now) self.new.entries
+            ≡ insert (procs_of (P.seen program.now) self.old.entries) (actor_place actor.now) z)
+            × Advances (P.language program.now) (P.is_local program.now) P.awaits (P.IsNext program.now)
+            (P.MeetsIt program.now) (P.Fits program.now self.new.work) slice spare
+            (state_of (P.seen program.now) self.old) (actor_place actor.now) y z a (chans_of self.new.channels)) }
         ensures waking { OnOk result (WakesAll self.old.channels self.new.channels) }
     {
         let channels = &mut self.channels;
@@ -76,16 +88,29 @@ impl<E: Drop, L: Drop, W: Drop, P: JoiningProc<Event = E, Look = L, Work = W>> P
     ) -> Result<Done<P>, NoMemory>
         requires fits { P.Fits program.now self.old.work (state_of (P.seen program.now) self.old) }
         requires actor { IsActor self.old.entries actor.now }
-        requires can { is_some (language_step (P.language program.now) (state_of (P.seen program.now) self.old) (actor_place actor.now)) ≡ true }
-        requires new { IsNewAt (P.language program.now) (state_of (P.seen program.now) self.old) (actor_place actor.now) }
-        requires event { (y : P.Seen) → get (procs_of (P.seen program.now) self.old.entries) (actor_place actor.now) ≡ Some y → P.MeetsIt program.now y event }
+        requires can { is_some
+            (language_step (P.language program.now) (state_of (P.seen program.now) self.old) (actor_place actor.now))
+            ≡ true }
+        requires new { IsNewAt (P.language program.now) (state_of (P.seen program.now) self.old)
+            (actor_place actor.now) }
+        requires event { (y : P.Seen)
+            → get (procs_of (P.seen program.now) self.old.entries) (actor_place actor.now) ≡ Some y
+            → P.MeetsIt program.now y event }
         requires alone { P.joins event ≡ false }
         ensures order { OnOk result (order_of self.new.entries ≡ order_of self.old.entries) }
-        ensures told { OnOk result (AreToldBut (P.seen program.now) (P.IsNext program.now) (actor_place actor.now) self.old.entries → AreToldBut (P.seen program.now) (P.IsNext program.now) (actor_place actor.now) self.new.entries) }
-        ensures families { OnOk result (AreFamiliesBut (P.seen program.now) P.awaits (actor_place actor.now) self.old.entries → AreFamiliesBut (P.seen program.now) P.awaits (actor_place actor.now) self.new.entries) }
-        ensures performs { IfOk result (λ d. (y : P.Seen) → get (procs_of (P.seen program.now) self.old.entries) (actor_place actor.now) ≡ Some y → (z : P.Seen) ×
-            (procs_of (P.seen program.now) self.new.entries ≡ insert (procs_of (P.seen program.now) self.old.entries) (actor_place actor.now) z) ×
-            StepsTo (P.language program.now) P.awaits (P.Fits program.now self.new.work) (state_of (P.seen program.now) self.old) (actor_place actor.now) y z (map (P.seen program.now) d.children.items) (chans_of self.new.channels) d.cost) }
+        ensures told { OnOk result (AreToldBut (P.seen program.now) (P.IsNext program.now) (actor_place actor.now)
+            self.old.entries
+            → AreToldBut (P.seen program.now) (P.IsNext program.now) (actor_place actor.now) self.new.entries) }
+        ensures families { OnOk result (AreFamiliesBut (P.seen program.now) P.awaits (actor_place actor.now)
+            self.old.entries → AreFamiliesBut (P.seen program.now) P.awaits (actor_place actor.now) self.new.entries) }
+        ensures performs { IfOk result (λ d. (y : P.Seen)
+            → get (procs_of (P.seen program.now) self.old.entries) (actor_place actor.now) ≡ Some y
+            → (z : P.Seen)
+            × (procs_of (P.seen program.now) self.new.entries
+            ≡ insert (procs_of (P.seen program.now) self.old.entries) (actor_place actor.now) z)
+            × StepsTo (P.language program.now) P.awaits (P.Fits program.now self.new.work)
+            (state_of (P.seen program.now) self.old) (actor_place actor.now) y z
+            (map (P.seen program.now) d.children.items) (chans_of self.new.channels) d.cost) }
         ensures waking { OnOk result (WakesAll self.old.channels self.new.channels) }
     {
         let channels = &mut self.channels;
@@ -110,15 +135,24 @@ impl<E: Drop, L: Drop, W: Drop, P: JoiningProc<Event = E, Look = L, Work = W>> P
         requires families { AreFamilies (P.seen program.now) P.awaits self.old.entries }
         requires fits { P.Fits program.now self.old.work (state_of (P.seen program.now) self.old) }
         requires actor { IsActor self.old.entries actor.now }
-        requires can { is_some (language_step (P.language program.now) (state_of (P.seen program.now) self.old) (actor_place actor.now)) ≡ true }
-        requires event { (y : P.Seen) → get (procs_of (P.seen program.now) self.old.entries) (actor_place actor.now) ≡ Some y → P.MeetsIt program.now y event }
+        requires can { is_some
+            (language_step (P.language program.now) (state_of (P.seen program.now) self.old) (actor_place actor.now))
+            ≡ true }
+        requires event { (y : P.Seen)
+            → get (procs_of (P.seen program.now) self.old.entries) (actor_place actor.now) ≡ Some y
+            → P.MeetsIt program.now y event }
         requires joins { P.joins event ≡ true }
-        ensures step { IfOk result (λ r. language_step (P.language program.now) (state_of (P.seen program.now) self.old) (actor_place actor.now) ≡ Some (state_of (P.seen program.now) self.new, r.cost)) }
-        ensures starts { IfOk result (λ r. starts_at (P.language program.now) (state_of (P.seen program.now) self.old) (actor_place actor.now) ≡ child_places (actor_place actor.now) r.block 1 r.started) }
+        ensures step { IfOk result (λ r. language_step (P.language program.now) (state_of (P.seen program.now) self.old)
+            (actor_place actor.now) ≡ Some (state_of (P.seen program.now) self.new, r.cost)) }
+        ensures starts { IfOk result (λ r. starts_at (P.language program.now) (state_of (P.seen program.now) self.old)
+            (actor_place actor.now) ≡ child_places (actor_place actor.now) r.block 1 r.started) }
         ensures families { OnOk result (AreFamilies (P.seen program.now) P.awaits self.new.entries) }
         ensures fits { OnOk result (P.Fits program.now self.new.work (state_of (P.seen program.now) self.new)) }
-        ensures order { IfOk result (λ r. order_of self.new.entries ≡ order_of self.old.entries ++ child_places (actor_place actor.now) r.block 1 r.started) }
-        ensures told { OnOk result (AreToldBut (P.seen program.now) (P.IsNext program.now) (actor_place actor.now) self.old.entries → AreToldBut (P.seen program.now) (P.IsNext program.now) (actor_place actor.now) self.new.entries) }
+        ensures order { IfOk result (λ r. order_of self.new.entries
+            ≡ order_of self.old.entries ++ child_places (actor_place actor.now) r.block 1 r.started) }
+        ensures told { OnOk result (AreToldBut (P.seen program.now) (P.IsNext program.now) (actor_place actor.now)
+            self.old.entries
+            → AreToldBut (P.seen program.now) (P.IsNext program.now) (actor_place actor.now) self.new.entries) }
         ensures waking { OnOk result (WakesAll self.old.channels self.new.channels) }
     {
         let entries = &mut self.entries;
@@ -144,16 +178,26 @@ impl<E: Drop, L: Drop, W: Drop, P: JoiningProc<Event = E, Look = L, Work = W>> P
         requires families { AreFamilies (P.seen program.now) P.awaits self.old.entries }
         requires fits { P.Fits program.now self.old.work (state_of (P.seen program.now) self.old) }
         requires actor { IsActor self.old.entries actor.now }
-        requires can { is_some (language_step (P.language program.now) (state_of (P.seen program.now) self.old) (actor_place actor.now)) ≡ true }
-        requires new { IsNewAt (P.language program.now) (state_of (P.seen program.now) self.old) (actor_place actor.now) }
-        requires event { (y : P.Seen) → get (procs_of (P.seen program.now) self.old.entries) (actor_place actor.now) ≡ Some y → P.MeetsIt program.now y event }
+        requires can { is_some
+            (language_step (P.language program.now) (state_of (P.seen program.now) self.old) (actor_place actor.now))
+            ≡ true }
+        requires new { IsNewAt (P.language program.now) (state_of (P.seen program.now) self.old)
+            (actor_place actor.now) }
+        requires event { (y : P.Seen)
+            → get (procs_of (P.seen program.now) self.old.entries) (actor_place actor.now) ≡ Some y
+            → P.MeetsIt program.now y event }
         requires alone { P.joins event ≡ false }
-        ensures step { IfOk result (λ r. language_step (P.language program.now) (state_of (P.seen program.now) self.old) (actor_place actor.now) ≡ Some (state_of (P.seen program.now) self.new, r.cost)) }
-        ensures starts { IfOk result (λ r. starts_at (P.language program.now) (state_of (P.seen program.now) self.old) (actor_place actor.now) ≡ child_places (actor_place actor.now) r.block 1 r.started) }
+        ensures step { IfOk result (λ r. language_step (P.language program.now) (state_of (P.seen program.now) self.old)
+            (actor_place actor.now) ≡ Some (state_of (P.seen program.now) self.new, r.cost)) }
+        ensures starts { IfOk result (λ r. starts_at (P.language program.now) (state_of (P.seen program.now) self.old)
+            (actor_place actor.now) ≡ child_places (actor_place actor.now) r.block 1 r.started) }
         ensures families { OnOk result (AreFamilies (P.seen program.now) P.awaits self.new.entries) }
         ensures fits { OnOk result (P.Fits program.now self.new.work (state_of (P.seen program.now) self.new)) }
-        ensures order { IfOk result (λ r. order_of self.new.entries ≡ order_of self.old.entries ++ child_places (actor_place actor.now) r.block 1 r.started) }
-        ensures told { OnOk result (AreToldBut (P.seen program.now) (P.IsNext program.now) (actor_place actor.now) self.old.entries → AreToldBut (P.seen program.now) (P.IsNext program.now) (actor_place actor.now) self.new.entries) }
+        ensures order { IfOk result (λ r. order_of self.new.entries
+            ≡ order_of self.old.entries ++ child_places (actor_place actor.now) r.block 1 r.started) }
+        ensures told { OnOk result (AreToldBut (P.seen program.now) (P.IsNext program.now) (actor_place actor.now)
+            self.old.entries
+            → AreToldBut (P.seen program.now) (P.IsNext program.now) (actor_place actor.now) self.new.entries) }
         ensures waking { OnOk result (WakesAll self.old.channels self.new.channels) }
     {
         let block = self.entries.next_block(actor.number);
@@ -183,15 +227,25 @@ impl<E: Drop, L: Drop, W: Drop, P: JoiningProc<Event = E, Look = L, Work = W>> P
         requires families { AreFamilies (P.seen program.now) P.awaits self.old.entries }
         requires fits { P.Fits program.now self.old.work (state_of (P.seen program.now) self.old) }
         requires actor { IsActor self.old.entries actor.now }
-        requires can { is_some (language_step (P.language program.now) (state_of (P.seen program.now) self.old) (actor_place actor.now)) ≡ true }
-        requires new { IsNewAt (P.language program.now) (state_of (P.seen program.now) self.old) (actor_place actor.now) }
-        requires event { (y : P.Seen) → get (procs_of (P.seen program.now) self.old.entries) (actor_place actor.now) ≡ Some y → P.MeetsIt program.now y event }
-        ensures step { IfOk result (λ r. language_step (P.language program.now) (state_of (P.seen program.now) self.old) (actor_place actor.now) ≡ Some (state_of (P.seen program.now) self.new, r.cost)) }
-        ensures starts { IfOk result (λ r. starts_at (P.language program.now) (state_of (P.seen program.now) self.old) (actor_place actor.now) ≡ child_places (actor_place actor.now) r.block 1 r.started) }
+        requires can { is_some
+            (language_step (P.language program.now) (state_of (P.seen program.now) self.old) (actor_place actor.now))
+            ≡ true }
+        requires new { IsNewAt (P.language program.now) (state_of (P.seen program.now) self.old)
+            (actor_place actor.now) }
+        requires event { (y : P.Seen)
+            → get (procs_of (P.seen program.now) self.old.entries) (actor_place actor.now) ≡ Some y
+            → P.MeetsIt program.now y event }
+        ensures step { IfOk result (λ r. language_step (P.language program.now) (state_of (P.seen program.now) self.old)
+            (actor_place actor.now) ≡ Some (state_of (P.seen program.now) self.new, r.cost)) }
+        ensures starts { IfOk result (λ r. starts_at (P.language program.now) (state_of (P.seen program.now) self.old)
+            (actor_place actor.now) ≡ child_places (actor_place actor.now) r.block 1 r.started) }
         ensures families { OnOk result (AreFamilies (P.seen program.now) P.awaits self.new.entries) }
         ensures fits { OnOk result (P.Fits program.now self.new.work (state_of (P.seen program.now) self.new)) }
-        ensures order { IfOk result (λ r. order_of self.new.entries ≡ order_of self.old.entries ++ child_places (actor_place actor.now) r.block 1 r.started) }
-        ensures told { OnOk result (AreToldBut (P.seen program.now) (P.IsNext program.now) (actor_place actor.now) self.old.entries → AreToldBut (P.seen program.now) (P.IsNext program.now) (actor_place actor.now) self.new.entries) }
+        ensures order { IfOk result (λ r. order_of self.new.entries
+            ≡ order_of self.old.entries ++ child_places (actor_place actor.now) r.block 1 r.started) }
+        ensures told { OnOk result (AreToldBut (P.seen program.now) (P.IsNext program.now) (actor_place actor.now)
+            self.old.entries
+            → AreToldBut (P.seen program.now) (P.IsNext program.now) (actor_place actor.now) self.new.entries) }
         ensures waking { OnOk result (WakesAll self.old.channels self.new.channels) }
     {
         if P::is_join(&event) {

@@ -3,3 +3,7 @@ mod Moving
 mod FirstLaws
 mod Listed
 mod Waits
+mod Costs
+mod Keeping
+mod Made
+mod Runs

@@ -30,14 +30,15 @@ use std::sync::Arc;
 /// Why a program doesn't run on hosts.
 #[derive(Drop)]
 pub enum NodesFail {
-    /// It isn't plain: the least line of a PROBE or of a MERGER with several writers that main reaches, or of a declaration of ports
-    /// over which ports go.
+    /// It isn't plain: the least line, in a unit that main reaches, of a PROBE, of a MERGER with several writers, or of
+    /// a declaration of ports over which ports go.
     NotPlain(Line),
     /// Memory was wanting.
     NoMemory,
 }
 
-/// A plain program on hosts, with channels that go over links. Contracts see the program, the hosts, and what has happened so far.
+/// A plain program on hosts, with channels that go over links. Contracts see the program, the hosts, and what has
+/// happened so far.
 pub struct Nodes {
     trees: Trees,
     alloc: Global,
@@ -104,16 +105,16 @@ impl Nodes {
         }
     }
 
-    /// The program is plain; the history and the paths tell a legal schedule, which leads to the state for which the hosts stand, at
-    /// the cost of the steps.
+    /// The program is plain; the history and the paths tell a legal schedule, which leads to the state for which the
+    /// hosts stand, at the cost of the steps.
     pub fn is_played(&self)
         ensures { IsHosted self.now }
     {
         let _used = self.state.used;
     }
 
-    /// Does what happens, and tells whether it could: `IsDone` says of each event exactly when it can, and what it makes of the
-    /// hosts, the history and the paths. Where it can't, and after want of memory, nothing has changed.
+    /// Does what happens, and tells whether it could: `IsDone` says of each event exactly when it can, and what it
+    /// makes of the hosts, the history and the paths. Where it can't, and after want of memory, nothing has changed.
     pub fn act(&mut self, event: NodeEvent) -> Result<bool, NoMemory>
         requires { is_step event ≡ true → self.old.run.used ≤ 1000000000 }
         ensures same { setting_of self.new ≡ setting_of self.old }
@@ -164,8 +165,8 @@ impl Nodes {
         self.state.used
     }
 
-    /// The channel at this place, from 0, in the order of their makers' paths and then of their numbers; none where there are fewer.
-    /// Takes no memory.
+    /// The channel at this place, from 0, in the order of their makers' paths and then of their numbers; none where
+    /// there are fewer. Takes no memory.
     pub fn channel(&self, at: usize) -> Option<&ChanName>
         ensures { option_copied result ≡ slice_get (map (λ e. e.0) (entries self.now.run.hosts.channels)) at }
     {
@@ -191,14 +192,16 @@ impl Nodes {
 
     /// Whether no process has a step any more, whatever arrives.
     pub fn has_ended(&self) -> Result<bool, NoMemory>
-        ensures ended { IfOk result (λ over. over ≡ true → IsFinal (step self.now.program) (state_of self.now.run.hosts)) }
-        ensures goes_on { IfOk result (λ over. over ≡ false → IsFinal (step self.now.program) (state_of self.now.run.hosts) → ⊥) }
+        ensures ended { IfOk result
+            (λ over. over ≡ true → IsFinal (step self.now.program) (state_of self.now.run.hosts)) }
+        ensures goes_on { IfOk result
+            (λ over. over ≡ false → IsFinal (step self.now.program) (state_of self.now.run.hosts) → ⊥) }
     {
         has_ended(self.alloc, &self.trees, &self.state)
     }
 
-    /// The path at this place, from 0, in path order, unless memory was wanting to put it there; none where there are fewer. Takes no
-    /// memory.
+    /// The path at this place, from 0, in path order, unless memory was wanting to put it there; none where there are
+    /// fewer. Takes no memory.
     pub fn path(&self, place: usize) -> Option<&Path>
         ensures { IsSome result ↔ (place < length self.now.run.order) }
     {

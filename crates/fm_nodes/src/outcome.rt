@@ -53,7 +53,8 @@ fn awaited(
     block: u32,
     count: usize,
 ) -> Result<Option<Path>, NoMemory>
-    ensures { IfOk result (λ o. (p : declared.Program) → o ≡ awaited (procs_of (proc_of p) processes.now) path.now block 1 count) }
+    ensures { IfOk result
+        (λ o. (p : declared.Program) → o ≡ awaited (procs_of (proc_of p) processes.now) path.now block 1 count) }
 {
     let mut likely = 0;
     'children: for place in 0..count {
@@ -75,8 +76,11 @@ fn waits_at(
     process: &PlainProc,
     event: &Event,
 ) -> Result<Option<At>, NoMemory>
-    requires { IsEvent (phase_of process.now.phase) (action_of program.now (proc_of program.now process.now)) event.now }
-    ensures { IfOk result (λ o. o ≡ waits_by (procs_of (proc_of program.now) processes.now) path.now (need_of program.now (proc_of program.now process.now))) }
+    requires { IsEvent (phase_of process.now.phase) (action_of program.now (proc_of program.now process.now))
+        event.now }
+    ensures { IfOk result (λ o. o
+        ≡ waits_by (procs_of (proc_of program.now) processes.now) path.now
+        (need_of program.now (proc_of program.now process.now))) }
 {
     let _process = process;
     match event {
@@ -105,7 +109,9 @@ fn waits(
     path: &Path,
     process: &PlainProc,
 ) -> Result<Option<At>, NoMemory>
-    ensures { IfOk result (λ o. o ≡ waits_by (procs_of (proc_of program.now) processes.now) path.now (need_of program.now (proc_of program.now process.now))) }
+    ensures { IfOk result (λ o. o
+        ≡ waits_by (procs_of (proc_of program.now) processes.now) path.now
+        (need_of program.now (proc_of program.now process.now))) }
 {
     match next_of(alloc, program, process)? {
         Next::Meets(event) => waits_at(alloc, program, processes, path, process, &event),
@@ -122,7 +128,10 @@ fn push_wait(
     path: &Path,
     process: &PlainProc,
 ) -> Result<(), NoMemory>
-    ensures { OnOk result (all.new.items ≡ all.old.items ++ wait_at program.now (procs_of (proc_of program.now) processes.now) (path.now, proc_of program.now process.now)) }
+    ensures { OnOk result (all.new.items
+        ≡ all.old.items
+        ++ wait_at program.now (procs_of (proc_of program.now) processes.now)
+        (path.now, proc_of program.now process.now)) }
 {
     match waits(alloc, program, processes, path, process)? {
         Some(at) => {
@@ -144,9 +153,14 @@ fn add_process(
     path: &Path,
     process: &PlainProc,
 ) -> Result<(), NoMemory>
-    ensures lines { OnOk result (all.new.lines.items ≡ all.old.lines.items ++ lines_at (path.now, proc_of program.now process.now)) }
-    ensures faults { OnOk result (all.new.faults.items ≡ all.old.faults.items ++ fault_at (path.now, proc_of program.now process.now)) }
-    ensures waits { OnOk result (all.new.waits.items ≡ all.old.waits.items ++ wait_at program.now (procs_of (proc_of program.now) processes.now) (path.now, proc_of program.now process.now)) }
+    ensures lines { OnOk result
+        (all.new.lines.items ≡ all.old.lines.items ++ lines_at (path.now, proc_of program.now process.now)) }
+    ensures faults { OnOk result
+        (all.new.faults.items ≡ all.old.faults.items ++ fault_at (path.now, proc_of program.now process.now)) }
+    ensures waits { OnOk result (all.new.waits.items
+        ≡ all.old.waits.items
+        ++ wait_at program.now (procs_of (proc_of program.now) processes.now)
+        (path.now, proc_of program.now process.now)) }
 {
     push_lines(alloc, &mut all.lines, path, process.lines())?;
     push_fault(alloc, &mut all.faults, path, process)?;
@@ -158,9 +172,13 @@ fn gathered(
     program: &Program,
     processes: &Processes<PlainProc>,
 ) -> Result<Gathered, NoMemory>
-    ensures lines { IfOk result (λ all. all.lines.items ≡ flat_map lines_at (entries (procs_of (proc_of program.now) processes.now))) }
-    ensures faults { IfOk result (λ all. all.faults.items ≡ flat_map fault_at (entries (procs_of (proc_of program.now) processes.now))) }
-    ensures waits { IfOk result (λ all. all.waits.items ≡ flat_map (wait_at program.now (procs_of (proc_of program.now) processes.now)) (entries (procs_of (proc_of program.now) processes.now))) }
+    ensures lines { IfOk result
+        (λ all. all.lines.items ≡ flat_map lines_at (entries (procs_of (proc_of program.now) processes.now))) }
+    ensures faults { IfOk result
+        (λ all. all.faults.items ≡ flat_map fault_at (entries (procs_of (proc_of program.now) processes.now))) }
+    ensures waits { IfOk result (λ all. all.waits.items
+        ≡ flat_map (wait_at program.now (procs_of (proc_of program.now) processes.now))
+        (entries (procs_of (proc_of program.now) processes.now))) }
 {
     let mut all = Gathered::new(alloc);
     let rows = processes.in_path_order(alloc)?;
@@ -176,7 +194,8 @@ fn owners(
     program: &Program,
     processes: &Processes<PlainProc>,
 ) -> Result<Map<Outport, Path>, NoMemory>
-    ensures { IfOk result (λ m. map_of outport_cmp m ≡ from_entries (holdings (procs_of (proc_of program.now) processes.now))) }
+    ensures { IfOk result
+        (λ m. map_of outport_cmp m ≡ from_entries (holdings (procs_of (proc_of program.now) processes.now))) }
 {
     let mut all = Map::new(alloc);
     let rows = processes.in_path_order(alloc)?;
@@ -192,7 +211,8 @@ fn holders(
     program: &Program,
     state: &NodeState<PlainProc>,
 ) -> Result<Vec<Holder>, NoMemory>
-    ensures { IfOk result (λ v. v.items ≡ holders_of (state_of (hosts_in (proc_of program.now) state.now.processes state.now.network))) }
+    ensures { IfOk result
+        (λ v. v.items ≡ holders_of (state_of (hosts_in (proc_of program.now) state.now.processes state.now.network))) }
 {
     let owners = owners(alloc, program, &state.processes)?;
     holders_in_order(alloc, owners)
@@ -200,7 +220,8 @@ fn holders(
 
 // The process at a path.
 fn process_at<'a>(processes: &'a Processes<PlainProc>, path: &Path) -> Option<&'a PlainProc>
-    ensures { (p : declared.Program) → option_map (proc_of p) (option_copied result) ≡ get (procs_of (proc_of p) processes.now) path.now }
+    ensures { (p : declared.Program)
+        → option_map (proc_of p) (option_copied result) ≡ get (procs_of (proc_of p) processes.now) path.now }
 {
     match processes.number(path, 0) {
         Some(number) => Some(processes.get(number)),
@@ -208,14 +229,16 @@ fn process_at<'a>(processes: &'a Processes<PlainProc>, path: &Path) -> Option<&'
     }
 }
 
-/// What the hosts show that have ended at this cost in turns: output, faults and waits in path order, the variables of main, and
-/// who holds the open writers.
+/// What the hosts show that have ended at this cost in turns: output, faults and waits in path order, the variables of
+/// main, and who holds the open writers.
 pub(crate) fn outcome(
     alloc: Global,
     program: &Program,
     state: &NodeState<PlainProc>,
 ) -> Result<Outcome, NoMemory>
-    ensures { IfOk result (λ o. o ≡ outcome_of program.now state.now.used (state_of (hosts_in (proc_of program.now) state.now.processes state.now.network))) }
+    ensures { IfOk result (λ o. o
+        ≡ outcome_of program.now state.now.used
+        (state_of (hosts_in (proc_of program.now) state.now.processes state.now.network))) }
 {
     let Gathered {
         lines,

@@ -26,8 +26,8 @@ fn first_with<R: Runner>(
     ensures is { IfSome result (λ n. (q : Place) → slice_get (order_of processes.now) n ≡ Some q →
         holder (R.language runner.now) (procs_of (R.seen runner.now) processes.now) (order_of processes.now) port.now
         ≡ Some (keeper (R.language runner.now) q (get (procs_of (R.seen runner.now) processes.now) q))) }
-    ensures none { IfNone result
-        (holder (R.language runner.now) (procs_of (R.seen runner.now) processes.now) (order_of processes.now) port.now ≡ None) }
+    ensures none { IfNone result (holder (R.language runner.now) (procs_of (R.seen runner.now) processes.now)
+        (order_of processes.now) port.now ≡ None) }
 {
     'processes: for number in 0..processes.len() {
         if runner.has(processes.get(number), port) {
@@ -64,8 +64,10 @@ fn holder_of<R: Runner>(
     channel: &ChanName,
     port: &PortValue,
 ) -> Result<Path, NoMemory>
-    ensures { IfOk result (λ k. k ≡ unwrap_or
-        (holder (R.language runner.now) (procs_of (R.seen runner.now) processes.now) (order_of processes.now) port.now) channel.now.maker) }
+    ensures { IfOk result (λ k. k
+        ≡ unwrap_or
+        (holder (R.language runner.now) (procs_of (R.seen runner.now) processes.now) (order_of processes.now) port.now)
+        channel.now.maker) }
 {
     match first_with(runner, processes, port) {
         Some(number) => keeper_of(alloc, runner, processes, number),
@@ -91,7 +93,8 @@ fn end_host<R: Runner>(
     channel: &ChanName,
     port: &PortValue,
 ) -> Result<u32, NoMemory>
-    ensures { IfOk result (λ h. h ≡ end_host (R.language runner.now) (R.host runner.now) (procs_of (R.seen runner.now) processes.now)
+    ensures { IfOk result (λ h. h
+        ≡ end_host (R.language runner.now) (R.host runner.now) (procs_of (R.seen runner.now) processes.now)
         (order_of processes.now) channel.now port.now) }
 {
     let path = holder_of(alloc, runner, processes, channel, port)?;
@@ -106,7 +109,8 @@ fn stays<R: Runner>(
     channel: &ChanName,
     host: u32,
 ) -> Result<bool, NoMemory>
-    ensures { IfOk result (λ b. b ≡ outlasts (R.language runner.now) (R.host runner.now) (procs_of (R.seen runner.now) processes.now)
+    ensures { IfOk result (λ b. b
+        ≡ outlasts (R.language runner.now) (R.host runner.now) (procs_of (R.seen runner.now) processes.now)
         (order_of processes.now) host channel.now) }
 {
     let writer = PortValue::Writer(channel.copy(alloc)?, 0);
@@ -152,7 +156,8 @@ fn judge<R: Runner>(
     host: u32,
 ) -> Result<Judged, NoMemory>
     ensures { IfOk result (λ j. AreJudged (λ c. unwrap_or (get (map_of channel_cmp j.by_name) c) true)
-        (outlasts (R.language runner.now) (R.host runner.now) (procs_of (R.seen runner.now) processes.now) (order_of processes.now) host) wire.now) }
+        (outlasts (R.language runner.now) (R.host runner.now) (procs_of (R.seen runner.now) processes.now)
+        (order_of processes.now) host) wire.now) }
 {
     let mut by_name = Map::new(alloc);
     'things: for carried in wire {
@@ -162,8 +167,8 @@ fn judge<R: Runner>(
     Ok(Judged { by_name })
 }
 
-/// A host starts again: all is lost that is on the wire from it or to it, and no end of a link. After want of memory nothing has
-/// changed.
+/// A host starts again: all is lost that is on the wire from it or to it, and no end of a link. After want of memory
+/// nothing has changed.
 pub fn restart<R: Runner>(
     alloc: Global,
     runner: &R,

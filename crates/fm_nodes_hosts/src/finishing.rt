@@ -28,8 +28,8 @@ pub(crate) fn one_step(number: usize) -> Turn
     }
 }
 
-/// Makes room for a step of a process: for its entry, and for so many children that start in a block, whose paths are answered.
-/// Nothing changes.
+/// Makes room for a step of a process: for its entry, and for so many children that start in a block, whose paths are
+/// answered. Nothing changes.
 pub(crate) fn prepare<R: Runner>(
     alloc: Global,
     runner: &R,
@@ -50,8 +50,8 @@ pub(crate) fn prepare<R: Runner>(
     Ok(paths)
 }
 
-/// What is left of a step, for which there is room: the ports of a process that went on are let go, the children of these
-/// numbers were joined, its children start in a block, and the history has an entry more. Takes no memory.
+/// What is left of a step, for which there is room: the ports of a process that went on are let go, the children of
+/// these numbers were joined, its children start in a block, and the history has an entry more. Takes no memory.
 pub(crate) fn finish<R: Runner>(
     alloc: Global,
     runner: &R,
@@ -63,10 +63,11 @@ pub(crate) fn finish<R: Runner>(
     paths: Vec<Arc<Path>>,
     joined: Vec<usize>,
 )
-    requires { IsReady (R.seen runner.now) state.old path.now number block paths.items gone.starts.items (R.let_go runner.now gone.drops) gone.cost }
-    ensures { (b : ℕ) → AreNumbered (order_of state.old.processes) path.now b 1 joined.items →
-        IsFinished path.now number block (map (R.seen runner.now) gone.starts.items) (R.let_go runner.now gone.drops) gone.cost
-        (child_changes (R.language runner.now).emptied path.now b 1 (length joined.items))
+    requires { IsReady (R.seen runner.now) state.old path.now number block paths.items gone.starts.items
+        (R.let_go runner.now gone.drops) gone.cost }
+    ensures { (b : ℕ) → AreNumbered (order_of state.old.processes) path.now b 1 joined.items
+        → IsFinished path.now number block (map (R.seen runner.now) gone.starts.items) (R.let_go runner.now gone.drops)
+        gone.cost (child_changes (R.language runner.now).emptied path.now b 1 (length joined.items))
         (run_of (R.seen runner.now) state.old) (run_of (R.seen runner.now) state.new) }
 {
     let Gone {

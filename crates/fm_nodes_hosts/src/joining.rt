@@ -27,11 +27,14 @@ pub(crate) fn join_children<R: Runner>(
     count: usize,
 ) -> Result<bool, NoMemory>
     requires who { slice_get (order_of state.old.processes) number ≡ Some path.now }
-    requires sound { IsSound (R.language runner.now) (main_alone (R.main runner.now)) (run_of (R.seen runner.now) state.old) }
+    requires sound { IsSound (R.language runner.now) (main_alone (R.main runner.now))
+        (run_of (R.seen runner.now) state.old) }
     requires used { state.old.used ≤ 1000000000 }
-    requires asks { AsksFor (R.language runner.now) path.now (run_of (R.seen runner.now) state.old) (Some (Children of count)) }
+    requires asks { AsksFor (R.language runner.now) path.now (run_of (R.seen runner.now) state.old)
+        (Some (Children of count)) }
     requires starts { Starting (R.language runner.now) path.now (run_of (R.seen runner.now) state.old) block starts }
-    ensures { IsTried (R.language runner.now) path.now (run_of (R.seen runner.now) state.old) (run_of (R.seen runner.now) state.new) result }
+    ensures { IsTried (R.language runner.now) path.now (run_of (R.seen runner.now) state.old)
+        (run_of (R.seen runner.now) state.new) result }
 {
     match ended_children(alloc, runner, &state.processes, path, of, count)? {
         Some(children) => {

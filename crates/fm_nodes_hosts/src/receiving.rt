@@ -61,7 +61,8 @@ fn fits(limits: &[Option<u32>], items: &[Seq<i64>]) -> bool
 
 // What has arrived at a channel and wasn't taken, the oldest load of it.
 fn arrived<'a>(channels: &'a Channels, name: &ChanName) -> Option<&'a Load>
-    ensures { option_copied result ≡ option_and_then (λ l. first_of l.incoming) (get (linked_chans_of channels.now) name.now) }
+    ensures { option_copied result
+        ≡ option_and_then (λ l. first_of l.incoming) (get (linked_chans_of channels.now) name.now) }
 {
     match channels.get(name) {
         Some(channel) => channel.first(),
@@ -92,13 +93,17 @@ fn go_with<R: Runner>(
     ensures order { order_of processes.new ≡ order_of processes.old }
     ensures room { (count : ℕ) → HasRoom processes.old count → HasRoom processes.new count }
     ensures takes { IfOk result (λ t. t.takes ≡ takes_of limits.now load.now) }
-    ensures goes { IfOk result (λ t. (x : R.Proc) (c : declared.ChanName) (f : declared.ChanName → Reply R.Proc → Onward R.Proc) →
-        get (procs_of (R.seen runner.now) processes.old) path.now ≡ Some x →
-        (R.language runner.now).ask x ≡ Go (Event c (Pop limits.now)) f → (r : Reply R.Proc) → reply_to_receive limits.now (Some load.now) ≡ Some r →
-        GoesAt (procs_of (R.seen runner.now) processes.old) path.now (map (R.seen runner.now) t.gone.starts.items) (R.let_go runner.now t.gone.drops)
-        t.gone.cost (procs_of (R.seen runner.now) processes.new) (f (made path.now (Event c (Pop limits.now))) r)) }
+    ensures goes { IfOk result (λ t. (x : R.Proc) (c : declared.ChanName)
+        (f : declared.ChanName → Reply R.Proc → Onward R.Proc)
+        → get (procs_of (R.seen runner.now) processes.old) path.now ≡ Some x
+        → (R.language runner.now).ask x ≡ Go (Event c (Pop limits.now)) f
+        → (r : Reply R.Proc) → reply_to_receive limits.now (Some load.now) ≡ Some r
+        → GoesAt (procs_of (R.seen runner.now) processes.old) path.now (map (R.seen runner.now) t.gone.starts.items)
+        (R.let_go runner.now t.gone.drops) t.gone.cost (procs_of (R.seen runner.now) processes.new)
+        (f (made path.now (Event c (Pop limits.now))) r)) }
     ensures few { IfOk result (λ t. t.gone.cost < 2 ^ 63) }
-    ensures err { OnErr result (procs_of (R.seen runner.now) processes.new ≡ procs_of (R.seen runner.now) processes.old) }
+    ensures err { OnErr result
+        (procs_of (R.seen runner.now) processes.new ≡ procs_of (R.seen runner.now) processes.old) }
 {
     match load {
         Load::Words(words) => {
@@ -119,7 +124,8 @@ fn go_with<R: Runner>(
 
 // Takes what has arrived at a channel, if it is to be taken. Takes no memory.
 fn take_if(channels: &mut Channels, name: &ChanName, takes: bool)
-    ensures { linked_chans_of channels.new ≡ cond takes (adjust (linked_chans_of channels.old) name.now with_first_taken) (linked_chans_of channels.old) }
+    ensures { linked_chans_of channels.new
+        ≡ cond takes (adjust (linked_chans_of channels.old) name.now with_first_taken) (linked_chans_of channels.old) }
 {
     if takes {
         channels.take(name);
@@ -139,11 +145,14 @@ pub(crate) fn receive<R: Runner>(
     limits: &[Option<u32>],
 ) -> Result<bool, NoMemory>
     requires who { slice_get (order_of state.old.processes) number ≡ Some path.now }
-    requires sound { IsSound (R.language runner.now) (main_alone (R.main runner.now)) (run_of (R.seen runner.now) state.old) }
+    requires sound { IsSound (R.language runner.now) (main_alone (R.main runner.now))
+        (run_of (R.seen runner.now) state.old) }
     requires used { state.old.used ≤ 1000000000 }
-    requires asks { AsksFor (R.language runner.now) path.now (run_of (R.seen runner.now) state.old) (Some (Event channel.now (Pop limits.now))) }
+    requires asks { AsksFor (R.language runner.now) path.now (run_of (R.seen runner.now) state.old)
+        (Some (Event channel.now (Pop limits.now))) }
     requires starts { Starting (R.language runner.now) path.now (run_of (R.seen runner.now) state.old) block starts }
-    ensures { IsTried (R.language runner.now) path.now (run_of (R.seen runner.now) state.old) (run_of (R.seen runner.now) state.new) result }
+    ensures { IsTried (R.language runner.now) path.now (run_of (R.seen runner.now) state.old)
+        (run_of (R.seen runner.now) state.new) result }
 {
     let paths = prepare(alloc, runner, state, path, block, starts)?;
     match arrived(&state.network.channels, channel) {

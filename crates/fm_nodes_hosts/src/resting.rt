@@ -25,7 +25,9 @@ fn can_be_had<R: Runner>(
     path: &Path,
     asked: &Asked,
 ) -> Result<bool, NoMemory>
-    ensures { IfOk result (λ b. b ≡ steps_by (R.language runner.now).has_ended (hosts_in (R.seen runner.now) state.now.processes state.now.network) path.now (need_told asked.now)) }
+    ensures { IfOk result (λ b. b
+        ≡ steps_by (R.language runner.now).has_ended
+        (hosts_in (R.seen runner.now) state.now.processes state.now.network) path.now (need_told asked.now)) }
 {
     match asked {
         Asked::Rests => Ok(false),
@@ -49,7 +51,8 @@ fn can_step<R: Runner>(
     path: &Path,
 ) -> Result<bool, NoMemory>
     requires who { slice_get (order_of state.now.processes) number ≡ Some path.now }
-    requires sound { IsSound (R.language runner.now) (main_alone (R.main runner.now)) (run_of (R.seen runner.now) state.now) }
+    requires sound { IsSound (R.language runner.now) (main_alone (R.main runner.now))
+        (run_of (R.seen runner.now) state.now) }
     ensures { IfOk result (λ b. b ≡ is_some (language_step (R.language runner.now)
         (state_of (hosts_in (R.seen runner.now) state.now.processes state.now.network)) path.now)) }
 {
@@ -64,8 +67,11 @@ pub fn has_ended<R: Runner>(
     state: &NodeState<R::Process>,
 ) -> Result<bool, NoMemory>
     requires { IsSound (R.language runner.now) (main_alone (R.main runner.now)) (run_of (R.seen runner.now) state.now) }
-    ensures ended { IfOk result (λ over. over ≡ true → IsFinal (language_step (R.language runner.now)) (state_of (run_of (R.seen runner.now) state.now).hosts)) }
-    ensures goes_on { IfOk result (λ over. over ≡ false → IsFinal (language_step (R.language runner.now)) (state_of (run_of (R.seen runner.now) state.now).hosts) → ⊥) }
+    ensures ended { IfOk result (λ over. over ≡ true
+        → IsFinal (language_step (R.language runner.now)) (state_of (run_of (R.seen runner.now) state.now).hosts)) }
+    ensures goes_on { IfOk result (λ over. over ≡ false
+        → IsFinal (language_step (R.language runner.now)) (state_of (run_of (R.seen runner.now) state.now).hosts)
+        → ⊥) }
 {
     'processes: for number in 0..state.processes.len() {
         let path: &Path = &state.processes.paths()[number];

@@ -31,13 +31,15 @@ fn send_there<R: Runner>(
     words: Seq<Seq<i64>>,
 ) -> Result<bool, NoMemory>
     requires who { slice_get (order_of state.old.processes) number ≡ Some path.now }
-    requires sound { IsSound (R.language runner.now) (main_alone (R.main runner.now)) (run_of (R.seen runner.now) state.old) }
+    requires sound { IsSound (R.language runner.now) (main_alone (R.main runner.now))
+        (run_of (R.seen runner.now) state.old) }
     requires used { state.old.used ≤ 1000000000 }
     requires asks { AsksFor (R.language runner.now) path.now (run_of (R.seen runner.now) state.old)
         (Some (Event channel.now (Push writer (map Words words)))) }
     requires starts { Starting (R.language runner.now) path.now (run_of (R.seen runner.now) state.old) block starts }
     requires there { is_some (get (linked_chans_of state.old.network.channels) channel.now) ≡ true }
-    ensures { IsTried (R.language runner.now) path.now (run_of (R.seen runner.now) state.old) (run_of (R.seen runner.now) state.new) result }
+    ensures { IsTried (R.language runner.now) path.now (run_of (R.seen runner.now) state.old)
+        (run_of (R.seen runner.now) state.new) result }
 {
     let _writer = writer;
     let paths = prepare(alloc, runner, state, path, block, starts)?;
@@ -80,12 +82,14 @@ pub(crate) fn send_words<R: Runner>(
     words: Seq<Seq<i64>>,
 ) -> Result<bool, NoMemory>
     requires who { slice_get (order_of state.old.processes) number ≡ Some path.now }
-    requires sound { IsSound (R.language runner.now) (main_alone (R.main runner.now)) (run_of (R.seen runner.now) state.old) }
+    requires sound { IsSound (R.language runner.now) (main_alone (R.main runner.now))
+        (run_of (R.seen runner.now) state.old) }
     requires used { state.old.used ≤ 1000000000 }
     requires asks { AsksFor (R.language runner.now) path.now (run_of (R.seen runner.now) state.old)
         (Some (Event channel.now (Push writer (map Words words)))) }
     requires starts { Starting (R.language runner.now) path.now (run_of (R.seen runner.now) state.old) block starts }
-    ensures { IsTried (R.language runner.now) path.now (run_of (R.seen runner.now) state.old) (run_of (R.seen runner.now) state.new) result }
+    ensures { IsTried (R.language runner.now) path.now (run_of (R.seen runner.now) state.old)
+        (run_of (R.seen runner.now) state.new) result }
 {
     if state.network.channels.has(channel) {
         send_there(

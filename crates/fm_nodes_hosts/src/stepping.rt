@@ -1,7 +1,8 @@
 //! Steps of processes on what has arrived.
 //!
-//! A step takes all room first: for the entry, the children and the message. The process itself goes on last of what takes
-//! memory, and is as it was where that is wanting. What is done then takes none, so want of memory changes nothing.
+//! A step takes all room first: for the entry, the children and the message. The process itself goes on last of what
+//! takes memory, and is as it was where that is wanting. What is done then takes none, so want of memory changes
+//! nothing.
 
 ghost use Rattle.std.specs.Prelude.{◌≡◌, ◌≤◌, Some, IfOk, cond, slice_get};
 ghost use Rattle.fm_net.specs.Machine.{Nothing, New};
@@ -31,9 +32,12 @@ pub(crate) fn asked_by<R: Runner>(
     path: &Path,
 ) -> Result<Request, NoMemory>
     requires who { slice_get (order_of state.now.processes) number ≡ Some path.now }
-    requires sound { IsSound (R.language runner.now) (main_alone (R.main runner.now)) (run_of (R.seen runner.now) state.now) }
-    ensures need { IfOk result (λ q. AsksFor (R.language runner.now) path.now (run_of (R.seen runner.now) state.now) (need_told q.asked)) }
-    ensures starts { IfOk result (λ q. Starting (R.language runner.now) path.now (run_of (R.seen runner.now) state.now) q.block q.starts) }
+    requires sound { IsSound (R.language runner.now) (main_alone (R.main runner.now))
+        (run_of (R.seen runner.now) state.now) }
+    ensures need { IfOk result
+        (λ q. AsksFor (R.language runner.now) path.now (run_of (R.seen runner.now) state.now) (need_told q.asked)) }
+    ensures starts { IfOk result
+        (λ q. Starting (R.language runner.now) path.now (run_of (R.seen runner.now) state.now) q.block q.starts) }
 {
     let _path = path;
     runner.asked(alloc, state.processes.get(number))
@@ -50,11 +54,13 @@ fn go<R: Runner>(
     starts: usize,
 ) -> Result<bool, NoMemory>
     requires who { slice_get (order_of state.old.processes) number ≡ Some path.now }
-    requires sound { IsSound (R.language runner.now) (main_alone (R.main runner.now)) (run_of (R.seen runner.now) state.old) }
+    requires sound { IsSound (R.language runner.now) (main_alone (R.main runner.now))
+        (run_of (R.seen runner.now) state.old) }
     requires used { state.old.used ≤ 1000000000 }
     requires asks { AsksFor (R.language runner.now) path.now (run_of (R.seen runner.now) state.old) (Some Nothing) }
     requires starts { Starting (R.language runner.now) path.now (run_of (R.seen runner.now) state.old) block starts }
-    ensures { IsTried (R.language runner.now) path.now (run_of (R.seen runner.now) state.old) (run_of (R.seen runner.now) state.new) result }
+    ensures { IsTried (R.language runner.now) path.now (run_of (R.seen runner.now) state.old)
+        (run_of (R.seen runner.now) state.new) result }
 {
     let paths = prepare(alloc, runner, state, path, block, starts)?;
     let gone = go_on(
@@ -93,11 +99,14 @@ fn make<R: Runner>(
     has_writer: bool,
 ) -> Result<bool, NoMemory>
     requires who { slice_get (order_of state.old.processes) number ≡ Some path.now }
-    requires sound { IsSound (R.language runner.now) (main_alone (R.main runner.now)) (run_of (R.seen runner.now) state.old) }
+    requires sound { IsSound (R.language runner.now) (main_alone (R.main runner.now))
+        (run_of (R.seen runner.now) state.old) }
     requires used { state.old.used ≤ 1000000000 }
-    requires asks { AsksFor (R.language runner.now) path.now (run_of (R.seen runner.now) state.old) (Some (New at (cond has_writer 1 0))) }
+    requires asks { AsksFor (R.language runner.now) path.now (run_of (R.seen runner.now) state.old)
+        (Some (New at (cond has_writer 1 0))) }
     requires starts { Starting (R.language runner.now) path.now (run_of (R.seen runner.now) state.old) block starts }
-    ensures { IsTried (R.language runner.now) path.now (run_of (R.seen runner.now) state.old) (run_of (R.seen runner.now) state.new) result }
+    ensures { IsTried (R.language runner.now) path.now (run_of (R.seen runner.now) state.old)
+        (run_of (R.seen runner.now) state.new) result }
 {
     let paths = prepare(alloc, runner, state, path, block, starts)?;
     let name = ChanName {
@@ -136,8 +145,8 @@ fn make<R: Runner>(
     }
 }
 
-// Makes a step of the process of a number that needs nothing and starts nobody. Where its next step isn't such a one nothing has
-// changed.
+// Makes a step of the process of a number that needs nothing and starts nobody. Where its next step isn't such a one
+// nothing has changed.
 fn step_own<R: Runner>(
     alloc: Global,
     runner: &R,
@@ -146,9 +155,11 @@ fn step_own<R: Runner>(
     path: &Path,
 ) -> Result<bool, NoMemory>
     requires who { slice_get (order_of state.old.processes) number ≡ Some path.now }
-    requires sound { IsSound (R.language runner.now) (main_alone (R.main runner.now)) (run_of (R.seen runner.now) state.old) }
+    requires sound { IsSound (R.language runner.now) (main_alone (R.main runner.now))
+        (run_of (R.seen runner.now) state.old) }
     requires used { state.old.used ≤ 1000000000 }
-    ensures { IsOwnTried (R.language runner.now) path.now (run_of (R.seen runner.now) state.old) (run_of (R.seen runner.now) state.new) result }
+    ensures { IsOwnTried (R.language runner.now) path.now (run_of (R.seen runner.now) state.old)
+        (run_of (R.seen runner.now) state.new) result }
 {
     state.history.reserve(1)?;
     match step_alone(alloc, runner, &mut state.processes, number)? {
@@ -171,9 +182,11 @@ fn step_by<R: Runner>(
     path: &Path,
 ) -> Result<bool, NoMemory>
     requires who { slice_get (order_of state.old.processes) number ≡ Some path.now }
-    requires sound { IsSound (R.language runner.now) (main_alone (R.main runner.now)) (run_of (R.seen runner.now) state.old) }
+    requires sound { IsSound (R.language runner.now) (main_alone (R.main runner.now))
+        (run_of (R.seen runner.now) state.old) }
     requires used { state.old.used ≤ 1000000000 }
-    ensures { IsTried (R.language runner.now) path.now (run_of (R.seen runner.now) state.old) (run_of (R.seen runner.now) state.new) result }
+    ensures { IsTried (R.language runner.now) path.now (run_of (R.seen runner.now) state.old)
+        (run_of (R.seen runner.now) state.new) result }
 {
     let request = asked_by(alloc, runner, state, number, path)?;
     let Request {
@@ -199,17 +212,19 @@ fn step_by<R: Runner>(
     }
 }
 
-/// Makes a step of the process at a path, if it has one on what has arrived. Where it has none, and after want of memory, nothing
-/// has changed.
+/// Makes a step of the process at a path, if it has one on what has arrived. Where it has none, and after want of
+/// memory, nothing has changed.
 pub fn step<R: Runner>(
     alloc: Global,
     runner: &R,
     state: &mut NodeState<R::Process>,
     path: &Path,
 ) -> Result<bool, NoMemory>
-    requires sound { IsSound (R.language runner.now) (main_alone (R.main runner.now)) (run_of (R.seen runner.now) state.old) }
+    requires sound { IsSound (R.language runner.now) (main_alone (R.main runner.now))
+        (run_of (R.seen runner.now) state.old) }
     requires used { state.old.used ≤ 1000000000 }
-    ensures { IsTried (R.language runner.now) path.now (run_of (R.seen runner.now) state.old) (run_of (R.seen runner.now) state.new) result }
+    ensures { IsTried (R.language runner.now) path.now (run_of (R.seen runner.now) state.old)
+        (run_of (R.seen runner.now) state.new) result }
 {
     match state.processes.number(path, 0) {
         Some(number) => {

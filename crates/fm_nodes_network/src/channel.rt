@@ -113,7 +113,9 @@ impl Channel {
 
     // Whether a load that waits at the writer's end hasn't arrived.
     fn is_under_way(&self) -> bool
-        ensures { result ≡ is_some (slice_get (linked_of self.now).outgoing.waiting ((linked_of self.now).incoming.arrived - (linked_of self.now).outgoing.acknowledged)) }
+        ensures { result
+            ≡ is_some (slice_get (linked_of self.now).outgoing.waiting
+            ((linked_of self.now).incoming.arrived - (linked_of self.now).outgoing.acknowledged)) }
     {
         match self.outbox.number(0) {
             Some(first) => {

@@ -51,8 +51,8 @@ impl Channels {
         self.by_name.len()
     }
 
-    /// The name at a place, from 0, in the order of the makers' paths and then of the numbers; none where there are fewer. Takes no
-    /// memory.
+    /// The name at a place, from 0, in the order of the makers' paths and then of the numbers; none where there are
+    /// fewer. Takes no memory.
     pub fn name(&self, at: usize) -> Option<&ChanName>
         ensures { option_copied result ≡ slice_get (map (λ e. e.0) (finite.entries (linked_chans_of self.now))) at }
     {
@@ -82,8 +82,8 @@ impl Channels {
         }
     }
 
-    /// A new channel of this name, with one writer or none. With none it is at its end. After want of memory nothing has
-    /// changed.
+    /// A new channel of this name, with one writer or none. With none it is at its end. After want of memory nothing
+    /// has changed.
     pub fn make(&mut self, alloc: Global, name: ChanName, has_writer: bool) -> Result<(), NoMemory>
         ensures ok { OnOk result (linked_chans_of self.new ≡
             finite.insert (linked_chans_of self.old) name (new_linked (cond has_writer 1 0))) }

@@ -1,6 +1,7 @@
-//! Channels over links, in memory: the two ends of each.
+//! Channels over links, in memory: the two ends of each, and the wire.
 //!
-//! Contracts see plain data: a channel as a `LinkedChan`, and the channels as the finite map of these (`linked_chans_of`).
+//! Contracts see plain data: a channel as a `LinkedChan`, and the channels as the finite map of these
+//! (`linked_chans_of`).
 #![tactic(auto)]
 
 mod channel;

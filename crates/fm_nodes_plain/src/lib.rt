@@ -1,7 +1,8 @@
-//! Which programs can run on hosts. Three things keep a program from being plain: a PROBE that main reaches, a MERGER
-//! with several writers that main reaches, and a declaration of ports over which ports go. The least such line is returned.
+//! Which programs can run on hosts. What keeps a program from being plain is told by the least line, in a unit that
+//! main reaches, of a PROBE, of a MERGER with several writers, or of a declaration of ports over which ports go.
 //!
-//! A plain program runs on hosts as it does alone (`specs/Plain`): no order of its steps tells, and no message holds a port.
+//! A plain program runs on hosts as it does alone (`specs/Plain`): no order of its steps tells, and no message holds a
+//! port.
 #![tactic(auto)]
 
 ghost use Rattle.std.specs.Prelude.{List};

@@ -20,9 +20,9 @@ fn earlier(first: Option<Line>, second: Option<Line>) -> Option<Line>
     }
 }
 
-/// The least line that keeps a program from being plain: of a PROBE or of a MERGER with several writers in a unit that the
-/// PROGRAM reaches, or of a declaration of ports there over which ports go. None where there is none. The time is in
-/// proportion to the program.
+/// The least line that keeps a program from being plain: of a PROBE or of a MERGER with several writers in a unit that
+/// the PROGRAM reaches, or of a declaration of ports there over which ports go. None where there is none. The time is
+/// in proportion to the program.
 pub fn first_unplain(alloc: Global, program: &Program) -> Result<Option<Line>, NoMemory>
     ensures { IfOk result (λ line. ∥ IsPlainVerdict program.now line ∥₁) }
 {

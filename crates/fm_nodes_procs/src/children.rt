@@ -53,8 +53,10 @@ fn ended_at<R: Runner>(
     likely: usize,
 ) -> Option<usize>
     ensures there { IfSome result (λ n. slice_get (order_of processes.now) n ≡ Some path.now) }
-    ensures over { IfSome result (λ n. is_over (R.language runner.now).has_ended (get (procs_of (R.seen runner.now) processes.now) path.now) ≡ true) }
-    ensures none { IfNone result (is_over (R.language runner.now).has_ended (get (procs_of (R.seen runner.now) processes.now) path.now) ≡ false) }
+    ensures over { IfSome result (λ n. is_over (R.language runner.now).has_ended
+        (get (procs_of (R.seen runner.now) processes.now) path.now) ≡ true) }
+    ensures none { IfNone result (is_over (R.language runner.now).has_ended
+        (get (procs_of (R.seen runner.now) processes.now) path.now) ≡ false) }
 {
     match processes.number(path, likely) {
         Some(number) => {
@@ -80,9 +82,10 @@ pub fn ended_children<R: Runner>(
     ensures count { IfOk result (λ o. IfSome o (λ v. length v.items ≡ count)) }
     ensures numbers { IfOk result (λ o. IfSome o (λ v. AreNumbered (order_of processes.now) path.now block 1 v.items)) }
     ensures all { IfOk result (λ o. IfSome o (λ v. (kids : List R.Proc)
-        × (gathered (R.language runner.now).has_ended (procs_of (R.seen runner.now) processes.now) path.now block 1 count ≡ Some kids))) }
-    ensures none { IfOk result (λ o. IfNone o
-        (gathered (R.language runner.now).has_ended (procs_of (R.seen runner.now) processes.now) path.now block 1 count ≡ None)) }
+        × (gathered (R.language runner.now).has_ended (procs_of (R.seen runner.now) processes.now) path.now block 1
+        count ≡ Some kids))) }
+    ensures none { IfOk result (λ o. IfNone o (gathered (R.language runner.now).has_ended
+        (procs_of (R.seen runner.now) processes.now) path.now block 1 count ≡ None)) }
 {
     let mut numbers = Vec::new(alloc);
     let mut likely = 0;
@@ -123,9 +126,9 @@ pub fn lefts<R: Runner>(
     numbers: &[usize],
 ) -> Result<Vec<R::Left>, NoMemory>
     requires { AreNumbered (order_of processes.now) path.now block 1 numbers.now }
-    ensures { IfOk result (λ v. (kids : List R.Proc) →
-        gathered (R.language runner.now).has_ended (procs_of (R.seen runner.now) processes.now) path.now block 1 (length numbers.now) ≡ Some kids →
-        AllLeft (R.IsLeft runner.now) kids v.items) }
+    ensures { IfOk result (λ v. (kids : List R.Proc)
+        → gathered (R.language runner.now).has_ended (procs_of (R.seen runner.now) processes.now) path.now block 1
+        (length numbers.now) ≡ Some kids → AllLeft (R.IsLeft runner.now) kids v.items) }
 {
     let mut all = Vec::new(alloc);
     'children: for number in numbers {
@@ -139,8 +142,9 @@ pub fn lefts<R: Runner>(
 fn empty<R: Runner>(alloc: Global, runner: &R, processes: &mut Processes<R::Process>, number: usize)
     ensures order { order_of processes.new ≡ order_of processes.old }
     ensures room { (count : ℕ) → HasRoom processes.old count → HasRoom processes.new count }
-    ensures procs { (p : Place) → slice_get (order_of processes.old) number ≡ Some p →
-        procs_of (R.seen runner.now) processes.new ≡ alter (procs_of (R.seen runner.now) processes.old) p (option_map (R.language runner.now).emptied) }
+    ensures procs { (p : Place) → slice_get (order_of processes.old) number ≡ Some p
+        → procs_of (R.seen runner.now) processes.new
+        ≡ alter (procs_of (R.seen runner.now) processes.old) p (option_map (R.language runner.now).emptied) }
 {
     if number < processes.values.len() {
         runner.empty(alloc, &mut processes.values[number]);
@@ -156,9 +160,10 @@ fn empty_all<R: Runner>(
 )
     ensures order { order_of processes.new ≡ order_of processes.old }
     ensures room { (count : ℕ) → HasRoom processes.old count → HasRoom processes.new count }
-    ensures procs { (p : Place) (b : ℕ) → AreNumbered (order_of processes.old) p b 1 numbers.items →
-        procs_of (R.seen runner.now) processes.new
-        ≡ alters (child_changes (R.language runner.now).emptied p b 1 (length numbers.items)) (procs_of (R.seen runner.now) processes.old) }
+    ensures procs { (p : Place) (b : ℕ) → AreNumbered (order_of processes.old) p b 1 numbers.items
+        → procs_of (R.seen runner.now) processes.new
+        ≡ alters (child_changes (R.language runner.now).emptied p b 1 (length numbers.items))
+        (procs_of (R.seen runner.now) processes.old) }
 {
     let mut numbers = numbers;
     'children: while let Some(number) = numbers.pop() {
@@ -166,8 +171,8 @@ fn empty_all<R: Runner>(
     }
 }
 
-/// Makes a step of the process of a number that needs nothing and starts no child, in its place. None where its next step isn't
-/// such a one. Then, and after want of memory, nothing has changed.
+/// Makes a step of the process of a number that needs nothing and starts no child, in its place. None where its next
+/// step isn't such a one. Then, and after want of memory, nothing has changed.
 pub fn step_alone<R: Runner>(
     alloc: Global,
     runner: &R,
@@ -175,12 +180,15 @@ pub fn step_alone<R: Runner>(
     number: usize,
 ) -> Result<Option<(R::Drops, u64)>, NoMemory>
     ensures order { order_of processes.new ≡ order_of processes.old }
-    ensures steps { IfOk result (λ o. (d : R.Drops) (cost : ℕ) → o ≡ Some (d, cost) → (p : Place) →
-        slice_get (order_of processes.old) number ≡ Some p → StepsAlone (R.language runner.now) (procs_of (R.seen runner.now) processes.old) p
-        (R.let_go runner.now d) cost (procs_of (R.seen runner.now) processes.new)) }
+    ensures steps { IfOk result (λ o. (d : R.Drops) (cost : ℕ)
+        → o ≡ Some (d, cost) → (p : Place) → slice_get (order_of processes.old) number ≡ Some p
+        → StepsAlone (R.language runner.now) (procs_of (R.seen runner.now) processes.old) p (R.let_go runner.now d) cost
+        (procs_of (R.seen runner.now) processes.new)) }
     ensures few { IfOk result (λ o. (d : R.Drops) (cost : ℕ) → o ≡ Some (d, cost) → cost < 2 ^ 63) }
-    ensures none { IfOk result (λ o. o ≡ None → procs_of (R.seen runner.now) processes.new ≡ procs_of (R.seen runner.now) processes.old) }
-    ensures err { OnErr result (procs_of (R.seen runner.now) processes.new ≡ procs_of (R.seen runner.now) processes.old) }
+    ensures none { IfOk result
+        (λ o. o ≡ None → procs_of (R.seen runner.now) processes.new ≡ procs_of (R.seen runner.now) processes.old) }
+    ensures err { OnErr result
+        (procs_of (R.seen runner.now) processes.new ≡ procs_of (R.seen runner.now) processes.old) }
 {
     if number >= processes.values.len() {
         return Ok(None);
@@ -188,8 +196,8 @@ pub fn step_alone<R: Runner>(
     runner.step_alone(alloc, &mut processes.values[number])
 }
 
-/// The process of a number goes on that joins nobody, with the message that came, or with none, and whether one is there that
-/// exceeds its limits. After want of memory nothing has changed.
+/// The process of a number goes on that joins nobody, with the message that came, or with none, and whether one is
+/// there that exceeds its limits. After want of memory nothing has changed.
 pub fn go_on<R: Runner>(
     alloc: Global,
     runner: &R,
@@ -202,13 +210,15 @@ pub fn go_on<R: Runner>(
     requires { slice_get (order_of processes.old) number ≡ Some path.now }
     ensures order { order_of processes.new ≡ order_of processes.old }
     ensures room { (count : ℕ) → HasRoom processes.old count → HasRoom processes.new count }
-    ensures goes { IfOk result (λ g. (x : R.Proc) (need : Need) (f : declared.ChanName → Reply R.Proc → Onward R.Proc) →
-        get (procs_of (R.seen runner.now) processes.old) path.now ≡ Some x → (R.language runner.now).ask x ≡ Go need f →
-        ((b n : ℕ) → need ≡ Children b n → ⊥) →
-        GoesAt (procs_of (R.seen runner.now) processes.old) path.now (map (R.seen runner.now) g.starts.items) (R.let_go runner.now g.drops) g.cost
-        (procs_of (R.seen runner.now) processes.new) (f (made path.now need) (came_with (option_copied message.entry) exceeds))) }
+    ensures goes { IfOk result (λ g. (x : R.Proc) (need : Need) (f : declared.ChanName → Reply R.Proc → Onward R.Proc)
+        → get (procs_of (R.seen runner.now) processes.old) path.now ≡ Some x
+        → (R.language runner.now).ask x ≡ Go need f → ((b n : ℕ) → need ≡ Children b n → ⊥)
+        → GoesAt (procs_of (R.seen runner.now) processes.old) path.now (map (R.seen runner.now) g.starts.items)
+        (R.let_go runner.now g.drops) g.cost (procs_of (R.seen runner.now) processes.new)
+        (f (made path.now need) (came_with (option_copied message.entry) exceeds))) }
     ensures few { IfOk result (λ g. g.cost < 2 ^ 63) }
-    ensures err { OnErr result (procs_of (R.seen runner.now) processes.new ≡ procs_of (R.seen runner.now) processes.old) }
+    ensures err { OnErr result
+        (procs_of (R.seen runner.now) processes.new ≡ procs_of (R.seen runner.now) processes.old) }
 {
     runner.go_on(alloc, &mut processes.values[number], path, message, exceeds)
 }
@@ -225,20 +235,22 @@ pub fn join<R: Runner>(
     requires { slice_get (order_of processes.old) number ≡ Some path.now }
     ensures order { order_of processes.new ≡ order_of processes.old }
     ensures room { (count : ℕ) → HasRoom processes.old count → HasRoom processes.new count }
-    ensures goes { IfOk result (λ g. (x : R.Proc) (b n : ℕ) (f : declared.ChanName → Reply R.Proc → Onward R.Proc) (kids : List R.Proc) →
-        get (procs_of (R.seen runner.now) processes.old) path.now ≡ Some x → (R.language runner.now).ask x ≡ Go (Children b n) f →
-        AllLeft (R.IsLeft runner.now) kids children.items → (c : declared.ChanName) →
-        GoesAt (procs_of (R.seen runner.now) processes.old) path.now (map (R.seen runner.now) g.starts.items) (R.let_go runner.now g.drops) g.cost
-        (procs_of (R.seen runner.now) processes.new) (f c (reply_with kids))) }
+    ensures goes { IfOk result (λ g. (x : R.Proc) (b n : ℕ) (f : declared.ChanName → Reply R.Proc → Onward R.Proc)
+        (kids : List R.Proc) → get (procs_of (R.seen runner.now) processes.old) path.now ≡ Some x
+        → (R.language runner.now).ask x ≡ Go (Children b n) f
+        → AllLeft (R.IsLeft runner.now) kids children.items → (c : declared.ChanName)
+        → GoesAt (procs_of (R.seen runner.now) processes.old) path.now (map (R.seen runner.now) g.starts.items)
+        (R.let_go runner.now g.drops) g.cost (procs_of (R.seen runner.now) processes.new) (f c (reply_with kids))) }
     ensures few { IfOk result (λ g. g.cost < 2 ^ 63) }
-    ensures err { OnErr result (procs_of (R.seen runner.now) processes.new ≡ procs_of (R.seen runner.now) processes.old) }
+    ensures err { OnErr result
+        (procs_of (R.seen runner.now) processes.new ≡ procs_of (R.seen runner.now) processes.old) }
 {
     let _path = path;
     runner.join(alloc, &mut processes.values[number], children)
 }
 
-/// Children were joined, whose numbers these are, and children of a process start in a block, for whom there is room. Takes no
-/// memory.
+/// Children were joined, whose numbers these are, and children of a process start in a block, for whom there is room.
+/// Takes no memory.
 pub fn start_all<R: Runner>(
     alloc: Global,
     runner: &R,
@@ -252,11 +264,13 @@ pub fn start_all<R: Runner>(
     requires paths { places_in paths.items ≡ child_places path.now block 1 (length starts.items) }
     requires new { (i : ℕ) → get (procs_of (R.seen runner.now) processes.old) (child path.now block i) ≡ None }
     requires room { HasRoom processes.old (length starts.items) }
-    ensures order { order_of processes.new ≡ order_of processes.old ++ child_places path.now block 1 (length starts.items) }
-    ensures procs { (b : ℕ) → AreNumbered (order_of processes.old) path.now b 1 joined.items →
-        procs_of (R.seen runner.now) processes.new
+    ensures order { order_of processes.new
+        ≡ order_of processes.old ++ child_places path.now block 1 (length starts.items) }
+    ensures procs { (b : ℕ) → AreNumbered (order_of processes.old) path.now b 1 joined.items
+        → procs_of (R.seen runner.now) processes.new
         ≡ alters (start_changes path.now block 1 (map (R.seen runner.now) starts.items))
-        (alters (child_changes (R.language runner.now).emptied path.now b 1 (length joined.items)) (procs_of (R.seen runner.now) processes.old)) }
+        (alters (child_changes (R.language runner.now).emptied path.now b 1 (length joined.items))
+        (procs_of (R.seen runner.now) processes.old)) }
 {
     empty_all(alloc, runner, processes, joined);
     processes.append(paths, starts);

@@ -6,9 +6,9 @@ use fm_base::{NoMemory, Path, order_of_paths};
 use std::alloc::Global;
 use std::sync::Arc;
 
-/// The numbers of processes in the order of their paths, with a gap at the place where the last one was put. The next one is put
-/// there once the gap has moved to its place. Rounds put numbers in path order, so the gap passes each number twice in a round at
-/// most, and a start costs no pass over all processes.
+/// The numbers of processes in the order of their paths, with a gap at the place where the last one was put. The next
+/// one is put there once the gap has moved to its place. Rounds put numbers in path order, so the gap passes each
+/// number twice in a round at most, and a start costs no pass over all processes.
 pub(crate) struct Order {
     /// The numbers in front of the gap.
     before: Vec<u32>,

@@ -11,8 +11,8 @@ use fm_base::{NoMemory, Path, order_of_paths};
 use std::alloc::Global;
 use std::sync::Arc;
 
-/// Processes at their paths, numbered from 0 in the order of starting, with room for more. Contracts see the finite map by
-/// their paths (`by_path`), and the paths in the order of the numbers (`order_of`).
+/// Processes at their paths, numbered from 0 in the order of starting, with room for more. Contracts see the finite map
+/// by their paths (`by_path`), and the paths in the order of the numbers (`order_of`).
 pub struct Processes<X> {
     pub(crate) paths: Vec<Arc<Path>>,
     pub(crate) values: Vec<X>,
@@ -83,7 +83,8 @@ impl<X> Processes<X> {
         None
     }
 
-    // The number of the process at a path, looked for by the order of the paths, and one by one where it isn't in order.
+    // The number of the process at a path, looked for by the order of the paths, and one by one where it isn't in
+    // order.
     fn seek(&self, path: &Path) -> Option<usize>
         ensures there { IfSome result (λ n. slice_get (order_of self.now) n ≡ Some path.now) }
         ensures none { IfNone result (get (by_path self.now) path.now ≡ None) }
@@ -108,8 +109,8 @@ impl<X> Processes<X> {
         }
     }
 
-    /// The path at this place, from 0, in path order, unless memory was wanting to put it there; none where there are fewer. Takes no
-    /// memory.
+    /// The path at this place, from 0, in path order, unless memory was wanting to put it there; none where there are
+    /// fewer. Takes no memory.
     pub fn path_at(&self, place: usize) -> Option<&Path>
         ensures { IsSome result ↔ (place < length (order_of self.now)) }
     {
@@ -119,7 +120,8 @@ impl<X> Processes<X> {
     /// The process of a number.
     pub fn get(&self, number: usize) -> &X
         requires { number < length (order_of self.now) }
-        ensures { (p : Place) → slice_get (order_of self.now) number ≡ Some p → get (by_path self.now) p ≡ Some result.now }
+        ensures { (p : Place) → slice_get (order_of self.now) number ≡ Some p
+            → get (by_path self.now) p ≡ Some result.now }
     {
         &self.values[number]
     }
@@ -162,12 +164,14 @@ impl<X> Processes<X> {
 impl<X: Drop> Processes<X> {
     ghost use Rattle.fm_nodes_procs.specs.Processes.{HasRoom, by_path, order_of, rows_in};
 
-    /// Puts processes at new paths, for which there is room; their numbers follow those that there were. Takes no memory.
+    /// Puts processes at new paths, for which there is room; their numbers follow those that there were. Takes no
+    /// memory.
     pub fn append(&mut self, paths: Vec<Arc<Path>>, values: Vec<X>)
         requires each { length values.items ≡ length paths.items }
         requires once { AreDistinct (order_of self.old ++ places_in paths.items) }
         requires room { HasRoom self.old (length values.items) }
-        ensures map { by_path self.new ≡ numbered_map (rows_in self.old.paths.items self.old.values.items ++ rows_in paths.items values.items) }
+        ensures map { by_path self.new
+            ≡ numbered_map (rows_in self.old.paths.items self.old.values.items ++ rows_in paths.items values.items) }
         ensures order { order_of self.new ≡ order_of self.old ++ places_in paths.items }
     {
         let mut paths = paths;

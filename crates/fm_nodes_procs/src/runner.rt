@@ -30,7 +30,8 @@ pub enum Asked {
     Joins(u32, usize),
 }
 
-/// What a process asks for, the number of the block in which its next children start, and how many start with its next step.
+/// What a process asks for, the number of the block in which its next children start, and how many start with its next
+/// step.
 #[derive(Drop)]
 pub struct Request {
     /// What it asks for.
@@ -93,26 +94,30 @@ pub trait Runner: Drop {
     fn asked(&self, alloc: Global, process: &Self::Process) -> Result<Request, NoMemory>
         requires words { (need : Need) (f : declared.ChanName → Reply Proc → Onward Proc) →
             (language self.now).ask (seen self.now process.now) ≡ Go need f → IsNeedOfWords need }
-        ensures need { IfOk result (λ q. need_told q.asked ≡ need_asked ((language self.now).ask (seen self.now process.now))) }
-        ensures starts { IfOk result (λ q. StartsSo ((language self.now).ask (seen self.now process.now)) q.block q.starts) };
+        ensures need { IfOk result
+            (λ q. need_told q.asked ≡ need_asked ((language self.now).ask (seen self.now process.now))) }
+        ensures starts { IfOk result
+            (λ q. StartsSo ((language self.now).ask (seen self.now process.now)) q.block q.starts) };
 
-    /// Makes a step of a process that needs nothing and starts no child, in its place: the ports that it lets go, and the cost.
-    /// None where its next step isn't such a one. Then, and after want of memory, the process is as it was.
+    /// Makes a step of a process that needs nothing and starts no child, in its place: the ports that it lets go, and
+    /// the cost. None where its next step isn't such a one. Then, and after want of memory, the process is as it was.
     fn step_alone(
         &self,
         alloc: Global,
         process: &mut Self::Process,
     ) -> Result<Option<(Self::Drops, u64)>, NoMemory>
-        ensures steps { IfOk result (λ o. (d : Self.Drops) (cost : ℕ) → o ≡ Some (d, cost) →
-            (f : declared.ChanName → Reply Proc → Onward Proc)
+        ensures steps { IfOk result (λ o. (d : Self.Drops) (cost : ℕ)
+            → o ≡ Some (d, cost)
+            → (f : declared.ChanName → Reply Proc → Onward Proc)
             × ((language self.now).ask (seen self.now process.old) ≡ Go Nothing f)
-            × ((c : declared.ChanName) → GoesSo (seen self.now process.new) [] (let_go self.now d) cost (f c (reply_with [])))) }
+            × ((c : declared.ChanName)
+            → GoesSo (seen self.now process.new) [] (let_go self.now d) cost (f c (reply_with [])))) }
         ensures few { IfOk result (λ o. (d : Self.Drops) (cost : ℕ) → o ≡ Some (d, cost) → cost < 2 ^ 63) }
         ensures none { IfOk result (λ o. o ≡ None → seen self.now process.new ≡ seen self.now process.old) }
         ensures err { OnErr result (seen self.now process.new ≡ seen self.now process.old) };
 
-    /// A process goes on that joins nobody, with the message that came, or with none, and whether one is there that exceeds its
-    /// limits. After want of memory it is as it was.
+    /// A process goes on that joins nobody, with the message that came, or with none, and whether one is there that
+    /// exceeds its limits. After want of memory it is as it was.
     fn go_on(
         &self,
         alloc: Global,
@@ -140,10 +145,11 @@ pub trait Runner: Drop {
         process: &mut Self::Process,
         children: Vec<Self::Left>,
     ) -> Result<Gone<Self::Process, Self::Drops>, NoMemory>
-        ensures goes { IfOk result (λ g. (b n : ℕ) (f : declared.ChanName → Reply Proc → Onward Proc) (kids : List Proc) →
-            (language self.now).ask (seen self.now process.old) ≡ Go (Children b n) f →
-            AllLeft (IsLeft self.now) kids children.items → (c : declared.ChanName) →
-            GoesSo (seen self.now process.new) (map (seen self.now) g.starts.items) (let_go self.now g.drops) g.cost (f c (reply_with kids))) }
+        ensures goes { IfOk result (λ g. (b n : ℕ) (f : declared.ChanName → Reply Proc → Onward Proc) (kids : List Proc)
+            → (language self.now).ask (seen self.now process.old) ≡ Go (Children b n) f
+            → AllLeft (IsLeft self.now) kids children.items → (c : declared.ChanName)
+            → GoesSo (seen self.now process.new) (map (seen self.now) g.starts.items) (let_go self.now g.drops) g.cost
+            (f c (reply_with kids))) }
         ensures few { IfOk result (λ g. g.cost < 2 ^ 63) }
         ensures err { OnErr result (seen self.now process.new ≡ seen self.now process.old) };
 
@@ -163,7 +169,8 @@ pub trait Runner: Drop {
     fn host(&self, process: &Self::Process) -> u32
         ensures { result ≡ host self.now (seen self.now process.now) };
 
-    /// Whether a process has a port: in a variable, in a start that is pending, or, where it has ended, kept for its starter.
+    /// Whether a process has a port: in a variable, in a start that is pending, or, where it has ended, kept for its
+    /// starter.
     fn has(&self, process: &Self::Process, port: &PortValue) -> bool
         ensures { result ≡ nat_lt 0 (count port.now ((language self.now).held (seen self.now process.now))) };
 

@@ -222,8 +222,8 @@ fn answer_all<H: Hosts>(alloc: Global, hosts: &mut H) -> Result<(), NoMemory>
 
 /// Drives the processes round by round until none has a step any more, or their steps cost more than the turns.
 ///
-/// Of the sendings of a packet, counted from 0, those are lost that come before the remainder of seed and number
-/// by 3. One that isn't lost comes twice where seed and number together are even, else once.
+/// The first (seed + number) mod 3 sendings of a packet are lost. One that isn't lost comes twice where seed and number
+/// together are even, else once.
 ///
 /// In a round without a step some process waits for a packet that was sent and lost: it was sent in the round
 /// before too, and is lost at most twice. So the fourth of such rounds in a row doesn't come, and NoMemory is

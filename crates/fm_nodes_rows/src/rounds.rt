@@ -1,5 +1,5 @@
-//! Two processes that are driven by rounds: the first one sends numbers over a channel, down to 0, and the second one adds
-//! them up.
+//! Two processes that are driven by rounds: the first one sends numbers over a channel, down to 0, and the second one
+//! adds them up.
 
 ghost use Rattle.std.specs.Prelude.{◌≡◌, true, IfOk};
 

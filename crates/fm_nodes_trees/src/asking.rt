@@ -99,7 +99,8 @@ pub(crate) fn open_starts(process: &PlainProc) -> usize
 
 // How many children start with an event.
 fn starts_with(process: &PlainProc, event: &Event) -> usize
-    ensures { (p : declared.Program) → result ≡ starts_with (execution_of p process.now).frames (event_by (phase_of process.now.phase) event.now) }
+    ensures { (p : declared.Program)
+        → result ≡ starts_with (execution_of p process.now).frames (event_by (phase_of process.now.phase) event.now) }
 {
     match event {
         Event::Fail(_, _) => 0,
@@ -168,7 +169,8 @@ fn asked_at(
     event: Event,
 ) -> Result<Request, NoMemory>
     requires { IsEvent (phase_of process.now.phase) (action_of program.now (proc_of program.now process.now)) event }
-    ensures need { IfOk result (λ q. need_told q.asked ≡ need_asked (ask program.now (proc_of program.now process.now))) }
+    ensures need { IfOk result
+        (λ q. need_told q.asked ≡ need_asked (ask program.now (proc_of program.now process.now))) }
     ensures starts { IfOk result (λ q. StartsSo (ask program.now (proc_of program.now process.now)) q.block q.starts) }
 {
     let starts = starts_with(process, &event);
@@ -186,7 +188,8 @@ pub(crate) fn asked(
     program: &Program,
     process: &PlainProc,
 ) -> Result<Request, NoMemory>
-    ensures need { IfOk result (λ q. need_told q.asked ≡ need_asked (ask program.now (proc_of program.now process.now))) }
+    ensures need { IfOk result
+        (λ q. need_told q.asked ≡ need_asked (ask program.now (proc_of program.now process.now))) }
     ensures starts { IfOk result (λ q. StartsSo (ask program.now (proc_of program.now process.now)) q.block q.starts) }
 {
     match told(alloc, program, process)? {

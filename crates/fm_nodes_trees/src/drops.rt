@@ -32,7 +32,8 @@ impl Drops {
 
     /// These are let go, and then all of the rest in turn. Takes no memory.
     pub(crate) fn new(alloc: Global, first: LetGo, rest: Vec<LetGo>) -> Drops
-        ensures { (p : declared.Program) → drops_in p result ≡ let_go_ports p first ++ flat_map (let_go_ports p) rest.items }
+        ensures { (p : declared.Program)
+            → drops_in p result ≡ let_go_ports p first ++ flat_map (let_go_ports p) rest.items }
     {
         Drops {
             alloc,

@@ -38,10 +38,12 @@ pub(crate) fn step_own(
     program: &Program,
     process: &mut PlainProc,
 ) -> Result<Option<(Drops, u64)>, NoMemory>
-    ensures steps { IfOk result (λ o. (d : declared_drops.Drops) (cost : ℕ) → o ≡ Some (d, cost) →
-        (f : declared_name.ChanName → Reply Proc → Onward Proc)
+    ensures steps { IfOk result (λ o. (d : declared_drops.Drops) (cost : ℕ)
+        → o ≡ Some (d, cost)
+        → (f : declared_name.ChanName → Reply Proc → Onward Proc)
         × (ask program.now (proc_of program.now process.old) ≡ Go Nothing f)
-        × ((c : declared_name.ChanName) → GoesSo (proc_of program.now process.new) [] (drops_in program.now d) cost (f c (reply_with [])))) }
+        × ((c : declared_name.ChanName)
+        → GoesSo (proc_of program.now process.new) [] (drops_in program.now d) cost (f c (reply_with [])))) }
     ensures few { IfOk result (λ o. (d : declared_drops.Drops) (cost : ℕ) → o ≡ Some (d, cost) → cost < 2 ^ 63) }
     ensures none { IfOk result (λ o. o ≡ None → proc_of program.now process.new ≡ proc_of program.now process.old) }
     ensures err { OnErr result (proc_of program.now process.new ≡ proc_of program.now process.old) }
@@ -97,9 +99,11 @@ fn make(
     cost: u64,
     next: u32,
 ) -> Result<Gone<PlainProc, Drops>, NoMemory>
-    requires { action_of program.now (proc_of program.now process.old) ≡ action.Meets (action.Make places.now writers cost next) }
-    ensures goes { IfOk result (λ g. Goes program.now path.now (proc_of program.now process.old) (option_copied message.entry) exceeds
-        (proc_of program.now process.new) (map (proc_of program.now) g.starts.items) (drops_in program.now g.drops) g.cost) }
+    requires { action_of program.now (proc_of program.now process.old)
+        ≡ action.Meets (action.Make places.now writers cost next) }
+    ensures goes { IfOk result (λ g. Goes program.now path.now (proc_of program.now process.old)
+        (option_copied message.entry) exceeds (proc_of program.now process.new)
+        (map (proc_of program.now) g.starts.items) (drops_in program.now g.drops) g.cost) }
     ensures few { IfOk result (λ g. g.cost < 2 ^ 63) }
     ensures err { OnErr result (proc_of program.now process.new ≡ proc_of program.now process.old) }
 {
@@ -125,9 +129,11 @@ fn send(
     items: Seq<Actual>,
     next: u32,
 ) -> Result<Gone<PlainProc, Drops>, NoMemory>
-    requires { action_of program.now (proc_of program.now process.old) ≡ action.Meets (action.Send channel.now writer items next) }
-    ensures goes { IfOk result (λ g. Goes program.now path.now (proc_of program.now process.old) (option_copied message.entry) exceeds
-        (proc_of program.now process.new) (map (proc_of program.now) g.starts.items) (drops_in program.now g.drops) g.cost) }
+    requires { action_of program.now (proc_of program.now process.old)
+        ≡ action.Meets (action.Send channel.now writer items next) }
+    ensures goes { IfOk result (λ g. Goes program.now path.now (proc_of program.now process.old)
+        (option_copied message.entry) exceeds (proc_of program.now process.new)
+        (map (proc_of program.now) g.starts.items) (drops_in program.now g.drops) g.cost) }
     ensures few { IfOk result (λ g. g.cost < 2 ^ 63) }
     ensures err { OnErr result (proc_of program.now process.new ≡ proc_of program.now process.old) }
 {
@@ -167,9 +173,11 @@ fn store(
     at_end: Option<u32>,
     next: u32,
 ) -> Result<Gone<PlainProc, Drops>, NoMemory>
-    requires { action_of program.now (proc_of program.now process.old) ≡ action.Meets (action.Receive channel.now line.0 places.now iostat at_end next) }
-    ensures goes { IfOk result (λ g. Goes program.now path.now (proc_of program.now process.old) (Some words.now) exceeds
-        (proc_of program.now process.new) (map (proc_of program.now) g.starts.items) (drops_in program.now g.drops) g.cost) }
+    requires { action_of program.now (proc_of program.now process.old)
+        ≡ action.Meets (action.Receive channel.now line.0 places.now iostat at_end next) }
+    ensures goes { IfOk result (λ g. Goes program.now path.now (proc_of program.now process.old) (Some words.now)
+        exceeds (proc_of program.now process.new) (map (proc_of program.now) g.starts.items)
+        (drops_in program.now g.drops) g.cost) }
     ensures few { IfOk result (λ g. g.cost < 2 ^ 63) }
     ensures err { OnErr result (proc_of program.now process.new ≡ proc_of program.now process.old) }
 {
@@ -199,9 +207,11 @@ fn meet(
     at_end: Option<u32>,
     next: u32,
 ) -> Gone<PlainProc, Drops>
-    requires { action_of program.now (proc_of program.now process.old) ≡ action.Meets (action.Receive channel.now line.0 places.now iostat at_end next) }
+    requires { action_of program.now (proc_of program.now process.old)
+        ≡ action.Meets (action.Receive channel.now line.0 places.now iostat at_end next) }
     ensures goes { Goes program.now path.now (proc_of program.now process.old) None exceeds
-        (proc_of program.now process.new) (map (proc_of program.now) result.starts.items) (drops_in program.now result.drops) result.cost }
+        (proc_of program.now process.new) (map (proc_of program.now) result.starts.items)
+        (drops_in program.now result.drops) result.cost }
     ensures few { result.cost ≡ 1 }
 {
     let _path = path;
@@ -226,8 +236,9 @@ fn start(
     exceeds: bool,
 ) -> Result<Gone<PlainProc, Drops>, NoMemory>
     requires { action_of program.now (proc_of program.now process.old) ≡ action.Meets action.Begin }
-    ensures goes { IfOk result (λ g. Goes program.now path.now (proc_of program.now process.old) (option_copied message.entry) exceeds
-        (proc_of program.now process.new) (map (proc_of program.now) g.starts.items) (drops_in program.now g.drops) g.cost) }
+    ensures goes { IfOk result (λ g. Goes program.now path.now (proc_of program.now process.old)
+        (option_copied message.entry) exceeds (proc_of program.now process.new)
+        (map (proc_of program.now) g.starts.items) (drops_in program.now g.drops) g.cost) }
     ensures few { IfOk result (λ g. g.cost < 2 ^ 63) }
     ensures err { OnErr result (proc_of program.now process.new ≡ proc_of program.now process.old) }
 {
@@ -254,8 +265,9 @@ fn finish(
     exceeds: bool,
 ) -> Result<Gone<PlainProc, Drops>, NoMemory>
     requires { action_of program.now (proc_of program.now process.old) ≡ action.Meets action.End }
-    ensures goes { IfOk result (λ g. Goes program.now path.now (proc_of program.now process.old) (option_copied message.entry) exceeds
-        (proc_of program.now process.new) (map (proc_of program.now) g.starts.items) (drops_in program.now g.drops) g.cost) }
+    ensures goes { IfOk result (λ g. Goes program.now path.now (proc_of program.now process.old)
+        (option_copied message.entry) exceeds (proc_of program.now process.new)
+        (map (proc_of program.now) g.starts.items) (drops_in program.now g.drops) g.cost) }
     ensures few { IfOk result (λ g. g.cost < 2 ^ 63) }
     ensures err { OnErr result (proc_of program.now process.new ≡ proc_of program.now process.old) }
 {
@@ -283,9 +295,11 @@ fn receive(
     at_end: Option<u32>,
     next: u32,
 ) -> Result<Gone<PlainProc, Drops>, NoMemory>
-    requires { action_of program.now (proc_of program.now process.old) ≡ action.Meets (action.Receive channel.now line.0 places.now iostat at_end next) }
-    ensures goes { IfOk result (λ g. Goes program.now path.now (proc_of program.now process.old) (option_copied message.entry) exceeds
-        (proc_of program.now process.new) (map (proc_of program.now) g.starts.items) (drops_in program.now g.drops) g.cost) }
+    requires { action_of program.now (proc_of program.now process.old)
+        ≡ action.Meets (action.Receive channel.now line.0 places.now iostat at_end next) }
+    ensures goes { IfOk result (λ g. Goes program.now path.now (proc_of program.now process.old)
+        (option_copied message.entry) exceeds (proc_of program.now process.new)
+        (map (proc_of program.now) g.starts.items) (drops_in program.now g.drops) g.cost) }
     ensures few { IfOk result (λ g. g.cost < 2 ^ 63) }
     ensures err { OnErr result (proc_of program.now process.new ≡ proc_of program.now process.old) }
 {
@@ -312,9 +326,11 @@ fn probe(
     empty: Span,
     next: u32,
 ) -> Gone<PlainProc, Drops>
-    requires { action_of program.now (proc_of program.now process.old) ≡ action.Meets (action.Probe channel.now empty next) }
+    requires { action_of program.now (proc_of program.now process.old)
+        ≡ action.Meets (action.Probe channel.now empty next) }
     ensures goes { Goes program.now path.now (proc_of program.now process.old) (option_copied message.entry) exceeds
-        (proc_of program.now process.new) (map (proc_of program.now) result.starts.items) (drops_in program.now result.drops) result.cost }
+        (proc_of program.now process.new) (map (proc_of program.now) result.starts.items)
+        (drops_in program.now result.drops) result.cost }
     ensures few { result.cost ≡ 1 }
 {
     let _path = path;
@@ -338,7 +354,8 @@ fn fault(
 ) -> Gone<PlainProc, Drops>
     requires { action_of program.now (proc_of program.now process.old) ≡ action.Meets (action.Fail line.0 why) }
     ensures goes { Goes program.now path.now (proc_of program.now process.old) (option_copied message.entry) exceeds
-        (proc_of program.now process.new) (map (proc_of program.now) result.starts.items) (drops_in program.now result.drops) result.cost }
+        (proc_of program.now process.new) (map (proc_of program.now) result.starts.items)
+        (drops_in program.now result.drops) result.cost }
     ensures few { result.cost ≡ 1 }
 {
     let _program = program;
@@ -359,9 +376,11 @@ fn perform(
     exceeds: bool,
     event: Event,
 ) -> Result<Gone<PlainProc, Drops>, NoMemory>
-    requires { action_of program.now (proc_of program.now process.old) ≡ action.Meets (event_by (proc_of program.now process.old).phase event) }
-    ensures goes { IfOk result (λ g. Goes program.now path.now (proc_of program.now process.old) (option_copied message.entry) exceeds
-        (proc_of program.now process.new) (map (proc_of program.now) g.starts.items) (drops_in program.now g.drops) g.cost) }
+    requires { action_of program.now (proc_of program.now process.old)
+        ≡ action.Meets (event_by (proc_of program.now process.old).phase event) }
+    ensures goes { IfOk result (λ g. Goes program.now path.now (proc_of program.now process.old)
+        (option_copied message.entry) exceeds (proc_of program.now process.new)
+        (map (proc_of program.now) g.starts.items) (drops_in program.now g.drops) g.cost) }
     ensures few { IfOk result (λ g. g.cost < 2 ^ 63) }
     ensures err { OnErr result (proc_of program.now process.new ≡ proc_of program.now process.old) }
 {
@@ -428,8 +447,8 @@ fn perform(
     }
 }
 
-/// A process goes on that joins nobody, with the message that came, or with none, and whether one is there that exceeds its
-/// limits. After want of memory it is as it was.
+/// A process goes on that joins nobody, with the message that came, or with none, and whether one is there that exceeds
+/// its limits. After want of memory it is as it was.
 pub(crate) fn go_on(
     alloc: Global,
     program: &Program,
@@ -438,8 +457,9 @@ pub(crate) fn go_on(
     message: Option<&Seq<Seq<i64>>>,
     exceeds: bool,
 ) -> Result<Gone<PlainProc, Drops>, NoMemory>
-    ensures goes { IfOk result (λ g. Goes program.now path.now (proc_of program.now process.old) (option_copied message.entry) exceeds
-        (proc_of program.now process.new) (map (proc_of program.now) g.starts.items) (drops_in program.now g.drops) g.cost) }
+    ensures goes { IfOk result (λ g. Goes program.now path.now (proc_of program.now process.old)
+        (option_copied message.entry) exceeds (proc_of program.now process.new)
+        (map (proc_of program.now) g.starts.items) (drops_in program.now g.drops) g.cost) }
     ensures few { IfOk result (λ g. g.cost < 2 ^ 63) }
     ensures err { OnErr result (proc_of program.now process.new ≡ proc_of program.now process.old) }
 {

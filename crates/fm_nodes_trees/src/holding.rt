@@ -132,7 +132,8 @@ fn frames_have(program: &Program, frames: &[Frame], port: &PortValue) -> bool
 
 // Whether the innermost frame has a port, if there is one.
 fn top_has(program: &Program, top: &Option<Frame>, port: &PortValue) -> bool
-    ensures { result ≡ nat_lt 0 (count port.now (frames_ports (option_to_list (option_map (frame_of program.now) top.now)))) }
+    ensures { result
+        ≡ nat_lt 0 (count port.now (frames_ports (option_to_list (option_map (frame_of program.now) top.now)))) }
 {
     match top {
         Some(frame) => frame_has(program, frame, port),
@@ -140,7 +141,8 @@ fn top_has(program: &Program, top: &Option<Frame>, port: &PortValue) -> bool
     }
 }
 
-/// Whether a process has a port: in a variable, or in a start that is pending. Takes no memory.
+/// Whether a process has a port: in a variable, in a start that is pending, or, where it has ended, kept for its
+/// starter. Takes no memory.
 pub(crate) fn holds(program: &Program, process: &PlainProc, port: &PortValue) -> bool
     ensures { result ≡ nat_lt 0 (count port.now (held (proc_of program.now process.now))) }
 {

@@ -41,9 +41,11 @@ fn next_behind(event: &Event) -> u32
 
 // The entry behind the block at which a process joins, if it does.
 fn entry_behind(alloc: Global, program: &Program, process: &PlainProc) -> Result<u32, NoMemory>
-    ensures { IfOk result (λ next. (b n : ℕ) (f : declared_name.ChanName → Reply Proc → Onward Proc) →
-        ask program.now (proc_of program.now process.now) ≡ Go (Children b n) f →
-        (block : ℕ) × (action_of program.now (proc_of program.now process.now) ≡ action.Meets (action.Join block (kids_in (phase_of process.now.phase)) next))) }
+    ensures { IfOk result (λ next. (b n : ℕ) (f : declared_name.ChanName → Reply Proc → Onward Proc)
+        → ask program.now (proc_of program.now process.now) ≡ Go (Children b n) f
+        → (block : ℕ)
+        × (action_of program.now (proc_of program.now process.now)
+        ≡ action.Meets (action.Join block (kids_in (phase_of process.now.phase)) next))) }
 {
     match next_of(alloc, program, process)? {
         Next::Steps => Ok(0),
@@ -83,10 +85,12 @@ pub(crate) fn join_children(
     process: &mut PlainProc,
     children: Vec<Ended>,
 ) -> Result<Gone<PlainProc, Drops>, NoMemory>
-    ensures goes { IfOk result (λ g. (b n : ℕ) (f : declared_name.ChanName → Reply Proc → Onward Proc) (kids : List Proc) →
-        ask program.now (proc_of program.now process.old) ≡ Go (Children b n) f →
-        AllLeft (λ x left. left_frames program.now left ≡ frames_in x) kids children.items → (c : declared_name.ChanName) →
-        GoesSo (proc_of program.now process.new) (map (proc_of program.now) g.starts.items) (drops_in program.now g.drops) g.cost (f c (reply_with kids))) }
+    ensures goes { IfOk result (λ g. (b n : ℕ) (f : declared_name.ChanName → Reply Proc → Onward Proc)
+        (kids : List Proc) → ask program.now (proc_of program.now process.old) ≡ Go (Children b n) f
+        → AllLeft (λ x left. left_frames program.now left ≡ frames_in x) kids children.items
+        → (c : declared_name.ChanName)
+        → GoesSo (proc_of program.now process.new) (map (proc_of program.now) g.starts.items)
+        (drops_in program.now g.drops) g.cost (f c (reply_with kids))) }
     ensures few { IfOk result (λ g. g.cost < 2 ^ 63) }
     ensures err { OnErr result (proc_of program.now process.new ≡ proc_of program.now process.old) }
 {

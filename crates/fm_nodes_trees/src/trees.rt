@@ -166,13 +166,17 @@ impl Runner for Trees {
         process: &mut PlainProc,
         children: Vec<Ended>,
     ) -> Result<Gone<PlainProc, Drops>, NoMemory>
-        ensures goes { IfOk result (λ g. (b n : ℕ) (f : declared.ChanName → Reply mean.Proc → Onward mean.Proc) (kids : List mean.Proc) →
-            (steps.language (program_of self.now)).ask (proc_of (program_of self.now) process.old) ≡ Go (Children b n) f →
-            AllLeft (λ x left. left_frames (program_of self.now) left ≡ frames_in x) kids children.items → (c : declared.ChanName) →
-            GoesSo (proc_of (program_of self.now) process.new) (map (proc_of (program_of self.now)) g.starts.items)
+        ensures goes { IfOk result (λ g. (b n : ℕ) (f : declared.ChanName → Reply mean.Proc → Onward mean.Proc)
+            (kids : List mean.Proc)
+            → (steps.language (program_of self.now)).ask (proc_of (program_of self.now) process.old)
+            ≡ Go (Children b n) f
+            → AllLeft (λ x left. left_frames (program_of self.now) left ≡ frames_in x) kids children.items
+            → (c : declared.ChanName)
+            → GoesSo (proc_of (program_of self.now) process.new) (map (proc_of (program_of self.now)) g.starts.items)
             (drops_in (program_of self.now) g.drops) g.cost (f c (reply_with kids))) }
         ensures few { IfOk result (λ g. g.cost < 2 ^ 63) }
-        ensures err { OnErr result (proc_of (program_of self.now) process.new ≡ proc_of (program_of self.now) process.old) }
+        ensures err { OnErr result
+            (proc_of (program_of self.now) process.new ≡ proc_of (program_of self.now) process.old) }
     {
         join_children(alloc, &self.program, process, children)
     }

@@ -1,5 +1,5 @@
-//! An image: code of a program, with what has to be known of its variables and of the types of its ports. The ranges that
-//! make sense of the numbers are no part of it: `read` gives every number that a line tells.
+//! An image: code of a program, with what has to be known of its variables and of the types of its ports. The ranges
+//! that make sense of the numbers are no part of it: `read` gives every number that a line tells.
 
 use fm_base::{Name, Seq};
 use fm_code::{Entry, Instr};

@@ -17,11 +17,12 @@
 //!     instr OPERATION FIRST SECOND
 //! ```
 //!
-//! (No line is indented.) Numbers are decimal without zeros in front, 0 to 4,294,967,295; the two operands of an instruction
-//! have 64 bits and may have a sign. A name has capitals, digits and underscores behind a capital. One blank stands between
-//! two words, and each line ends with a line feed alone. The parts of an instruction are those of some instruction
-//! (`Instr::of` of fm_code). So an image has one text, and a text one image. Of bytes that are no image's text, one line is
-//! the first that is malformed: the lines before it begin some image's text, and with it they begin none.
+//! (No line is indented.) Numbers are decimal without zeros in front, 0 to 4,294,967,295; the two operands of an
+//! instruction have 64 bits and may have a sign. A name has capitals, digits and underscores behind a capital. One
+//! blank stands between two words, and each line ends with a line feed alone. The parts of an instruction are those of
+//! some instruction (`Instr::of` of fm_code). So an image has one text, and a text one image. Of bytes that are no
+//! image's text, one line is the first that is malformed: the lines before it begin some image's text, and with it they
+//! begin none.
 //!
 //! Whether an image makes sense, which no line alone can tell, is nothing that is asked here.
 #![tactic(auto)]

@@ -32,8 +32,8 @@ fn image_of(alloc: Global, bytes: &[u8]) -> Result<Image, ObjectFail>
 /// number of lines that a line promises. Linear in the bytes.
 ///
 /// # Errors
-/// `Malformed` tells the first malformed line, from 1: one of another form, one that is missing, one that ends without a
-/// line feed, or one behind the last. `NoMemory` is want of memory, or a text of 4,294,967,295 lines or more.
+/// `Malformed` tells the first malformed line, from 1: one of another form, one that is missing, one that ends without
+/// a line feed, or one behind the last. `NoMemory` is want of memory, or a text of 4,294,967,295 lines or more.
 pub fn read(alloc: Global, bytes: &[u8]) -> Result<Image, ObjectFail>
     // The bytes are the text of what is read.
     ensures object { IfOk result (IsObjectText bytes.now) }

@@ -95,7 +95,8 @@ fn first_entry(alloc: Global, code: Code, number: u32) -> Result<Entry, NoMemory
     })
 }
 
-/// Main alone, with no channel: the unit of the code with this number at its first statement, with no body where there is none.
+/// Main alone, with no channel: the unit of the code with this number at its first statement, with no body where there
+/// is none.
 pub fn first_stacks(alloc: Global, code: Code, number: u32) -> Result<CodeProcs, NoMemory>
     ensures state { IfOk result (λ s. state_of s ≡ main_alone (first_process_of code number)) }
     ensures order { IfOk result (λ s. order_of s.entries ≡ [] ∷ []) }

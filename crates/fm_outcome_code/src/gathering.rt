@@ -55,8 +55,10 @@ fn add_process(
     requires told { IsTold entry.now }
     requires family { HasFamily (order_of processes.now) path.now (proc_in entry.now).phase entry.now.first_child }
     ensures lines { OnOk result (all.new.lines.items ≡ all.old.lines.items ++ lines_at (path.now, proc_in entry.now)) }
-    ensures faults { OnOk result (all.new.faults.items ≡ all.old.faults.items ++ fault_at (path.now, proc_in entry.now)) }
-    ensures waits { OnOk result (all.new.waits.items ≡ all.old.waits.items ++ wait_at (procs_of processes.now) (path.now, proc_in entry.now)) }
+    ensures faults { OnOk result
+        (all.new.faults.items ≡ all.old.faults.items ++ fault_at (path.now, proc_in entry.now)) }
+    ensures waits { OnOk result
+        (all.new.waits.items ≡ all.old.waits.items ++ wait_at (procs_of processes.now) (path.now, proc_in entry.now)) }
 {
     let process: &Process = &entry.process.held;
     push_lines(alloc, &mut all.lines, path, process.lines.as_slice())?;
@@ -68,7 +70,8 @@ fn gather(alloc: Global, processes: &Entries) -> Result<Gathered, NoMemory>
     requires { AreKept processes.now }
     ensures lines { IfOk result (λ all. all.lines.items ≡ flat_map lines_at (entries (procs_of processes.now))) }
     ensures faults { IfOk result (λ all. all.faults.items ≡ flat_map fault_at (entries (procs_of processes.now))) }
-    ensures waits { IfOk result (λ all. all.waits.items ≡ flat_map (wait_at (procs_of processes.now)) (entries (procs_of processes.now))) }
+    ensures waits { IfOk result
+        (λ all. all.waits.items ≡ flat_map (wait_at (procs_of processes.now)) (entries (procs_of processes.now))) }
 {
     let mut all = Gathered::new(alloc);
     let rows = in_path_order(alloc, processes, Part::Shown)?;
@@ -80,7 +83,8 @@ fn gather(alloc: Global, processes: &Entries) -> Result<Gathered, NoMemory>
 
 /// The process of a number.
 pub fn process_of(processes: &Entries, number: u32) -> Option<&Process>
-    ensures { (q : Place) → place_at processes.now.rows number ≡ Some q → option_map proc_of (option_copied result) ≡ get (procs_of processes.now) q }
+    ensures { (q : Place) → place_at processes.now.rows number ≡ Some q
+        → option_map proc_of (option_copied result) ≡ get (procs_of processes.now) q }
 {
     match processes.process(number) {
         Some(process) => {
@@ -93,13 +97,14 @@ pub fn process_of(processes: &Entries, number: u32) -> Option<&Process>
 
 // Whether the process of a number has ended.
 fn has_ended(processes: &Entries, number: u32) -> bool
-    ensures { (q : Place) → place_at processes.now.rows number ≡ Some q → result ≡ ended_at (get (procs_of processes.now) q) }
+    ensures { (q : Place) → place_at processes.now.rows number ≡ Some q
+        → result ≡ ended_at (get (procs_of processes.now) q) }
 {
     processes.has_ended(number)
 }
 
-/// What a run shows when it has ended at this cost in turns and the variables of main hold this: output, faults and waits in path
-/// order, and who holds the open writers.
+/// What a run shows when it has ended at this cost in turns and the variables of main hold this: output, faults and
+/// waits in path order, and who holds the open writers.
 pub fn outcome_with(
     alloc: Global,
     stacks: &CodeProcs,

@@ -45,7 +45,8 @@ fn put_port(
     path: &Path,
     port: &Port,
 ) -> Result<(), NoMemory>
-    ensures { OnOk result (map_of outport_cmp all.new ≡ with_held (map_of outport_cmp all.old) path.now (port.now ∷ [])) }
+    ensures { OnOk result
+        (map_of outport_cmp all.new ≡ with_held (map_of outport_cmp all.old) path.now (port.now ∷ [])) }
 {
     match outport_in(alloc, port)? {
         Some(outport) => put_outport(alloc, all, path, outport),
@@ -60,7 +61,8 @@ fn put_word(
     slots: &Slots,
     word: i64,
 ) -> Result<(), NoMemory>
-    ensures { OnOk result (map_of outport_cmp all.new ≡ with_held (map_of outport_cmp all.old) path.now (port_in slots.now word ∷ [])) }
+    ensures { OnOk result
+        (map_of outport_cmp all.new ≡ with_held (map_of outport_cmp all.old) path.now (port_in slots.now word ∷ [])) }
 {
     match slots.port(word) {
         Some(port) => put_port(alloc, all, path, port),
@@ -75,7 +77,8 @@ fn put_words(
     slots: &Slots,
     words: &[i64],
 ) -> Result<(), NoMemory>
-    ensures { OnOk result (map_of outport_cmp all.new ≡ with_held (map_of outport_cmp all.old) path.now (map (port_in slots.now) words.now)) }
+    ensures { OnOk result (map_of outport_cmp all.new
+        ≡ with_held (map_of outport_cmp all.old) path.now (map (port_in slots.now) words.now)) }
 {
     'words: for word in words {
         put_word(alloc, all, path, slots, *word)?;
@@ -109,7 +112,8 @@ fn put_held(
     path: &Path,
     process: &Process,
 ) -> Result<(), NoMemory>
-    ensures { OnOk result (map_of outport_cmp all.new ≡ with_held (map_of outport_cmp all.old) path.now (held (proc_of process.now))) }
+    ensures { OnOk result
+        (map_of outport_cmp all.new ≡ with_held (map_of outport_cmp all.old) path.now (held (proc_of process.now))) }
 {
     match &process.body {
         Some(body) => {
@@ -138,7 +142,8 @@ fn put_process(
     path: &Path,
     entry: &Entry,
 ) -> Result<(), NoMemory>
-    ensures { OnOk result (map_of outport_cmp all.new ≡ with_holders (map_of outport_cmp all.old) (holdings_at (path.now, proc_in entry.now))) }
+    ensures { OnOk result (map_of outport_cmp all.new
+        ≡ with_holders (map_of outport_cmp all.old) (holdings_at (path.now, proc_in entry.now))) }
 {
     let process: &Process = &entry.process.held;
     let holder = holder_path(alloc, path, process)?;

@@ -36,7 +36,8 @@ fn push_if<'a>(
     path: &'a Path,
     entry: &'a Entry,
 ) -> Result<(), NoMemory>
-    ensures { OnOk result (map deref_pair rows.new.items ≡ map deref_pair rows.old.items ++ filter (row_gives part) ((path.now, entry.now) ∷ [])) }
+    ensures { OnOk result (map deref_pair rows.new.items
+        ≡ map deref_pair rows.old.items ++ filter (row_gives part) ((path.now, entry.now) ∷ [])) }
 {
     if gives(part, &entry.process.held) {
         rows.push((path, entry))?;
@@ -61,14 +62,15 @@ fn rows_of<'a>(
     Ok(rows)
 }
 
-/// The processes that give something to a part of the outcome, in path order. Only these are compared: a path is as long as its
-/// process is deep.
+/// The processes that give something to a part of the outcome, in path order. Only these are compared: a path is as
+/// long as its process is deep.
 pub(crate) fn in_path_order<'a>(
     alloc: Global,
     processes: &'a Entries,
     part: Part,
 ) -> Result<Vec<(&'a Path, &'a Entry)>, NoMemory>
-    ensures { IfOk result (λ v. map deref_pair v.items ≡ filter (row_gives part) (entries (numbered_map processes.now.rows))) }
+    ensures { IfOk result
+        (λ v. map deref_pair v.items ≡ filter (row_gives part) (entries (numbered_map processes.now.rows))) }
 {
     let mut rows = rows_of(alloc, processes, part)?;
     rows.sort_by_key(|row| row.0)?;

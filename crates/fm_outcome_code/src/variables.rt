@@ -50,7 +50,9 @@ fn put_shown(
     variable: &Variable,
     memory: &[i64],
 ) -> Result<(), NoMemory>
-    ensures { OnOk result (all.new ≡ with_new all.old variable.now.name (shown_by variable.now.kind (item_in (port_in slots.now) memory.now variable.now))) }
+    ensures { OnOk result (all.new
+        ≡ with_new all.old variable.now.name
+        (shown_by variable.now.kind (item_in (port_in slots.now) memory.now variable.now))) }
 {
     if all.contains_key(&variable.name) {
         return Ok(());
@@ -66,7 +68,8 @@ fn by_name(
     variables: &[Variable],
     memory: &[i64],
 ) -> Result<NameMap<Shown>, NoMemory>
-    ensures { IfOk result (λ m. m ≡ first_of_each (shown_variables variables.now (values_in (port_in slots.now) variables.now memory.now))) }
+    ensures { IfOk result (λ m. m
+        ≡ first_of_each (shown_variables variables.now (values_in (port_in slots.now) variables.now memory.now))) }
 {
     let mut all = NameMap::new(alloc);
     'variables: for variable in variables {

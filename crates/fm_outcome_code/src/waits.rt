@@ -62,7 +62,8 @@ fn awaited(
     first: u32,
     count: usize,
 ) -> Result<Option<Path>, NoMemory>
-    ensures { IfOk result (λ o. (q : Place) (b : ℕ) → AreChildren (order_of processes.now) first q b count → o ≡ awaited (procs_of processes.now) q b 1 count) }
+    ensures { IfOk result (λ o. (q : Place) (b : ℕ) → AreChildren (order_of processes.now) first q b count
+        → o ≡ awaited (procs_of processes.now) q b 1 count) }
 {
     'children: for place in 0..count {
         let number = number_behind(first, place)?;
@@ -81,7 +82,8 @@ fn joined(
     count: usize,
     ask: &Ask,
 ) -> Result<Option<At>, NoMemory>
-    ensures { IfOk result (λ o. (q : Place) (b : ℕ) → AreChildren (order_of processes.now) first q b count → o ≡ joined_by (procs_of processes.now) q b count ask.now) }
+    ensures { IfOk result (λ o. (q : Place) (b : ℕ) → AreChildren (order_of processes.now) first q b count
+        → o ≡ joined_by (procs_of processes.now) q b count ask.now) }
 {
     if !is_join(ask) {
         return Ok(None);
@@ -97,8 +99,9 @@ fn waits_asked(
     entry: &Entry,
     ask: &Ask,
 ) -> Result<Option<At>, NoMemory>
-    ensures { IfOk result (λ o. (q : Place) → HasFamily (order_of processes.now) q (proc_in entry.now).phase entry.now.first_child →
-        o ≡ asked_by (procs_of processes.now) q (proc_in entry.now).phase (proc_in entry.now).slots ask.now) }
+    ensures { IfOk result (λ o. (q : Place)
+        → HasFamily (order_of processes.now) q (proc_in entry.now).phase entry.now.first_child
+        → o ≡ asked_by (procs_of processes.now) q (proc_in entry.now).phase (proc_in entry.now).slots ask.now) }
 {
     let process: &Process = &entry.process.held;
     match &process.phase {
@@ -113,8 +116,9 @@ fn waits_asked(
 
 // What a process waits for, where it waits.
 fn waits(alloc: Global, processes: &Entries, entry: &Entry) -> Result<Option<At>, NoMemory>
-    ensures { IfOk result (λ o. (q : Place) → HasFamily (order_of processes.now) q (proc_in entry.now).phase entry.now.first_child →
-        o ≡ told_by (procs_of processes.now) q (proc_in entry.now).phase (proc_in entry.now).slots entry.now.next) }
+    ensures { IfOk result (λ o. (q : Place)
+        → HasFamily (order_of processes.now) q (proc_in entry.now).phase entry.now.first_child
+        → o ≡ told_by (procs_of processes.now) q (proc_in entry.now).phase (proc_in entry.now).slots entry.now.next) }
 {
     match &entry.next {
         Look::Goes => Ok(None),
@@ -143,7 +147,8 @@ pub(crate) fn push_wait(
 ) -> Result<(), NoMemory>
     requires told { IsTold entry.now }
     requires family { HasFamily (order_of processes.now) path.now (proc_in entry.now).phase entry.now.first_child }
-    ensures { OnOk result (all.new.items ≡ all.old.items ++ wait_at (procs_of processes.now) (path.now, proc_in entry.now)) }
+    ensures { OnOk result
+        (all.new.items ≡ all.old.items ++ wait_at (procs_of processes.now) (path.now, proc_in entry.now)) }
 {
     match waits(alloc, processes, entry)? {
         Some(at) => {

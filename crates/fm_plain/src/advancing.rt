@@ -59,10 +59,12 @@ fn is_own(alloc: Global, program: &Program, process: &PlainProc) -> Result<bool,
     Ok(false)
 }
 
-// Why a process stops that has made as many steps as it was allowed, and has one to spare for a step that isn't its own: that step.
+// Why a process stops that has made as many steps as it was allowed, and has one to spare for a step that isn't its
+// own: that step.
 fn stop_behind(alloc: Global, program: &Program, process: &mut PlainProc) -> Result<Stop, NoMemory>
     requires { IsUnderWay program.now (proc_of program.now process.old) }
-    ensures ok { IfOk result (λ stop. IsStop program.now (proc_of program.now process.old) stop (proc_of program.now process.new)) }
+    ensures ok { IfOk result
+        (λ stop. IsStop program.now (proc_of program.now process.old) stop (proc_of program.now process.new)) }
     ensures err { OnErr result (proc_of program.now process.new ≡ proc_of program.now process.old) }
 {
     if is_own(alloc, program, process)? {
@@ -85,7 +87,8 @@ fn last_stop(
     spare: bool,
 ) -> Stop
     requires { IsUnderWay program.now (proc_of program.now process.old) }
-    ensures { StopsAt program.now slice spare slice (proc_of program.now process.old) result (proc_of program.now process.new) }
+    ensures { StopsAt program.now slice spare slice (proc_of program.now process.old) result
+        (proc_of program.now process.new) }
 {
     if !spare {
         return Stop::More;
@@ -96,11 +99,12 @@ fn last_stop(
     }
 }
 
-/// Makes local steps of a process that is under way, as many as `slice` at most, and stops before an event, which it tells with its
-/// operands, or behind a step that lets ports go, which isn't among those that are counted. With a step to `spare`, an event or such
-/// a step may stand behind a whole slice.
+/// Makes local steps of a process that is under way, as many as `slice` at most, and stops before an event, which it
+/// tells with its operands, or behind a step that lets ports go, which isn't among those that are counted. With a step
+/// to `spare`, an event or such a step may stand behind a whole slice.
 ///
-/// Want of memory leaves the process as it was. Where memory is wanting behind some steps these stand, and it stops as `Short`.
+/// Want of memory leaves the process as it was. Where memory is wanting behind some steps these stand, and it stops as
+/// `Short`.
 pub fn advance(
     alloc: Global,
     program: &Program,
@@ -109,7 +113,8 @@ pub fn advance(
     spare: bool,
 ) -> Result<Advanced, NoMemory>
     requires { IsUnderWay program.now (proc_of program.now process.old) }
-    ensures ok { IfOk result (λ a. IsAdvanced program.now slice spare (proc_of program.now process.old) a (proc_of program.now process.new)) }
+    ensures ok { IfOk result (λ a. IsAdvanced program.now slice spare (proc_of program.now process.old) a
+        (proc_of program.now process.new)) }
     ensures err { OnErr result (proc_of program.now process.new ≡ proc_of program.now process.old) }
 {
     let mut cost: u64 = 0;

@@ -42,7 +42,10 @@ pub(crate) fn assigns(
     expr: &Expr,
 ) -> Result<Step, NoMemory>
     requires { StandsIn here.now top.old }
-    ensures acts { IfOk result (λ r. ActsOn here.now (λ w below. assigns w (point_in here.now) (frame_in here.now top.old) below (place_of (scope_in here.now top.old) target.now 0) (value_of (scope_in here.now top.old) expr.now (refs_in_var (scope_in here.now top.old) target.now))) top.old r top.new) }
+    ensures acts { IfOk result (λ r. ActsOn here.now (λ w below. assigns w (point_in here.now)
+        (frame_in here.now top.old) below (place_of (scope_in here.now top.old) target.now 0)
+        (value_of (scope_in here.now top.old) expr.now (refs_in_var (scope_in here.now top.old) target.now))) top.old r
+        top.new) }
     ensures err { OnErr result (frame_in here.now top.new ≡ frame_in here.now top.old) }
 {
     match place_and_value(alloc, here, top, target, expr) {
@@ -62,7 +65,8 @@ pub(crate) fn prints(
     items: &[Item],
 ) -> Result<Step, NoMemory>
     requires { StandsIn here.now top.now }
-    ensures { IfOk result (λ r. ActsOn here.now (λ w below. prints w (point_in here.now) (frame_in here.now top.now) below (printed_all (scope_in here.now top.now) items.now 0)) top.now r top.now) }
+    ensures { IfOk result (λ r. ActsOn here.now (λ w below. prints w (point_in here.now) (frame_in here.now top.now)
+        below (printed_all (scope_in here.now top.now) items.now 0)) top.now r top.now) }
 {
     match line(alloc, &here.scope(top), items) {
         Err(failure) => failed(here.line(), failure),

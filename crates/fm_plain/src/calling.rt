@@ -66,9 +66,13 @@ pub(crate) fn enters(
 ) -> Result<Entered, NoMemory>
     requires stands { StandsIn here.now top.old }
     requires callee { callee.now.program.now ≡ program_in here.now }
-    ensures mine { OnOk result (frame_in here.now top.new ≡ record (frame_in here.now top.old) { values = (entered (unit_of callee.now) (frame_in here.now top.old).values arguments.now).mine }) }
-    ensures theirs { IfOk result (λ e. values_of (variables_of (program_in here.now) callee.now.number) e.memory.items ≡ (entered (unit_of callee.now) (frame_in here.now top.old).values arguments.now).theirs) }
-    ensures drops { IfOk result (λ e. live e.replaced.items ≡ (entered (unit_of callee.now) (frame_in here.now top.old).values arguments.now).drops) }
+    ensures mine { OnOk result (frame_in here.now top.new
+        ≡ record (frame_in here.now top.old)
+        { values = (entered (unit_of callee.now) (frame_in here.now top.old).values arguments.now).mine }) }
+    ensures theirs { IfOk result (λ e. values_of (variables_of (program_in here.now) callee.now.number) e.memory.items
+        ≡ (entered (unit_of callee.now) (frame_in here.now top.old).values arguments.now).theirs) }
+    ensures drops { IfOk result (λ e. live e.replaced.items
+        ≡ (entered (unit_of callee.now) (frame_in here.now top.old).values arguments.now).drops) }
     ensures err { OnErr result (frame_in here.now top.new ≡ frame_in here.now top.old) }
 {
     let _number = callee.number();
@@ -91,8 +95,14 @@ fn opens(
 ) -> Result<Step, NoMemory>
     requires stands { StandsIn here.now top.old }
     requires callee { opening.callee.program.now ≡ program_in here.now }
-    ensures acts { IfOk result (λ r. (w : Execution) → IsStep (program_in here.now) w (opens w (waiting (frame_in here.now top.old) opening.entry.next) (below_in here.now below.old.items) opening.entry.callee.number (unit_of opening.entry.callee) (entered (unit_of opening.entry.callee) (frame_in here.now top.old).values opening.entry.arguments.now) opening.entry.backs) (standing (program_in here.now) top.old below.old.items) r (standing (program_in here.now) top.new below.new.items)) }
-    ensures err { OnErr result (standing (program_in here.now) top.new below.new.items ≡ standing (program_in here.now) top.old below.old.items) }
+    ensures acts { IfOk result (λ r. (w : Execution)
+        → IsStep (program_in here.now) w (opens w (waiting (frame_in here.now top.old) opening.entry.next)
+        (below_in here.now below.old.items) opening.entry.callee.number (unit_of opening.entry.callee)
+        (entered (unit_of opening.entry.callee) (frame_in here.now top.old).values opening.entry.arguments.now)
+        opening.entry.backs) (standing (program_in here.now) top.old below.old.items) r
+        (standing (program_in here.now) top.new below.new.items)) }
+    ensures err { OnErr result (standing (program_in here.now) top.new below.new.items
+        ≡ standing (program_in here.now) top.old below.old.items) }
 {
     let cost = frame_cost(&opening.callee)?;
     let place = below.len();
@@ -136,8 +146,14 @@ pub(crate) fn calls(
     arguments: &[Expr],
 ) -> Result<Step, NoMemory>
     requires { StandsIn here.now top.old }
-    ensures acts { IfOk result (λ r. (w : Execution) → IsStep (program_in here.now) w (calls w (point_in here.now) (frame_in here.now top.old) (below_in here.now below.old.items) (unit_named (program_in here.now) name.now) (actuals_of (scope_in here.now top.old) (trees_from arguments.now) 0)) (standing (program_in here.now) top.old below.old.items) r (standing (program_in here.now) top.new below.new.items)) }
-    ensures err { OnErr result (standing (program_in here.now) top.new below.new.items ≡ standing (program_in here.now) top.old below.old.items) }
+    ensures acts { IfOk result (λ r. (w : Execution)
+        → IsStep (program_in here.now) w (calls w (point_in here.now) (frame_in here.now top.old)
+        (below_in here.now below.old.items) (unit_named (program_in here.now) name.now)
+        (actuals_of (scope_in here.now top.old) (trees_from arguments.now) 0))
+        (standing (program_in here.now) top.old below.old.items) r
+        (standing (program_in here.now) top.new below.new.items)) }
+    ensures err { OnErr result (standing (program_in here.now) top.new below.new.items
+        ≡ standing (program_in here.now) top.old below.old.items) }
 {
     let Some((_, callee)) = unit_named(here.unit.program(), name) else {
         return Ok(Step::Rest);
@@ -165,7 +181,9 @@ fn last_actuals(
     arguments: &[Expr],
 ) -> Result<Seq<Actual>, Failure>
     requires { StandsIn here.now top.now }
-    ensures { IsDone (actuals_of (scope_in here.now top.now) (trees_from arguments.now) (length (frame_in here.now top.now).results - refs_in_all (scope_in here.now top.now) (trees_from arguments.now))) result }
+    ensures { IsDone (actuals_of (scope_in here.now top.now) (trees_from arguments.now)
+        (length (frame_in here.now top.now).results - refs_in_all (scope_in here.now top.now)
+        (trees_from arguments.now))) result }
 {
     let scope = here.scope(top);
     let own = references(&scope, arguments, 0)?;
@@ -200,8 +218,15 @@ fn refers(
     arguments: &[Expr],
 ) -> Result<Step, NoMemory>
     requires { StandsIn here.now top.old }
-    ensures acts { IfOk result (λ r. (w : Execution) → IsStep (program_in here.now) w (refers w (line_in here.now) (frame_in here.now top.old) (below_in here.now below.old.items) (reference_of (scope_in here.now top.old) name.now) (actuals_of (scope_in here.now top.old) (trees_from arguments.now) (length (frame_in here.now top.old).results - refs_in_all (scope_in here.now top.old) (trees_from arguments.now)))) (standing (program_in here.now) top.old below.old.items) r (standing (program_in here.now) top.new below.new.items)) }
-    ensures err { OnErr result (standing (program_in here.now) top.new below.new.items ≡ standing (program_in here.now) top.old below.old.items) }
+    ensures acts { IfOk result (λ r. (w : Execution)
+        → IsStep (program_in here.now) w (refers w (line_in here.now) (frame_in here.now top.old)
+        (below_in here.now below.old.items) (reference_of (scope_in here.now top.old) name.now)
+        (actuals_of (scope_in here.now top.old) (trees_from arguments.now) (length (frame_in here.now top.old).results -
+        refs_in_all (scope_in here.now top.old) (trees_from arguments.now))))
+        (standing (program_in here.now) top.old below.old.items) r
+        (standing (program_in here.now) top.new below.new.items)) }
+    ensures err { OnErr result (standing (program_in here.now) top.new below.new.items
+        ≡ standing (program_in here.now) top.old below.old.items) }
 {
     let Some(number) = called(here, top, name) else {
         return Ok(Step::Rest);
@@ -232,8 +257,13 @@ pub(crate) fn reference_step(
     tree: &Expr,
 ) -> Result<Step, NoMemory>
     requires { StandsIn here.now top.old }
-    ensures acts { IfOk result (λ r. (w : Execution) → IsStep (program_in here.now) w (reference_step w (line_in here.now) (scope_in here.now top.old) (frame_in here.now top.old) (below_in here.now below.old.items) tree.now) (standing (program_in here.now) top.old below.old.items) r (standing (program_in here.now) top.new below.new.items)) }
-    ensures err { OnErr result (standing (program_in here.now) top.new below.new.items ≡ standing (program_in here.now) top.old below.old.items) }
+    ensures acts { IfOk result (λ r. (w : Execution)
+        → IsStep (program_in here.now) w (reference_step w (line_in here.now) (scope_in here.now top.old)
+        (frame_in here.now top.old) (below_in here.now below.old.items) tree.now)
+        (standing (program_in here.now) top.old below.old.items) r
+        (standing (program_in here.now) top.new below.new.items)) }
+    ensures err { OnErr result (standing (program_in here.now) top.new below.new.items
+        ≡ standing (program_in here.now) top.old below.old.items) }
 {
     match &tree.node {
         ExprNode::Ref(name, arguments) => refers(alloc, here, top, below, name, arguments),

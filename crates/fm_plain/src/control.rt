@@ -50,7 +50,8 @@ pub(crate) fn tests(
     tree: &Expr,
 ) -> Result<Step, NoMemory>
     requires { StandsIn here.now top.old }
-    ensures acts { IfOk result (λ r. ActsOn here.now (λ w below. tests w (point_in here.now) (frame_in here.now top.old) below (value_of (scope_in here.now top.old) tree.now 0)) top.old r top.new) }
+    ensures acts { IfOk result (λ r. ActsOn here.now (λ w below. tests w (point_in here.now) (frame_in here.now top.old)
+        below (value_of (scope_in here.now top.old) tree.now 0)) top.old r top.new) }
     ensures err { OnErr result (frame_in here.now top.new ≡ frame_in here.now top.old) }
 {
     match condition(alloc, here, top, tree) {

@@ -1,4 +1,5 @@
-//! The items of a message as they are sent: one for a field that an earlier field sizes has as many elements as that one says.
+//! The items of a message as they are sent: one for a field that an earlier field sizes has as many elements as that
+//! one says.
 
 ghost use Rattle.std.specs.Prelude.{◌≡◌, [], slice_get};
 ghost use Rattle.std.specs.Option.{option_copied};

@@ -3,8 +3,8 @@
 use fm_base::{ChanName, Fault, Line, Seq};
 use fm_mean::{Actual, Span};
 
-/// What a process meets others by, or what changes its phase, with evaluated operands: places are those of its innermost frame,
-/// and `next` is the entry that it does then. Contracts see it as the meaning's (`event_by`).
+/// What a process meets others by, or what changes its phase, with evaluated operands: places are those of its
+/// innermost frame, and `next` is the entry that it does then. Contracts see it as the meaning's (`event_by`).
 #[derive(Drop)]
 pub enum Event {
     /// A fault at a line.

@@ -73,7 +73,9 @@ impl<'p> Here<'p> {
     /// Puts a number into the innermost frame, which goes to another entry.
     pub(crate) fn put_number(&self, top: &mut Frame, place: Span, number: i64, next: u32)
         requires { StandsIn self.now top.old }
-        ensures { frame_in self.now top.new ≡ at_entry (record (frame_in self.now top.old) { values = written (frame_in self.now top.old).values place (number ∷ []) }) next }
+        ensures { frame_in self.now top.new
+            ≡ at_entry (record (frame_in self.now top.old)
+            { values = written (frame_in self.now top.old).values place (number ∷ []) }) next }
     {
         put_number(
             top.memory.as_mut_slice(),
@@ -84,7 +86,8 @@ impl<'p> Here<'p> {
         go_to(top, next);
     }
 
-    /// Exchanges the port at a place of the innermost frame for another. Where there is no such place, that one comes out.
+    /// Exchanges the port at a place of the innermost frame for another. Where there is no such place, that one comes
+    /// out.
     pub(crate) fn exchange(
         &self,
         top: &mut Frame,
@@ -92,7 +95,9 @@ impl<'p> Here<'p> {
         port: Option<PortValue>,
     ) -> Option<PortValue>
         requires { StandsIn self.now top.old }
-        ensures frame { frame_in self.now top.new ≡ record (frame_in self.now top.old) { values = (put_port (frame_in self.now top.old).values place port).0 } }
+        ensures frame { frame_in self.now top.new
+            ≡ record (frame_in self.now top.old)
+            { values = (put_port (frame_in self.now top.old).values place port).0 } }
         ensures port { result ≡ (put_port (frame_in self.now top.old).values place port).1 }
         ensures unit { top.new.unit ≡ top.old.unit }
     {

@@ -53,8 +53,14 @@ fn step_at(
     below: &mut Vec<Frame>,
 ) -> Result<Step, NoMemory>
     requires { StandsIn here.now top.old }
-    ensures acts { IfOk result (λ r. (w : Execution) → SitsAt here.now w → IsStep (program_in here.now) w (action_by (program_in here.now) w (unit_of here.now.unit) (point_in here.now) (frame_in here.now top.old) (below_in here.now below.old.items) (next_reference here.now.entry.now (length (frame_in here.now top.old).results))) (standing (program_in here.now) top.old below.old.items) r (standing (program_in here.now) top.new below.new.items)) }
-    ensures err { OnErr result (standing (program_in here.now) top.new below.new.items ≡ standing (program_in here.now) top.old below.old.items) }
+    ensures acts { IfOk result (λ r. (w : Execution) → SitsAt here.now w
+        → IsStep (program_in here.now) w (action_by (program_in here.now) w (unit_of here.now.unit) (point_in here.now)
+        (frame_in here.now top.old) (below_in here.now below.old.items)
+        (next_reference here.now.entry.now (length (frame_in here.now top.old).results)))
+        (standing (program_in here.now) top.old below.old.items) r
+        (standing (program_in here.now) top.new below.new.items)) }
+    ensures err { OnErr result (standing (program_in here.now) top.new below.new.items
+        ≡ standing (program_in here.now) top.old below.old.items) }
 {
     match next_reference(here.entry, top.results.len()) {
         None => statement(alloc, here, top, below, &here.entry.stmt),
@@ -64,8 +70,12 @@ fn step_at(
 
 // A line is put out when there is room for it.
 fn finish(step: Step, top: &mut Frame, lines: &mut Vec<Seq<u8>>) -> Result<Acted, NoMemory>
-    ensures acts { IfOk result (λ r. (p : declared.Program) (x : Proc) (fs below : List mean.Frame) (a : Action) → IsStep p x.execution a fs step (frame_of p top.old ∷ below) → IsActed p a (runs_with x fs lines.old.items) r (runs_with x (frame_of p top.new ∷ below) lines.new.items)) }
-    ensures err_top { OnErr result ((p : declared.Program) (x : Proc) (fs below : List mean.Frame) (a : Action) → IsStep p x.execution a fs step (frame_of p top.old ∷ below) → frame_of p top.new ∷ below ≡ fs) }
+    ensures acts { IfOk result (λ r. (p : declared.Program) (x : Proc) (fs below : List mean.Frame) (a : Action)
+        → IsStep p x.execution a fs step (frame_of p top.old ∷ below)
+        → IsActed p a (runs_with x fs lines.old.items) r (runs_with x (frame_of p top.new ∷ below) lines.new.items)) }
+    ensures err_top { OnErr result ((p : declared.Program) (x : Proc) (fs below : List mean.Frame) (a : Action)
+        → IsStep p x.execution a fs step (frame_of p top.old ∷ below)
+        → frame_of p top.new ∷ below ≡ fs) }
     ensures err_lines { OnErr result (lines.new.items ≡ lines.old.items) }
 {
     match step {
@@ -85,7 +95,9 @@ fn finish(step: Step, top: &mut Frame, lines: &mut Vec<Seq<u8>>) -> Result<Acted
 fn run(alloc: Global, program: &Program, process: &mut PlainProc) -> Result<Acted, NoMemory>
     requires runs { phase_of process.old.phase ≡ mean.Running }
     requires raised { IsRaised process.old.top process.old.below.items }
-    ensures acts { IfOk result (λ a. IsActed program.now (running program.now (execution_of program.now process.old) (execution_of program.now process.old).frames) (proc_of program.now process.old) a (proc_of program.now process.new)) }
+    ensures acts { IfOk result (λ a. IsActed program.now
+        (running program.now (execution_of program.now process.old) (execution_of program.now process.old).frames)
+        (proc_of program.now process.old) a (proc_of program.now process.new)) }
     ensures err { OnErr result (proc_of program.now process.new ≡ proc_of program.now process.old) }
 {
     let Some(top) = &mut process.top else {
@@ -111,7 +123,8 @@ fn raise(process: &mut PlainProc)
 
 /// Makes the next step of a process where that is its own, and else leaves the process as it was.
 pub fn act(alloc: Global, program: &Program, process: &mut PlainProc) -> Result<Acted, NoMemory>
-    ensures acts { IfOk result (λ a. IsActed program.now (action_of program.now (proc_of program.now process.old)) (proc_of program.now process.old) a (proc_of program.now process.new)) }
+    ensures acts { IfOk result (λ a. IsActed program.now (action_of program.now (proc_of program.now process.old))
+        (proc_of program.now process.old) a (proc_of program.now process.new)) }
     ensures err { OnErr result (proc_of program.now process.new ≡ proc_of program.now process.old) }
 {
     raise(process);

@@ -59,7 +59,8 @@ fn is_unit(here: &Here<'_>, name: &Name) -> bool
 
 // Whether the entry is the end of a loop that is there.
 fn ends_a_loop(here: &Here<'_>) -> bool
-    ensures { (w : Execution) (f : Standing) (below : List Standing) → IsFreeOrNone result (end_of w (unit_of here.now.unit) (point_in here.now) f below here.now.entry.now.mate) }
+    ensures { (w : Execution) (f : Standing) (below : List Standing)
+        → IsFreeOrNone result (end_of w (unit_of here.now.unit) (point_in here.now) f below here.now.entry.now.mate) }
 {
     let Some(opener) = here.entry.mate else {
         return false;
@@ -76,14 +77,19 @@ fn ends_a_loop(here: &Here<'_>) -> bool
 
 // The end of a loop.
 fn loop_ends(here: &Here<'_>) -> Next
-    ensures { (w : Execution) (f : Standing) (below : List Standing) → IsSeen Running (loop_end w (unit_of here.now.unit) (point_in here.now) f below) result }
+    ensures { (w : Execution) (f : Standing) (below : List Standing)
+        → IsSeen Running (loop_end w (unit_of here.now.unit) (point_in here.now) f below) result }
 {
     where_there(ends_a_loop(here))
 }
 
 // The start of a process.
 fn process_call(here: &Here<'_>, name: &Name) -> Next
-    ensures { (w : Execution) (s : Scope) (f : Standing) (below : List Standing) (arguments : List Tree) (place : Option Where) → IsSeen Running (process_calls w s (point_in here.now) f below (unit_named (program_in here.now) name.now) arguments place) result }
+    ensures { (w : Execution) (s : Scope) (f : Standing) (below : List Standing) (arguments : List Tree)
+        (place : Option Where)
+        → IsSeen Running
+        (process_calls w s (point_in here.now) f below (unit_named (program_in here.now) name.now) arguments place)
+        result }
 {
     where_there(is_unit(here, name))
 }
@@ -91,7 +97,9 @@ fn process_call(here: &Here<'_>, name: &Name) -> Next
 // Whether a name is that of a FUNCTION.
 fn is_function(here: &Here<'_>, top: &Frame, name: &Name) -> bool
     requires { StandsIn here.now top.now }
-    ensures { (w : Execution) (below : List Standing) (arguments : Result (List Actual) Fault) → IsFreeOrNone result (refers w (line_in here.now) (frame_in here.now top.now) below (reference_of (scope_in here.now top.now) name.now) arguments) }
+    ensures { (w : Execution) (below : List Standing) (arguments : Result (List Actual) Fault)
+        → IsFreeOrNone result (refers w (line_in here.now) (frame_in here.now top.now) below
+        (reference_of (scope_in here.now top.now) name.now) arguments) }
 {
     called(here, top, name).is_some()
 }
@@ -99,7 +107,9 @@ fn is_function(here: &Here<'_>, top: &Frame, name: &Name) -> bool
 // Whether a reference is one of a FUNCTION.
 fn is_call(here: &Here<'_>, top: &Frame, tree: &Expr) -> bool
     requires { StandsIn here.now top.now }
-    ensures { (w : Execution) (below : List Standing) → IsFreeOrNone result (reference_step w (line_in here.now) (scope_in here.now top.now) (frame_in here.now top.now) below tree.now) }
+    ensures { (w : Execution) (below : List Standing)
+        → IsFreeOrNone result
+        (reference_step w (line_in here.now) (scope_in here.now top.now) (frame_in here.now top.now) below tree.now) }
 {
     match &tree.node {
         ExprNode::Ref(name, _) => is_function(here, top, name),
@@ -143,7 +153,8 @@ fn meets(event: Event) -> Next
 
 // What a step is, seen from outside.
 fn seen(step: Step) -> Next
-    ensures { (p : declared.Program) (w : Execution) (a : Action) (f : Standing) (below after : List Standing) → IsStep p w a (f ∷ below) step after → IsSeen Running a result }
+    ensures { (p : declared.Program) (w : Execution) (a : Action) (f : Standing) (below after : List Standing)
+        → IsStep p w a (f ∷ below) step after → IsSeen Running a result }
 {
     match step {
         Step::Made(_) => Next::Steps,
@@ -164,7 +175,9 @@ fn receive(
     items: &[Var],
 ) -> Result<Next, NoMemory>
     requires { StandsIn here.now top.now }
-    ensures { IfOk result (λ r. (w : Execution) (below : List Standing) → IsSeen Running (receives (point_in here.now) (frame_in here.now top.now) (receive_places (scope_in here.now top.now) port.now extras.now items.now)) r) }
+    ensures { IfOk result (λ r. (w : Execution) (below : List Standing)
+        → IsSeen Running (receives (point_in here.now) (frame_in here.now top.now)
+        (receive_places (scope_in here.now top.now) port.now extras.now items.now)) r) }
 {
     let step = receives(alloc, here, top, port, extras, items)?;
     Ok(seen(step))
@@ -172,7 +185,9 @@ fn receive(
 
 fn simple(alloc: Global, here: &Here<'_>, top: &Frame, simple: &Simple) -> Result<Next, NoMemory>
     requires { StandsIn here.now top.now }
-    ensures { IfOk result (λ r. (w : Execution) (below : List Standing) → IsSeen Running (simple_action (program_in here.now) w (unit_of here.now.unit) (point_in here.now) (frame_in here.now top.now) below (scope_in here.now top.now) simple.now) r) }
+    ensures { IfOk result (λ r. (w : Execution) (below : List Standing)
+        → IsSeen Running (simple_action (program_in here.now) w (unit_of here.now.unit) (point_in here.now)
+        (frame_in here.now top.now) below (scope_in here.now top.now) simple.now) r) }
 {
     match simple {
         Simple::Goto(_) => Ok(where_there(here.links.jump.is_some())),
@@ -201,7 +216,9 @@ fn simple(alloc: Global, here: &Here<'_>, top: &Frame, simple: &Simple) -> Resul
 // What the statement of an entry comes to, whose references are done.
 fn statement(alloc: Global, here: &Here<'_>, top: &Frame, stmt: &Stmt) -> Result<Next, NoMemory>
     requires { StandsIn here.now top.now }
-    ensures { IfOk result (λ r. (w : Execution) (below : List Standing) → IsSeen Running (statement_action (program_in here.now) w (unit_of here.now.unit) (point_in here.now) (frame_in here.now top.now) below (scope_in here.now top.now) stmt.now) r) }
+    ensures { IfOk result (λ r. (w : Execution) (below : List Standing)
+        → IsSeen Running (statement_action (program_in here.now) w (unit_of here.now.unit) (point_in here.now)
+        (frame_in here.now top.now) below (scope_in here.now top.now) stmt.now) r) }
 {
     match stmt {
         Stmt::Simple(kind) => simple(alloc, here, top, kind),
@@ -248,7 +265,10 @@ fn pending<'a>(here: &'a Here<'_>, top: &Frame) -> Option<&'a Expr>
 // What the entry at which a frame stands comes to.
 fn entry(alloc: Global, here: &Here<'_>, top: &Frame) -> Result<Next, NoMemory>
     requires { StandsIn here.now top.now }
-    ensures { IfOk result (λ r. (w : Execution) (below : List Standing) → IsSeen Running (action_by (program_in here.now) w (unit_of here.now.unit) (point_in here.now) (frame_in here.now top.now) below (next_reference here.now.entry.now (length (frame_in here.now top.now).results))) r) }
+    ensures { IfOk result (λ r. (w : Execution) (below : List Standing)
+        → IsSeen Running (action_by (program_in here.now) w (unit_of here.now.unit) (point_in here.now)
+        (frame_in here.now top.now) below
+        (next_reference here.now.entry.now (length (frame_in here.now top.now).results))) r) }
 {
     match pending(here, top) {
         None => statement(alloc, here, top, &here.entry.stmt),
@@ -263,7 +283,9 @@ fn standing(
     process: &PlainProc,
     top: &Frame,
 ) -> Result<Next, NoMemory>
-    ensures { IfOk result (λ r. (w : Execution) (below : List Standing) → IsSeen Running (action_at program.now w (frame_of program.now top.now) below (unit_at program.now top.now.unit)) r) }
+    ensures { IfOk result (λ r. (w : Execution) (below : List Standing)
+        → IsSeen Running
+        (action_at program.now w (frame_of program.now top.now) below (unit_at program.now top.now.unit)) r) }
 {
     match Here::of(program, top, process.machine, process.node) {
         None => Ok(Next::Rests),
@@ -283,7 +305,8 @@ pub fn innermost(process: &PlainProc) -> Option<&Frame>
 
 // What a process that runs does next.
 fn running(alloc: Global, program: &Program, process: &PlainProc) -> Result<Next, NoMemory>
-    ensures { IfOk result (λ r. IsSeen Running (running program.now (execution_of program.now process.now) (execution_of program.now process.now).frames) r) }
+    ensures { IfOk result (λ r. IsSeen Running
+        (running program.now (execution_of program.now process.now) (execution_of program.now process.now).frames) r) }
 {
     match innermost(process) {
         None => Ok(Next::Rests),

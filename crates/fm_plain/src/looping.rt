@@ -48,7 +48,9 @@ fn begin(
     bounds: (i64, i64, i64),
 ) -> Result<Step, NoMemory>
     requires { StandsIn here.now top.old }
-    ensures acts { IfOk result (λ r. ActsOn here.now (λ w below. loops w (point_in here.now) (frame_in here.now top.old) below place (Ok bounds)) top.old r top.new) }
+    ensures acts { IfOk result (λ r. ActsOn here.now
+        (λ w below. loops w (point_in here.now) (frame_in here.now top.old) below place (Ok bounds)) top.old r
+        top.new) }
     ensures err { OnErr result (frame_in here.now top.new ≡ frame_in here.now top.old) }
 {
     match trips_behind(bounds.0, bounds.1, bounds.2) {
@@ -87,7 +89,9 @@ pub(crate) fn loops(
     head: &LoopHead,
 ) -> Result<Step, NoMemory>
     requires { StandsIn here.now top.old }
-    ensures acts { IfOk result (λ r. ActsOn here.now (λ w below. loops w (point_in here.now) (frame_in here.now top.old) below (scalar_place (variable_of (unit_of here.now.unit) head.now.variable)) (loop_bounds (scope_in here.now top.old) head.now)) top.old r top.new) }
+    ensures acts { IfOk result (λ r. ActsOn here.now (λ w below. loops w (point_in here.now) (frame_in here.now top.old)
+        below (scalar_place (variable_of (unit_of here.now.unit) head.now.variable))
+        (loop_bounds (scope_in here.now top.old) head.now)) top.old r top.new) }
     ensures err { OnErr result (frame_in here.now top.new ≡ frame_in here.now top.old) }
 {
     let place = scalar_place(here.unit.variable(&head.variable));
@@ -141,7 +145,8 @@ fn adds(
     trips: Trips,
 ) -> Result<Step, NoMemory>
     requires { StandsIn here.now top.old }
-    ensures acts { IfOk result (λ r. ActsOn here.now (λ w below. loop_trips w (point_in here.now) (frame_in here.now top.old) below end.opener end.body place (Some (trips_of trips))) top.old r top.new) }
+    ensures acts { IfOk result (λ r. ActsOn here.now (λ w below. loop_trips w (point_in here.now)
+        (frame_in here.now top.old) below end.opener end.body place (Some (trips_of trips))) top.old r top.new) }
     ensures err { OnErr result (frame_in here.now top.new ≡ frame_in here.now top.old) }
 {
     let word = number_at(top.memory.as_slice(), here.unit.variables(), place);
@@ -164,7 +169,9 @@ fn adds(
 
 fn loop_trips(here: &Here<'_>, top: &mut Frame, end: LoopEnd, place: Span) -> Result<Step, NoMemory>
     requires { StandsIn here.now top.old }
-    ensures acts { IfOk result (λ r. ActsOn here.now (λ w below. loop_trips w (point_in here.now) (frame_in here.now top.old) below end.opener end.body place (finite.get (frame_in here.now top.old).loops end.opener)) top.old r top.new) }
+    ensures acts { IfOk result (λ r. ActsOn here.now (λ w below. loop_trips w (point_in here.now)
+        (frame_in here.now top.old) below end.opener end.body place
+        (finite.get (frame_in here.now top.old).loops end.opener)) top.old r top.new) }
     ensures err { OnErr result (frame_in here.now top.new ≡ frame_in here.now top.old) }
 {
     match top.trips_at(end.opener) {
@@ -180,7 +187,8 @@ fn ends_loop(
     opened: Loop<'_>,
 ) -> Result<Step, NoMemory>
     requires { StandsIn here.now top.old }
-    ensures acts { IfOk result (λ r. ActsOn here.now (λ w below. ends_loop w (unit_of here.now.unit) (point_in here.now) (frame_in here.now top.old) below end.opener end.body (loop_read opened.entry)) top.old r top.new) }
+    ensures acts { IfOk result (λ r. ActsOn here.now (λ w below. ends_loop w (unit_of here.now.unit) (point_in here.now)
+        (frame_in here.now top.old) below end.opener end.body (loop_read opened.entry)) top.old r top.new) }
     ensures err { OnErr result (frame_in here.now top.new ≡ frame_in here.now top.old) }
 {
     match opened {
@@ -196,7 +204,9 @@ fn ends_loop(
 /// The end of a loop ends a trip of it, or goes back to the test of a DOWHILE.
 pub(crate) fn loop_end(here: &Here<'_>, top: &mut Frame) -> Result<Step, NoMemory>
     requires { StandsIn here.now top.old }
-    ensures acts { IfOk result (λ r. ActsOn here.now (λ w below. loop_end w (unit_of here.now.unit) (point_in here.now) (frame_in here.now top.old) below) top.old r top.new) }
+    ensures acts { IfOk result (λ r. ActsOn here.now
+        (λ w below. loop_end w (unit_of here.now.unit) (point_in here.now) (frame_in here.now top.old) below) top.old r
+        top.new) }
     ensures err { OnErr result (frame_in here.now top.new ≡ frame_in here.now top.old) }
 {
     let Some(opener) = here.entry.mate else {

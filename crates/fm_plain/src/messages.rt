@@ -48,7 +48,9 @@ fn sent(
     port: Option<&PortValue>,
     items: Seq<Actual>,
 ) -> Result<Step, NoMemory>
-    ensures { IfOk result (λ r. ActsOn here.now (λ w below. sent (point_in here.now) (fields_of fields.now) (option_copied port.entry) items) top.now r top.now) }
+    ensures { IfOk result (λ r. ActsOn here.now
+        (λ w below. sent (point_in here.now) (fields_of fields.now) (option_copied port.entry) items) top.now r
+        top.now) }
 {
     let _frame = top;
     match port {
@@ -75,7 +77,10 @@ pub(crate) fn sends(
     items: &[Expr],
 ) -> Result<Step, NoMemory>
     requires { StandsIn here.now top.now }
-    ensures { IfOk result (λ r. ActsOn here.now (λ w below. sends (point_in here.now) (fields_at (unit_of here.now.unit) port.now) (frame_in here.now top.now) (place_of (scope_in here.now top.now) port.now 0) (actuals_of (scope_in here.now top.now) (trees_from items.now) (refs_in_var (scope_in here.now top.now) port.now))) top.now r top.now) }
+    ensures { IfOk result (λ r. ActsOn here.now (λ w below. sends (point_in here.now)
+        (fields_at (unit_of here.now.unit) port.now) (frame_in here.now top.now)
+        (place_of (scope_in here.now top.now) port.now 0) (actuals_of (scope_in here.now top.now) (trees_from items.now)
+        (refs_in_var (scope_in here.now top.now) port.now))) top.now r top.now) }
 {
     match send_operands(alloc, here, top, port, items) {
         Err(failure) => failed(here.line(), failure),
@@ -130,7 +135,8 @@ fn received(
     port: Option<&PortValue>,
     receiving: (Span, Option<Span>, Seq<Span>),
 ) -> Result<Step, NoMemory>
-    ensures { IfOk result (λ r. (f : Frame) → ActsOn here.now (λ w below. receives_at (point_in here.now) receiving (option_copied port.entry)) f r f) }
+    ensures { IfOk result (λ r. (f : Frame)
+        → ActsOn here.now (λ w below. receives_at (point_in here.now) receiving (option_copied port.entry)) f r f) }
 {
     match port {
         Some(PortValue::Reader(channel)) => Ok(Step::Event(Event::Receive {
@@ -156,7 +162,8 @@ pub(crate) fn receives(
     items: &[Var],
 ) -> Result<Step, NoMemory>
     requires { StandsIn here.now top.now }
-    ensures { IfOk result (λ r. ActsOn here.now (λ w below. receives (point_in here.now) (frame_in here.now top.now) (receive_places (scope_in here.now top.now) port.now extras.now items.now)) top.now r top.now) }
+    ensures { IfOk result (λ r. ActsOn here.now (λ w below. receives (point_in here.now) (frame_in here.now top.now)
+        (receive_places (scope_in here.now top.now) port.now extras.now items.now)) top.now r top.now) }
 {
     match receive_places(alloc, here, top, port, extras, items) {
         Err(failure) => failed(here.line(), failure),
@@ -173,7 +180,8 @@ fn probed(
     port: Option<&PortValue>,
     empty: Span,
 ) -> Result<Step, NoMemory>
-    ensures { IfOk result (λ r. (f : Frame) → ActsOn here.now (λ w below. probes_at (point_in here.now) empty (option_copied port.entry)) f r f) }
+    ensures { IfOk result (λ r. (f : Frame)
+        → ActsOn here.now (λ w below. probes_at (point_in here.now) empty (option_copied port.entry)) f r f) }
 {
     match port {
         Some(PortValue::Reader(channel)) => Ok(Step::Event(Event::Probe {
@@ -195,7 +203,8 @@ pub(crate) fn probes(
     empty: &Var,
 ) -> Result<Step, NoMemory>
     requires { StandsIn here.now top.now }
-    ensures { IfOk result (λ r. ActsOn here.now (λ w below. probes (point_in here.now) (frame_in here.now top.now) (two_places (scope_in here.now top.now) port.now empty.now)) top.now r top.now) }
+    ensures { IfOk result (λ r. ActsOn here.now (λ w below. probes (point_in here.now) (frame_in here.now top.now)
+        (two_places (scope_in here.now top.now) port.now empty.now)) top.now r top.now) }
 {
     match two_places(alloc, here, top, port, empty) {
         Err(failure) => failed(here.line(), failure),
@@ -233,7 +242,8 @@ pub(crate) fn makes(
     outport: &Var,
 ) -> Result<Step, NoMemory>
     requires { StandsIn here.now top.now }
-    ensures { IfOk result (λ r. ActsOn here.now (λ w below. makes (point_in here.now) (channel_places (scope_in here.now top.now) in_first inport.now outport.now)) top.now r top.now) }
+    ensures { IfOk result (λ r. ActsOn here.now (λ w below. makes (point_in here.now)
+        (channel_places (scope_in here.now top.now) in_first inport.now outport.now)) top.now r top.now) }
 {
     match channel_places(alloc, here, top, in_first, inport, outport) {
         Err(failure) => failed(here.line(), failure),
@@ -275,7 +285,8 @@ fn push_all_elements(places: &mut Seq<Span>, spans: &[Span]) -> Result<(), NoMem
 }
 
 fn merged(alloc: Global, here: &Here<'_>, inport: Span, outports: &[Span]) -> Result<Step, NoMemory>
-    ensures { IfOk result (λ r. (f : Frame) → ActsOn here.now (λ w below. merges (point_in here.now) (Ok (inport, outports.now))) f r f) }
+    ensures { IfOk result
+        (λ r. (f : Frame) → ActsOn here.now (λ w below. merges (point_in here.now) (Ok (inport, outports.now))) f r f) }
 {
     let mut places = Seq::new(alloc);
     places.push(inport)?;
@@ -315,7 +326,9 @@ pub(crate) fn merges(
     outports: &[Var],
 ) -> Result<Step, NoMemory>
     requires { StandsIn here.now top.now }
-    ensures { IfOk result (λ r. ActsOn here.now (λ w below. merges (point_in here.now) (merger_places (scope_in here.now top.now) inport.now outports.now)) top.now r top.now) }
+    ensures { IfOk result (λ r. ActsOn here.now
+        (λ w below. merges (point_in here.now) (merger_places (scope_in here.now top.now) inport.now outports.now))
+        top.now r top.now) }
 {
     match merger_places(alloc, here, top, inport, outports) {
         Err(failure) => failed(here.line(), failure),

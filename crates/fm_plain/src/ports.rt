@@ -59,7 +59,8 @@ fn fill(room: &mut Vec<Option<PortValue>>, port: Option<PortValue>)
 
 fn closed(alloc: Global, here: &Here<'_>, top: &mut Frame, place: Span) -> Result<Step, NoMemory>
     requires { StandsIn here.now top.old }
-    ensures acts { IfOk result (λ r. ActsOn here.now (λ w below. closes w (point_in here.now) (frame_in here.now top.old) below (Ok place)) top.old r top.new) }
+    ensures acts { IfOk result (λ r. ActsOn here.now
+        (λ w below. closes w (point_in here.now) (frame_in here.now top.old) below (Ok place)) top.old r top.new) }
     ensures err { OnErr result (frame_in here.now top.new ≡ frame_in here.now top.old) }
 {
     if here.port(top, place).is_none() {
@@ -80,7 +81,8 @@ pub(crate) fn closes(
     port: &Var,
 ) -> Result<Step, NoMemory>
     requires { StandsIn here.now top.old }
-    ensures acts { IfOk result (λ r. ActsOn here.now (λ w below. closes w (point_in here.now) (frame_in here.now top.old) below (place_of (scope_in here.now top.old) port.now 0)) top.old r top.new) }
+    ensures acts { IfOk result (λ r. ActsOn here.now (λ w below. closes w (point_in here.now)
+        (frame_in here.now top.old) below (place_of (scope_in here.now top.old) port.now 0)) top.old r top.new) }
     ensures err { OnErr result (frame_in here.now top.new ≡ frame_in here.now top.old) }
 {
     match place_of(alloc, here, top, port) {
@@ -97,7 +99,8 @@ fn moved(
     to: Span,
 ) -> Result<Step, NoMemory>
     requires { StandsIn here.now top.old }
-    ensures acts { IfOk result (λ r. ActsOn here.now (λ w below. moves w (point_in here.now) (frame_in here.now top.old) below (Ok (from, to))) top.old r top.new) }
+    ensures acts { IfOk result (λ r. ActsOn here.now
+        (λ w below. moves w (point_in here.now) (frame_in here.now top.old) below (Ok (from, to))) top.old r top.new) }
     ensures err { OnErr result (frame_in here.now top.new ≡ frame_in here.now top.old) }
 {
     let mut replaced = room(alloc)?;
@@ -117,7 +120,8 @@ pub(crate) fn moves(
     to: &Var,
 ) -> Result<Step, NoMemory>
     requires { StandsIn here.now top.old }
-    ensures acts { IfOk result (λ r. ActsOn here.now (λ w below. moves w (point_in here.now) (frame_in here.now top.old) below (two_places (scope_in here.now top.old) from.now to.now)) top.old r top.new) }
+    ensures acts { IfOk result (λ r. ActsOn here.now (λ w below. moves w (point_in here.now) (frame_in here.now top.old)
+        below (two_places (scope_in here.now top.old) from.now to.now)) top.old r top.new) }
     ensures err { OnErr result (frame_in here.now top.new ≡ frame_in here.now top.old) }
 {
     match two_places(alloc, here, top, from, to) {

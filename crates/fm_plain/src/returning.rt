@@ -31,7 +31,8 @@ fn copy_back(
     caller: &mut Frame,
     callee: &mut Frame,
 ) -> Result<Vec<Option<PortValue>>, NoMemory>
-    ensures ok { IfOk result (λ d. HasGivenBack program.now caller.old callee.old caller.new callee.new (live d.items)) }
+    ensures ok { IfOk result
+        (λ d. HasGivenBack program.now caller.old callee.old caller.new callee.new (live d.items)) }
     ensures err_caller { OnErr result (frame_of program.now caller.new ≡ frame_of program.now caller.old) }
     ensures err_callee { OnErr result (frame_of program.now callee.new ≡ frame_of program.now callee.old) }
 {
@@ -62,8 +63,12 @@ fn gives_back(
     below: &mut Vec<Frame>,
 ) -> Result<Step, NoMemory>
     requires { StandsIn here.now top.old }
-    ensures acts { IfOk result (λ r. (w : Execution) → IsStep (program_in here.now) w (gives_back w (frame_in here.now top.old) (below_in here.now below.old.items)) (standing (program_in here.now) top.old below.old.items) r (standing (program_in here.now) top.new below.new.items)) }
-    ensures err { OnErr result (standing (program_in here.now) top.new below.new.items ≡ standing (program_in here.now) top.old below.old.items) }
+    ensures acts { IfOk result (λ r. (w : Execution)
+        → IsStep (program_in here.now) w (gives_back w (frame_in here.now top.old) (below_in here.now below.old.items))
+        (standing (program_in here.now) top.old below.old.items) r
+        (standing (program_in here.now) top.new below.new.items)) }
+    ensures err { OnErr result (standing (program_in here.now) top.new below.new.items
+        ≡ standing (program_in here.now) top.old below.old.items) }
 {
     let Some(last) = below.len().checked_sub(1) else {
         return Ok(Step::Event(Event::End));
@@ -86,8 +91,13 @@ fn results_in(
     below: &mut Vec<Frame>,
 ) -> Result<Step, NoMemory>
     requires { StandsIn here.now top.old }
-    ensures acts { IfOk result (λ r. (w : Execution) → IsStep (program_in here.now) w (results_in w (unit_of here.now.unit) (frame_in here.now top.old) (below_in here.now below.old.items)) (standing (program_in here.now) top.old below.old.items) r (standing (program_in here.now) top.new below.new.items)) }
-    ensures err { OnErr result (standing (program_in here.now) top.new below.new.items ≡ standing (program_in here.now) top.old below.old.items) }
+    ensures acts { IfOk result (λ r. (w : Execution)
+        → IsStep (program_in here.now) w
+        (results_in w (unit_of here.now.unit) (frame_in here.now top.old) (below_in here.now below.old.items))
+        (standing (program_in here.now) top.old below.old.items) r
+        (standing (program_in here.now) top.new below.new.items)) }
+    ensures err { OnErr result (standing (program_in here.now) top.new below.new.items
+        ≡ standing (program_in here.now) top.old below.old.items) }
 {
     let Some(last) = below.len().checked_sub(1) else {
         return Ok(Step::Event(Event::End));
@@ -111,8 +121,13 @@ pub(crate) fn returns(
     kind: UnitKind,
 ) -> Result<Step, NoMemory>
     requires { StandsIn here.now top.old }
-    ensures acts { IfOk result (λ r. (w : Execution) → IsStep (program_in here.now) w (returns w (unit_of here.now.unit) (frame_in here.now top.old) (below_in here.now below.old.items) kind) (standing (program_in here.now) top.old below.old.items) r (standing (program_in here.now) top.new below.new.items)) }
-    ensures err { OnErr result (standing (program_in here.now) top.new below.new.items ≡ standing (program_in here.now) top.old below.old.items) }
+    ensures acts { IfOk result (λ r. (w : Execution)
+        → IsStep (program_in here.now) w
+        (returns w (unit_of here.now.unit) (frame_in here.now top.old) (below_in here.now below.old.items) kind)
+        (standing (program_in here.now) top.old below.old.items) r
+        (standing (program_in here.now) top.new below.new.items)) }
+    ensures err { OnErr result (standing (program_in here.now) top.new below.new.items
+        ≡ standing (program_in here.now) top.old below.old.items) }
 {
     match kind {
         UnitKind::Program => Ok(Step::Event(Event::End)),

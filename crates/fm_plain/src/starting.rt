@@ -43,7 +43,8 @@ fn arguments_and_seat(
     place: Option<&Where>,
 ) -> Result<(Seq<Actual>, (Machine, u32)), Failure>
     requires { StandsIn here.now top.now }
-    ensures { IsDone (arguments_and_seat (scope_in here.now top.now) here.now.machine here.now.node (unit_of callee.now).names.extents arguments.now (option_copied place.entry)) result }
+    ensures { IsDone (arguments_and_seat (scope_in here.now top.now) here.now.machine here.now.node
+        (unit_of callee.now).names.extents arguments.now (option_copied place.entry)) result }
 {
     let scope = here.scope(top);
     let (actuals, next) = actuals(alloc, &scope, arguments, 0)?;
@@ -63,7 +64,10 @@ fn pends(
 ) -> Result<Step, NoMemory>
     requires stands { StandsIn here.now top.old }
     requires callee { callee.now.program.now ≡ program_in here.now }
-    ensures acts { IfOk result (λ r. ActsOn here.now (λ w below. pended w (point_in here.now) (frame_in here.now top.old) below callee.now.number (unit_of callee.now) (backs_of (unit_of callee.now) arguments.now) seat (entered (unit_of callee.now) (frame_in here.now top.old).values arguments.now)) top.old r top.new) }
+    ensures acts { IfOk result (λ r. ActsOn here.now (λ w below. pended w (point_in here.now)
+        (frame_in here.now top.old) below callee.now.number (unit_of callee.now)
+        (backs_of (unit_of callee.now) arguments.now) seat
+        (entered (unit_of callee.now) (frame_in here.now top.old).values arguments.now)) top.old r top.new) }
     ensures err { OnErr result (frame_in here.now top.new ≡ frame_in here.now top.old) }
 {
     let cost = frame_cost(callee)?;
@@ -115,7 +119,9 @@ pub(crate) fn process_calls(
     place: Option<&Where>,
 ) -> Result<Step, NoMemory>
     requires { StandsIn here.now top.old }
-    ensures acts { IfOk result (λ r. ActsAt here.now (λ w below. process_calls w (scope_in here.now top.old) (point_in here.now) (frame_in here.now top.old) below (unit_named (program_in here.now) name.now) arguments.now (option_copied place.entry)) top.old r top.new) }
+    ensures acts { IfOk result (λ r. ActsAt here.now (λ w below. process_calls w (scope_in here.now top.old)
+        (point_in here.now) (frame_in here.now top.old) below (unit_named (program_in here.now) name.now) arguments.now
+        (option_copied place.entry)) top.old r top.new) }
     ensures err { OnErr result (frame_in here.now top.new ≡ frame_in here.now top.old) }
 {
     let Some((_, callee)) = unit_named(here.unit.program(), name) else {

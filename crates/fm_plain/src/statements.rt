@@ -31,8 +31,13 @@ fn simple(
     simple: &Simple,
 ) -> Result<Step, NoMemory>
     requires { StandsIn here.now top.old }
-    ensures acts { IfOk result (λ r. (w : Execution) → SitsAt here.now w → IsStep (program_in here.now) w (simple_action (program_in here.now) w (unit_of here.now.unit) (point_in here.now) (frame_in here.now top.old) (below_in here.now below.old.items) (scope_in here.now top.old) simple.now) (standing (program_in here.now) top.old below.old.items) r (standing (program_in here.now) top.new below.new.items)) }
-    ensures err { OnErr result (standing (program_in here.now) top.new below.new.items ≡ standing (program_in here.now) top.old below.old.items) }
+    ensures acts { IfOk result (λ r. (w : Execution) → SitsAt here.now w
+        → IsStep (program_in here.now) w (simple_action (program_in here.now) w (unit_of here.now.unit)
+        (point_in here.now) (frame_in here.now top.old) (below_in here.now below.old.items) (scope_in here.now top.old)
+        simple.now) (standing (program_in here.now) top.old below.old.items) r
+        (standing (program_in here.now) top.new below.new.items)) }
+    ensures err { OnErr result (standing (program_in here.now) top.new below.new.items
+        ≡ standing (program_in here.now) top.old below.old.items) }
 {
     match simple {
         Simple::Assignment(target, value) => assigns(alloc, here, top, target, value),
@@ -81,8 +86,13 @@ pub(crate) fn statement(
     stmt: &Stmt,
 ) -> Result<Step, NoMemory>
     requires { StandsIn here.now top.old }
-    ensures acts { IfOk result (λ r. (w : Execution) → SitsAt here.now w → IsStep (program_in here.now) w (statement_action (program_in here.now) w (unit_of here.now.unit) (point_in here.now) (frame_in here.now top.old) (below_in here.now below.old.items) (scope_in here.now top.old) stmt.now) (standing (program_in here.now) top.old below.old.items) r (standing (program_in here.now) top.new below.new.items)) }
-    ensures err { OnErr result (standing (program_in here.now) top.new below.new.items ≡ standing (program_in here.now) top.old below.old.items) }
+    ensures acts { IfOk result (λ r. (w : Execution) → SitsAt here.now w
+        → IsStep (program_in here.now) w (statement_action (program_in here.now) w (unit_of here.now.unit)
+        (point_in here.now) (frame_in here.now top.old) (below_in here.now below.old.items) (scope_in here.now top.old)
+        stmt.now) (standing (program_in here.now) top.old below.old.items) r
+        (standing (program_in here.now) top.new below.new.items)) }
+    ensures err { OnErr result (standing (program_in here.now) top.new below.new.items
+        ≡ standing (program_in here.now) top.old below.old.items) }
 {
     match stmt {
         Stmt::Simple(kind) => simple(alloc, here, top, below, kind),

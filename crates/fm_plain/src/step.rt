@@ -66,7 +66,9 @@ pub(crate) fn put_out_with(alloc: Global, replaced: Vec<Option<PortValue>>, gone
 
 /// A step that is made, and lets ports go if there are any.
 pub(crate) fn lets_go(here: &Here<'_>, ports: LetGo, cost: u32) -> Step
-    ensures { (w : Execution) (fs gs : List mean.Frame) (a : Action) → a ≡ Own (framed w gs) [] (let_go_ports (program_in here.now) ports) cost → IsStep (program_in here.now) w a fs result gs }
+    ensures { (w : Execution) (fs gs : List mean.Frame) (a : Action)
+        → a ≡ Own (framed w gs) [] (let_go_ports (program_in here.now) ports) cost
+        → IsStep (program_in here.now) w a fs result gs }
 {
     if ports.is_empty(here.unit.program()) {
         return Step::Made(cost);

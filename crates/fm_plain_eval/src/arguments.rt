@@ -50,7 +50,8 @@ fn word_alone(alloc: Global, word: i64) -> Result<Actual, NoMemory>
 }
 
 fn named_actual(alloc: Global, scope: &Scope<'_>, name: &Name) -> Result<Actual, NoMemory>
-    ensures { IfOk result (λ a. a ≡ named_actual (scope_of scope.now) name.now (variable_of (unit_of scope.now.unit) name.now)) }
+    ensures { IfOk result
+        (λ a. a ≡ named_actual (scope_of scope.now) name.now (variable_of (unit_of scope.now.unit) name.now)) }
 {
     match scope.unit.variable(name) {
         None => word_alone(alloc, scope.named(name).word()),
@@ -67,7 +68,8 @@ fn alone(
     tree: &Expr,
     next: usize,
 ) -> Result<(Actual, usize), Failure>
-    ensures { IsFrom (value_alone (value_of (scope_of scope.now) tree.now next)) (next + refs_in (scope_of scope.now) tree.now) result }
+    ensures { IsFrom (value_alone (value_of (scope_of scope.now) tree.now next))
+        (next + refs_in (scope_of scope.now) tree.now) result }
 {
     let (value, next) = value(alloc, scope, tree, next)?;
     Ok((word_alone(alloc, value.word())?, next))
@@ -83,7 +85,8 @@ fn applied_actual(
     next: usize,
 ) -> Result<(Actual, usize), Failure>
     requires { tree.now ≡ Ref name.now (trees_from arguments.now) }
-    ensures { IsFrom (actual_of (scope_of scope.now) (Ref name.now (trees_from arguments.now)) next) (next + refs_in (scope_of scope.now) (Ref name.now (trees_from arguments.now))) result }
+    ensures { IsFrom (actual_of (scope_of scope.now) (Ref name.now (trees_from arguments.now)) next)
+        (next + refs_in (scope_of scope.now) (Ref name.now (trees_from arguments.now))) result }
 {
     match referent(scope, name) {
         Reference::Element(place, variable) => {
@@ -103,7 +106,8 @@ fn actual(
     tree: &Expr,
     next: usize,
 ) -> Result<(Actual, usize), Failure>
-    ensures { IsFrom (actual_of (scope_of scope.now) tree.now next) (next + refs_in (scope_of scope.now) tree.now) result }
+    ensures { IsFrom (actual_of (scope_of scope.now) tree.now next) (next + refs_in (scope_of scope.now) tree.now)
+        result }
 {
     match &tree.node {
         ExprNode::Named(name) => Ok((named_actual(alloc, scope, name)?, next)),
@@ -119,16 +123,17 @@ fn actual(
     }
 }
 
-/// Arguments or items of a message, evaluated from left to right, before which `next` references of the entry stand, and how
-/// many stand before what comes behind them. A variable, an element or a whole array has a place, any other expression is
-/// passed as its value. The first fault; or want of memory.
+/// Arguments or items of a message, evaluated from left to right, before which `next` references of the entry stand,
+/// and how many stand before what comes behind them. A variable, an element or a whole array has a place, any other
+/// expression is passed as its value. The first fault; or want of memory.
 pub fn actuals(
     alloc: Global,
     scope: &Scope<'_>,
     trees: &[Expr],
     next: usize,
 ) -> Result<(Seq<Actual>, usize), Failure>
-    ensures { IsFrom (actuals_of (scope_of scope.now) (trees_from trees.now) next) (next + refs_in_all (scope_of scope.now) (trees_from trees.now)) result }
+    ensures { IsFrom (actuals_of (scope_of scope.now) (trees_from trees.now) next)
+        (next + refs_in_all (scope_of scope.now) (trees_from trees.now)) result }
 {
     let mut actuals = Seq::new(alloc);
     let mut next = next;

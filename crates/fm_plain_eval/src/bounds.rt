@@ -19,7 +19,8 @@ pub(crate) fn number(
     tree: &Expr,
     next: usize,
 ) -> Result<(i64, usize), Failure>
-    ensures { IsFrom (number_of (scope_of scope.now) tree.now next) (next + refs_in (scope_of scope.now) tree.now) result }
+    ensures { IsFrom (number_of (scope_of scope.now) tree.now next) (next + refs_in (scope_of scope.now) tree.now)
+        result }
 {
     let (value, next) = value(alloc, scope, tree, next)?;
     Ok((value.word(), next))

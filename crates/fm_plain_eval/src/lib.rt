@@ -1,5 +1,6 @@
-//! Expressions, places, arguments, printed lines, loop bounds and seats over a frame in memory: each exactly what the meaning
-//! (fm_mean specs/Evaluate, Actions and Placement) says of the frame that the memory is read as.
+//! Expressions, places, arguments, printed lines, loop bounds and seats over a frame in memory: each exactly what the
+//! meaning (specs/Evaluate and Actions of fm_mean, specs/Placement of fm_map) says of the frame that the memory is read
+//! as.
 #![tactic(auto)]
 
 mod arguments;

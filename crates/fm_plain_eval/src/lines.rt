@@ -53,7 +53,8 @@ fn push_named(
     name: &Name,
     line: &mut Seq<Printed>,
 ) -> Result<(), NoMemory>
-    ensures { OnOk result (line.new ≡ line.old ++ printed_named (scope_of scope.now) name.now (variable_of (unit_of scope.now.unit) name.now)) }
+    ensures { OnOk result (line.new
+        ≡ line.old ++ printed_named (scope_of scope.now) name.now (variable_of (unit_of scope.now.unit) name.now)) }
 {
     match scope.unit.variable(name) {
         None => line.push(printed_value(scope.named(name))),
@@ -72,7 +73,8 @@ fn push_tree(
     next: usize,
     line: &mut Seq<Printed>,
 ) -> Result<usize, Failure>
-    ensures { IsAdded (printed_tree (scope_of scope.now) tree.now next) (next + refs_in (scope_of scope.now) tree.now) line.old line.new result }
+    ensures { IsAdded (printed_tree (scope_of scope.now) tree.now next) (next + refs_in (scope_of scope.now) tree.now)
+        line.old line.new result }
 {
     if let ExprNode::Named(name) = &tree.node {
         push_named(alloc, scope, name, line)?;
@@ -90,7 +92,8 @@ fn push_item(
     next: usize,
     line: &mut Seq<Printed>,
 ) -> Result<usize, Failure>
-    ensures { IsAdded (item_printed (scope_of scope.now) item.now next) (next + refs_in_item (scope_of scope.now) item.now) line.old line.new result }
+    ensures { IsAdded (item_printed (scope_of scope.now) item.now next)
+        (next + refs_in_item (scope_of scope.now) item.now) line.old line.new result }
 {
     match item {
         Item::Expr(tree) => push_tree(alloc, scope, tree, next, line),
@@ -102,7 +105,8 @@ fn push_item(
     }
 }
 
-/// The bytes of the line that items print, without its line feed. The first fault from left to right; or want of memory.
+/// The bytes of the line that items print, without its line feed. The first fault from left to right; or want of
+/// memory.
 pub fn line(alloc: Global, scope: &Scope<'_>, items: &[Item]) -> Result<Seq<u8>, Failure>
     ensures { IsLine (printed_all (scope_of scope.now) items.now 0) result }
 {

@@ -32,7 +32,8 @@ fn function<'p>(scope: &Scope<'p>, name: &Name) -> Reference<'p>
 }
 
 fn no_array<'p>(scope: &Scope<'p>, name: &Name) -> Reference<'p>
-    ensures reference { reference_by result ≡ intrinsic_or (intrinsic_named name.now) (function_by (unit_named scope.now.unit.program.now name.now)) }
+    ensures reference { reference_by result
+        ≡ intrinsic_or (intrinsic_named name.now) (function_by (unit_named scope.now.unit.program.now name.now)) }
     ensures placed { IsPlaced (unit_of scope.now.unit) result }
 {
     match Intrinsic::from_name(name.as_bytes()) {

@@ -40,8 +40,9 @@ fn seat_at(
     }
 }
 
-/// Where a child is put whose unit has these extents: its machine and its node. It is called from a process on a machine and a
-/// node, and `next` references of the entry stand before the place that is written. The first fault; or want of memory.
+/// Where a child is put whose unit has these extents: its machine and its node. It is called from a process on a
+/// machine and a node, and `next` references of the entry stand before the place that is written. The first fault; or
+/// want of memory.
 pub fn seat(
     alloc: Global,
     scope: &Scope<'_>,
@@ -51,7 +52,8 @@ pub fn seat(
     place: Option<&Where>,
     next: usize,
 ) -> Result<(Machine, u32), Failure>
-    ensures { IsDone (seated (scope_of scope.now) machine (machine, node) extents.now (option_copied place.entry) next) result }
+    ensures { IsDone (seated (scope_of scope.now) machine (machine, node) extents.now (option_copied place.entry) next)
+        result }
 {
     let (machine, node) = seat_at(alloc, scope, machine, node, place, next)?;
     Ok(fitted(extents, machine, node)?)

@@ -14,15 +14,16 @@ use fm_mean::Span;
 use fm_tree::Var;
 use std::alloc::Global;
 
-/// The place of a variable, an element or a whole array before which `next` references of the entry stand, and how many stand
-/// before what comes behind it. The first fault; or want of memory.
+/// The place of a variable, an element or a whole array before which `next` references of the entry stand, and how many
+/// stand before what comes behind it. The first fault; or want of memory.
 pub fn place(
     alloc: Global,
     scope: &Scope<'_>,
     variable: &Var,
     next: usize,
 ) -> Result<(Span, usize), Failure>
-    ensures { IsFrom (place_of (scope_of scope.now) variable.now next) (next + refs_in_var (scope_of scope.now) variable.now) result }
+    ensures { IsFrom (place_of (scope_of scope.now) variable.now next)
+        (next + refs_in_var (scope_of scope.now) variable.now) result }
 {
     let subscripts = variable.subscripts.as_slice();
     match scope.unit.variable(&variable.name) {
@@ -44,7 +45,8 @@ pub fn places(
     variables: &[Var],
     next: usize,
 ) -> Result<(Seq<Span>, usize), Failure>
-    ensures { IsFrom (places_of (scope_of scope.now) variables.now next) (next + refs_in_vars (scope_of scope.now) variables.now) result }
+    ensures { IsFrom (places_of (scope_of scope.now) variables.now next)
+        (next + refs_in_vars (scope_of scope.now) variables.now) result }
 {
     let mut places = Seq::new(alloc);
     let mut next = next;

@@ -19,8 +19,8 @@ use fm_tree::{Expr, ExprNode};
 use fm_values::{Value, apply, with_sign};
 use std::alloc::Global;
 
-/// The value of an expression before which `next` references of the entry stand, and how many stand before what comes behind
-/// it. Its first fault from left to right; or want of memory.
+/// The value of an expression before which `next` references of the entry stand, and how many stand before what comes
+/// behind it. Its first fault from left to right; or want of memory.
 #[cycle(evaluating)]
 pub fn value(
     alloc: Global,
@@ -28,7 +28,8 @@ pub fn value(
     tree: &Expr,
     next: usize,
 ) -> Result<(Value, usize), Failure>
-    ensures { IsFrom (value_of (scope_of scope.now) tree.now next) (next + refs_in (scope_of scope.now) tree.now) result }
+    ensures { IsFrom (value_of (scope_of scope.now) tree.now next) (next + refs_in (scope_of scope.now) tree.now)
+        result }
 {
     match &tree.node {
         ExprNode::Number(number) => Ok((Value::Number(*number), next)),
@@ -60,7 +61,8 @@ fn reference_value(
     arguments: &[Expr],
     next: usize,
 ) -> Result<(Value, usize), Failure>
-    ensures { IsFrom (value_of (scope_of scope.now) (Ref name.now (trees_from arguments.now)) next) (next + refs_in (scope_of scope.now) (Ref name.now (trees_from arguments.now))) result }
+    ensures { IsFrom (value_of (scope_of scope.now) (Ref name.now (trees_from arguments.now)) next)
+        (next + refs_in (scope_of scope.now) (Ref name.now (trees_from arguments.now))) result }
 {
     match referent(scope, name) {
         Reference::Element(place, variable) => {
@@ -83,8 +85,8 @@ fn reference_value(
     }
 }
 
-/// The place of an element among those of the variable at this place, and how many references stand before what comes behind
-/// its subscripts. All subscripts are evaluated before one is tested.
+/// The place of an element among those of the variable at this place, and how many references stand before what comes
+/// behind its subscripts. All subscripts are evaluated before one is tested.
 #[cycle(evaluating)]
 pub(crate) fn element(
     alloc: Global,
@@ -95,7 +97,8 @@ pub(crate) fn element(
     next: usize,
 ) -> Result<(usize, usize), Failure>
     requires { slice_get (unit_of scope.now.unit).names.variables place ≡ Some variable.now }
-    ensures { IsFrom (element_of (scope_of scope.now) variable.now (trees_from subscripts.now) next) (next + refs_in_all (scope_of scope.now) (trees_from subscripts.now)) result }
+    ensures { IsFrom (element_of (scope_of scope.now) variable.now (trees_from subscripts.now) next)
+        (next + refs_in_all (scope_of scope.now) (trees_from subscripts.now)) result }
 {
     let (numbers, next) = numbers(alloc, scope, subscripts, next)?;
     let element = scope.element_place(place, variable, numbers.as_slice())?;
@@ -110,7 +113,8 @@ pub fn numbers(
     trees: &[Expr],
     next: usize,
 ) -> Result<(Seq<i64>, usize), Failure>
-    ensures { IsFrom (numbers_of (scope_of scope.now) (trees_from trees.now) next) (next + refs_in_all (scope_of scope.now) (trees_from trees.now)) result }
+    ensures { IsFrom (numbers_of (scope_of scope.now) (trees_from trees.now) next)
+        (next + refs_in_all (scope_of scope.now) (trees_from trees.now)) result }
 {
     let mut numbers = Seq::new(alloc);
     let mut next = next;

@@ -100,7 +100,8 @@ fn copy_top(
 impl PlainProc {
     /// A process that stands where this one does, which runs, and has put out nothing.
     pub fn twin(&self, alloc: Global, program: &Program) -> Result<PlainProc, NoMemory>
-        ensures { IfOk result (λ x. proc_of program.now x ≡ record (proc_of program.now self.now) { phase = mean.Running; lines = [] }) }
+        ensures { IfOk result
+            (λ x. proc_of program.now x ≡ record (proc_of program.now self.now) { phase = mean.Running; lines = [] }) }
     {
         Ok(PlainProc {
             phase: Phase::Running,

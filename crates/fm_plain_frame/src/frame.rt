@@ -61,7 +61,8 @@ pub struct Frame {
 impl Frame {
     /// A frame at its first entry. Takes no memory.
     pub fn new(alloc: Global, unit: u32, memory: Vec<Word>, backs: Seq<Back>) -> Frame
-        ensures { (p : Program) → frame_of p result ≡ new_frame unit (values_of (variables_of p unit) memory.items) backs }
+        ensures { (p : Program)
+            → frame_of p result ≡ new_frame unit (values_of (variables_of p unit) memory.items) backs }
     {
         Frame {
             unit,
@@ -83,7 +84,9 @@ impl Frame {
 
     /// Gives the loop that this entry opens these trips. After want of memory the frame is as it was.
     pub fn set_trips(&mut self, opener: u32, trips: Trips) -> Result<(), NoMemory>
-        ensures ok { OnOk result ((p : Program) → frame_of p self.new ≡ record (frame_of p self.old) { loops = insert (loops_of self.old.loops) opener (trips_of trips) }) }
+        ensures ok { OnOk result ((p : Program)
+            → frame_of p self.new
+            ≡ record (frame_of p self.old) { loops = insert (loops_of self.old.loops) opener (trips_of trips) }) }
         ensures err { OnErr result ((p : Program) → frame_of p self.new ≡ frame_of p self.old) }
     {
         self.loops.insert(opener, trips)?;

@@ -35,9 +35,9 @@ pub struct Row {
     next: usize,
 }
 
-/// Ports on their way out: those that were put out of their places; what is left of the memory at hand, and of the starts
-/// of its frame; the frames that come later; and what was taken out of a frame that stays. It takes no memory, and all calls
-/// of `next` together look at each word once.
+/// Ports on their way out: those that were put out of their places; what is left of the memory at hand, and of the
+/// starts of its frame; the frames that come later; and what was taken out of a frame that stays. It takes no memory,
+/// and all calls of `next` together look at each word once.
 #[derive(Drop)]
 pub struct Leaving {
     replaced: VecDeque<Option<PortValue>>,
@@ -67,8 +67,11 @@ fn pop<T: Drop>(items: &mut VecDeque<T>) -> Option<T>
 
 // The innermost frame that is left.
 fn next_frame(top: &mut Option<Frame>, below: &mut Vec<Frame>) -> Option<Frame>
-    ensures frames { (p : declared.Program) → Pops (frames_of p top.old below.old.items) (option_map (frame_of p) result) (frames_of p top.new below.new.items) }
-    ensures count { IfSome result (λ f. frames_count top.old below.old.items ≡ frame_count f + frames_count top.new below.new.items) }
+    ensures frames { (p : declared.Program)
+        → Pops (frames_of p top.old below.old.items) (option_map (frame_of p) result)
+        (frames_of p top.new below.new.items) }
+    ensures count { IfSome result
+        (λ f. frames_count top.old below.old.items ≡ frame_count f + frames_count top.new below.new.items) }
 {
     match top.take() {
         Some(frame) => Some(frame),

@@ -13,9 +13,9 @@ use fm_base::PortValue;
 use fm_rules::Program;
 use std::alloc::Global;
 
-/// Ports that a step lets go, in order: those that were put out of their places, those of a frame that is gone and of those
-/// round it, and those of a frame that stays. They stay where they are, so that letting go takes no memory. `Leaving` hands
-/// them out.
+/// Ports that a step lets go, in order: those that were put out of their places, those of a frame that is gone and of
+/// those round it, and those of a frame that stays. They stay where they are, so that letting go takes no memory.
+/// `Leaving` hands them out.
 #[derive(Drop)]
 pub struct LetGo {
     /// Put out by others.

@@ -1,6 +1,7 @@
 //! Processes in memory: frames with one vector of words each, by the layout of their units.
 //!
-//! Contracts see memory as the meaning's values (`specs/Memory`), and frames and processes as the meaning's (`specs/Frames`).
+//! Contracts see memory as the meaning's values (`specs/Memory`), and frames and processes as the meaning's
+//! (`specs/Frames`).
 #![tactic(auto)]
 
 mod copying;

@@ -16,7 +16,8 @@ use std::alloc::Global;
 use std::mem;
 
 fn push_unset(memory: &mut Vec<Word>, variable: &Variable) -> Result<(), NoMemory>
-    ensures { OnOk result (memory.new.items ≡ memory.old.items ++ replicate variable.now.words (unset_word variable.now.kind)) }
+    ensures { OnOk result
+        (memory.new.items ≡ memory.old.items ++ replicate variable.now.words (unset_word variable.now.kind)) }
 {
     'elements: for element in 0..variable.words {
         memory.push(Word::unset(&variable.kind))?;
@@ -47,7 +48,8 @@ fn word_place(variable: &Variable, element: usize) -> Option<usize>
     }
 }
 
-/// Puts a word at an element of a variable; what was there comes out. Where there is no such place, that word comes out.
+/// Puts a word at an element of a variable; what was there comes out. Where there is no such place, that word comes
+/// out.
 fn replace_word(memory: &mut [Word], variable: &Variable, element: usize, word: Word) -> Word
     ensures memory { memory.new ≡ put_in memory.old (word_place variable.now element) word }
     ensures word { result ≡ out_of memory.old (word_place variable.now element) word }
@@ -102,7 +104,8 @@ pub fn exchange(
     port: Option<PortValue>,
 ) -> Option<PortValue>
     requires { AreLaidOut 0 variables.now }
-    ensures memory { values_of variables.now memory.new ≡ (exchange (values_of variables.now memory.old) variable element port).0 }
+    ensures memory { values_of variables.now memory.new
+        ≡ (exchange (values_of variables.now memory.old) variable element port).0 }
     ensures port { result ≡ (exchange (values_of variables.now memory.old) variable element port).1 }
 {
     match item_at(variables, variable as usize) {

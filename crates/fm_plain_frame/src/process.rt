@@ -100,7 +100,13 @@ pub fn nodes_of(extents: &[u32]) -> Result<u32, NoMemory>
 impl PlainProc {
     // A process with one frame at most, on the first of so many nodes.
     fn alone(alloc: Global, top: Option<Frame>, count: u32) -> PlainProc
-        ensures { (p : declared.Program) → proc_of p result ≡ mean.proc_of (record { frames = option_to_list (option_map (frame_of p) top); machine = record { first = 0; count = count }; node = 0 }) }
+        ensures { (p : declared.Program)
+            → proc_of p result
+            ≡ mean.proc_of (record {
+              frames = option_to_list (option_map (frame_of p) top);
+              machine = record { first = 0; count = count };
+              node = 0;
+            }) }
     {
         PlainProc {
             phase: Phase::Running,

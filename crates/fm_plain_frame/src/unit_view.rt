@@ -38,8 +38,8 @@ fn links_at(program: &Program, number: u32) -> Option<&[EntryLinks]>
     Some(item_at(program.links().as_slice(), number as usize)?.as_slice())
 }
 
-/// A unit of a program, with its names, what they mean, and where its entries lead to. Contracts see it as the meaning's unit
-/// (`unit_of`).
+/// A unit of a program, with its names, what they mean, and where its entries lead to. Contracts see it as the
+/// meaning's unit (`unit_of`).
 #[derive(Clone, Copy)]
 pub struct UnitView<'p> {
     program: &'p Program,

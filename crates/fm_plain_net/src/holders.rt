@@ -31,7 +31,8 @@ fn put_port(
     path: &Path,
     port: &PortValue,
 ) -> Result<(), NoMemory>
-    ensures { OnOk result (map_of outport_cmp all.new ≡ with_held (map_of outport_cmp all.old) path.now (port.now ∷ [])) }
+    ensures { OnOk result
+        (map_of outport_cmp all.new ≡ with_held (map_of outport_cmp all.old) path.now (port.now ∷ [])) }
 {
     match port {
         PortValue::Writer(channel, number) => {
@@ -49,7 +50,8 @@ fn put_word(
     path: &Path,
     word: &Word,
 ) -> Result<(), NoMemory>
-    ensures { OnOk result (map_of outport_cmp all.new ≡ with_held (map_of outport_cmp all.old) path.now (live (port_in word.now ∷ []))) }
+    ensures { OnOk result
+        (map_of outport_cmp all.new ≡ with_held (map_of outport_cmp all.old) path.now (live (port_in word.now ∷ []))) }
 {
     match word {
         Word::Number(_) => Ok(()),
@@ -64,7 +66,8 @@ fn put_words(
     path: &Path,
     words: &[Word],
 ) -> Result<(), NoMemory>
-    ensures { OnOk result (map_of outport_cmp all.new ≡ with_held (map_of outport_cmp all.old) path.now (live (map port_in words.now))) }
+    ensures { OnOk result
+        (map_of outport_cmp all.new ≡ with_held (map_of outport_cmp all.old) path.now (live (map port_in words.now))) }
 {
     'words: for word in words {
         put_word(alloc, all, path, word)?;
@@ -79,7 +82,8 @@ fn put_variable(
     memory: &[Word],
     variable: &Variable,
 ) -> Result<(), NoMemory>
-    ensures { OnOk result (map_of outport_cmp all.new ≡ with_held (map_of outport_cmp all.old) path.now (item_ports (item_in memory.now variable.now))) }
+    ensures { OnOk result (map_of outport_cmp all.new
+        ≡ with_held (map_of outport_cmp all.old) path.now (item_ports (item_in memory.now variable.now))) }
 {
     let words = part(memory, variable.first as usize, variable.words as usize);
     match &variable.kind {
@@ -97,7 +101,8 @@ fn put_memory(
     memory: &[Word],
     variables: &[Variable],
 ) -> Result<(), NoMemory>
-    ensures { OnOk result (map_of outport_cmp all.new ≡ with_held (map_of outport_cmp all.old) path.now (message_ports (values_of variables.now memory.now))) }
+    ensures { OnOk result (map_of outport_cmp all.new
+        ≡ with_held (map_of outport_cmp all.old) path.now (message_ports (values_of variables.now memory.now))) }
 {
     'variables: for variable in variables {
         put_variable(alloc, all, path, memory, variable)?;
@@ -112,7 +117,8 @@ fn put_start(
     path: &Path,
     start: &Start,
 ) -> Result<(), NoMemory>
-    ensures { OnOk result (map_of outport_cmp all.new ≡ with_held (map_of outport_cmp all.old) path.now (message_ports (start_of program.now start.now).values)) }
+    ensures { OnOk result (map_of outport_cmp all.new
+        ≡ with_held (map_of outport_cmp all.old) path.now (message_ports (start_of program.now start.now).values)) }
 {
     let variables = variables_of(program, start.unit);
     put_memory(alloc, all, path, start.memory.as_slice(), variables)
@@ -125,7 +131,8 @@ fn put_starts(
     path: &Path,
     starts: &[Start],
 ) -> Result<(), NoMemory>
-    ensures { OnOk result (map_of outport_cmp all.new ≡ with_held (map_of outport_cmp all.old) path.now (started_ports (map (start_of program.now) starts.now))) }
+    ensures { OnOk result (map_of outport_cmp all.new
+        ≡ with_held (map_of outport_cmp all.old) path.now (started_ports (map (start_of program.now) starts.now))) }
 {
     'starts: for start in starts {
         put_start(alloc, program, all, path, start)?;
@@ -140,7 +147,8 @@ fn put_frame(
     path: &Path,
     frame: &Frame,
 ) -> Result<(), NoMemory>
-    ensures { OnOk result (map_of outport_cmp all.new ≡ with_held (map_of outport_cmp all.old) path.now (frame_ports (frame_of program.now frame.now))) }
+    ensures { OnOk result (map_of outport_cmp all.new
+        ≡ with_held (map_of outport_cmp all.old) path.now (frame_ports (frame_of program.now frame.now))) }
 {
     let variables = variables_of(program, frame.unit);
     put_memory(alloc, all, path, frame.memory.as_slice(), variables)?;
@@ -155,7 +163,9 @@ fn put_frames(
     path: &Path,
     frames: &[Frame],
 ) -> Result<(), NoMemory>
-    ensures { OnOk result (map_of outport_cmp all.new ≡ with_held (map_of outport_cmp all.old) path.now (frames_ports (reverse (map (frame_of program.now) frames.now)))) }
+    ensures { OnOk result (map_of outport_cmp all.new
+        ≡ with_held (map_of outport_cmp all.old) path.now
+        (frames_ports (reverse (map (frame_of program.now) frames.now)))) }
 {
     'frames: for k in (0..frames.len()).rev() {
         put_frame(alloc, program, all, path, &frames[k])?;
@@ -170,7 +180,9 @@ fn put_top(
     path: &Path,
     top: &Option<Frame>,
 ) -> Result<(), NoMemory>
-    ensures { OnOk result (map_of outport_cmp all.new ≡ with_held (map_of outport_cmp all.old) path.now (frames_ports (option_to_list (option_map (frame_of program.now) top.now)))) }
+    ensures { OnOk result (map_of outport_cmp all.new
+        ≡ with_held (map_of outport_cmp all.old) path.now
+        (frames_ports (option_to_list (option_map (frame_of program.now) top.now)))) }
 {
     match top {
         Some(frame) => put_frame(alloc, program, all, path, frame),
@@ -185,7 +197,8 @@ fn put_held(
     path: &Path,
     process: &PlainProc,
 ) -> Result<(), NoMemory>
-    ensures { OnOk result (map_of outport_cmp all.new ≡ with_held (map_of outport_cmp all.old) path.now (held (proc_of program.now process.now))) }
+    ensures { OnOk result (map_of outport_cmp all.new
+        ≡ with_held (map_of outport_cmp all.old) path.now (held (proc_of program.now process.now))) }
 {
     put_top(alloc, program, all, path, &process.top)?;
     put_frames(alloc, program, all, path, process.below.as_slice())
@@ -210,7 +223,8 @@ pub fn put_process(
     path: &Path,
     process: &PlainProc,
 ) -> Result<(), NoMemory>
-    ensures { OnOk result (map_of outport_cmp all.new ≡ with_holders (map_of outport_cmp all.old) (holdings_at (path.now, proc_of program.now process.now))) }
+    ensures { OnOk result (map_of outport_cmp all.new
+        ≡ with_holders (map_of outport_cmp all.old) (holdings_at (path.now, proc_of program.now process.now))) }
 {
     let holder = holder_path(alloc, path, process)?;
     put_held(alloc, program, all, &holder, process)

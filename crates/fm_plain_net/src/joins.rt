@@ -53,12 +53,18 @@ fn join_one(
     next: u32,
 ) -> Result<u64, NoMemory>
     requires actor { IsActor entries.old actor.now }
-    requires can { (x : Proc) → get (procs_of program.now entries.old) (actor_place actor.now) ≡ Some x → CanJoin program.now x next left.items ports.old }
-    ensures next { OnOk result (AreLookedAtBut program.now (actor_place actor.now) entries.old → AreLookedAtBut program.now (actor_place actor.now) entries.new) }
-    ensures families { OnOk result (AreFamiliesBut program.now (actor_place actor.now) entries.old → AreFamiliesBut program.now (actor_place actor.now) entries.new) }
+    requires can { (x : Proc) → get (procs_of program.now entries.old) (actor_place actor.now) ≡ Some x
+        → CanJoin program.now x next left.items ports.old }
+    ensures next { OnOk result (AreLookedAtBut program.now (actor_place actor.now) entries.old
+        → AreLookedAtBut program.now (actor_place actor.now) entries.new) }
+    ensures families { OnOk result (AreFamiliesBut program.now (actor_place actor.now) entries.old
+        → AreFamiliesBut program.now (actor_place actor.now) entries.new) }
     ensures order { OnOk result (order_of entries.new ≡ order_of entries.old) }
-    ensures joins { IfOk result (λ cost. (x : Proc) (kids : List Proc) → get (procs_of program.now entries.old) (actor_place actor.now) ≡ Some x → map frames_in kids ≡ map (left_frames program.now) left.items →
-        JoinsAt (actor_place actor.now) x next kids ports.old (chans_of channels.old) (procs_of program.now entries.old) (procs_of program.now entries.new) (chans_of channels.new) ports.new cost) }
+    ensures joins { IfOk result (λ cost. (x : Proc) (kids : List Proc)
+        → get (procs_of program.now entries.old) (actor_place actor.now) ≡ Some x
+        → map frames_in kids ≡ map (left_frames program.now) left.items
+        → JoinsAt (actor_place actor.now) x next kids ports.old (chans_of channels.old)
+        (procs_of program.now entries.old) (procs_of program.now entries.new) (chans_of channels.new) ports.new cost) }
     ensures waking { OnOk result (WakesAll channels.old channels.new) }
 {
     match entries.rows.get_mut(actor.number) {
@@ -86,18 +92,27 @@ pub(crate) fn join_block(
     block: u32,
     next: u32,
 ) -> Result<u64, NoMemory>
-    requires fits { Fits program.now ports.old (record { procs = procs_of program.now entries.old; chans = chans_of channels.old }) }
+    requires fits { Fits program.now ports.old
+        (record { procs = procs_of program.now entries.old; chans = chans_of channels.old }) }
     requires families { AreFamilies program.now entries.old }
     requires actor { IsActor entries.old actor.now }
-    requires can { is_some (step program.now (record { procs = procs_of program.now entries.old; chans = chans_of channels.old }) (actor_place actor.now)) ≡ true }
-    requires event { (x : Proc) → get (procs_of program.now entries.old) (actor_place actor.now) ≡ Some x → action_of program.now x ≡ action.Meets (action.Join block (kids_in x.phase) next) }
-    ensures step { IfOk result (λ cost. step program.now (record { procs = procs_of program.now entries.old; chans = chans_of channels.old }) (actor_place actor.now)
+    requires can { is_some (step program.now
+        (record { procs = procs_of program.now entries.old; chans = chans_of channels.old }) (actor_place actor.now))
+        ≡ true }
+    requires event { (x : Proc) → get (procs_of program.now entries.old) (actor_place actor.now) ≡ Some x
+        → action_of program.now x ≡ action.Meets (action.Join block (kids_in x.phase) next) }
+    ensures step { IfOk result (λ cost. step program.now
+        (record { procs = procs_of program.now entries.old; chans = chans_of channels.old }) (actor_place actor.now)
         ≡ Some (record { procs = procs_of program.now entries.new; chans = chans_of channels.new }, cost)) }
-    ensures starts { OnOk result (starts_at (language program.now) (record { procs = procs_of program.now entries.old; chans = chans_of channels.old }) (actor_place actor.now) ≡ []) }
+    ensures starts { OnOk result (starts_at (language program.now)
+        (record { procs = procs_of program.now entries.old; chans = chans_of channels.old }) (actor_place actor.now)
+        ≡ []) }
     ensures order { OnOk result (order_of entries.new ≡ order_of entries.old) }
-    ensures next { OnOk result (AreLookedAtBut program.now (actor_place actor.now) entries.old → AreLookedAtBut program.now (actor_place actor.now) entries.new) }
+    ensures next { OnOk result (AreLookedAtBut program.now (actor_place actor.now) entries.old
+        → AreLookedAtBut program.now (actor_place actor.now) entries.new) }
     ensures families { OnOk result (AreFamilies program.now entries.new) }
-    ensures fits { OnOk result (Fits program.now ports.new (record { procs = procs_of program.now entries.new; chans = chans_of channels.new })) }
+    ensures fits { OnOk result (Fits program.now ports.new
+        (record { procs = procs_of program.now entries.new; chans = chans_of channels.new })) }
     ensures waking { OnOk result (WakesAll channels.old channels.new) }
 {
     let _block = block;

@@ -38,7 +38,8 @@ pub fn push_fault(
     path: &Path,
     process: &PlainProc,
 ) -> Result<(), NoMemory>
-    ensures { OnOk result ((p : declared.Program) → all.new.items ≡ all.old.items ++ fault_at (path.now, proc_of p process.now)) }
+    ensures { OnOk result
+        ((p : declared.Program) → all.new.items ≡ all.old.items ++ fault_at (path.now, proc_of p process.now)) }
 {
     match process.phase {
         Phase::Faulted(line, fault) => {
@@ -54,7 +55,9 @@ pub fn push_fault(
 
 // The first of children that hasn't ended.
 fn awaited(alloc: Global, processes: &Processes, family: Family) -> Result<Option<Path>, NoMemory>
-    ensures { IfOk result (λ o. (p : declared.Program) (q : Place) (b : ℕ) → AreChildren (order_of processes.now) family.first q b family.count → o ≡ awaited (procs_of p processes.now) q b 1 family.count) }
+    ensures { IfOk result (λ o. (p : declared.Program) (q : Place) (b : ℕ)
+        → AreChildren (order_of processes.now) family.first q b family.count
+        → o ≡ awaited (procs_of p processes.now) q b 1 family.count) }
 {
     'children: for place in 0..family.count {
         let number = number_behind(family.first, place)?;
@@ -72,8 +75,10 @@ fn waits_at(
     slot: &Slot,
     event: &Event,
 ) -> Result<Option<At>, NoMemory>
-    ensures { IfOk result (λ o. (p : declared.Program) (q : Place) → HasFamily (order_of processes.now) q (proc_in p slot.now).phase slot.now.first_child →
-        action_of p (proc_in p slot.now) ≡ action.Meets (event_by (proc_in p slot.now).phase event.now) → o ≡ waits_by (procs_of p processes.now) q (need_of p (proc_in p slot.now))) }
+    ensures { IfOk result (λ o. (p : declared.Program) (q : Place)
+        → HasFamily (order_of processes.now) q (proc_in p slot.now).phase slot.now.first_child
+        → action_of p (proc_in p slot.now) ≡ action.Meets (event_by (proc_in p slot.now).phase event.now)
+        → o ≡ waits_by (procs_of p processes.now) q (need_of p (proc_in p slot.now))) }
 {
     match event {
         Event::Receive { channel, .. } => {
@@ -95,8 +100,10 @@ fn waits_at(
 
 // What a process waits for, where it waits.
 fn waits(alloc: Global, processes: &Processes, slot: &Slot) -> Result<Option<At>, NoMemory>
-    ensures { IfOk result (λ o. (p : declared.Program) (q : Place) → HasFamily (order_of processes.now) q (proc_in p slot.now).phase slot.now.first_child →
-        IsNext p (proc_in p slot.now) slot.now.next → o ≡ waits_by (procs_of p processes.now) q (need_of p (proc_in p slot.now))) }
+    ensures { IfOk result (λ o. (p : declared.Program) (q : Place)
+        → HasFamily (order_of processes.now) q (proc_in p slot.now).phase slot.now.first_child
+        → IsNext p (proc_in p slot.now) slot.now.next
+        → o ≡ waits_by (procs_of p processes.now) q (need_of p (proc_in p slot.now))) }
 {
     match &slot.next {
         Next::Meets(event) => waits_at(alloc, processes, slot, event),
@@ -114,8 +121,11 @@ fn push_wait(
     slot: &Slot,
 ) -> Result<(), NoMemory>
     requires next { IsNext program.now (proc_in program.now slot.now) slot.now.next }
-    requires family { HasFamily (order_of processes.now) path.now (proc_in program.now slot.now).phase slot.now.first_child }
-    ensures { OnOk result (all.new.items ≡ all.old.items ++ wait_at program.now (procs_of program.now processes.now) (path.now, proc_in program.now slot.now)) }
+    requires family { HasFamily (order_of processes.now) path.now (proc_in program.now slot.now).phase
+        slot.now.first_child }
+    ensures { OnOk result (all.new.items
+        ≡ all.old.items
+        ++ wait_at program.now (procs_of program.now processes.now) (path.now, proc_in program.now slot.now)) }
 {
     match waits(alloc, processes, slot)? {
         Some(at) => {
@@ -169,10 +179,15 @@ fn add_process(
     slot: &Slot,
 ) -> Result<(), NoMemory>
     requires next { IsNext program.now (proc_in program.now slot.now) slot.now.next }
-    requires family { HasFamily (order_of processes.now) path.now (proc_in program.now slot.now).phase slot.now.first_child }
-    ensures lines { OnOk result (all.new.lines.items ≡ all.old.lines.items ++ lines_at (path.now, proc_in program.now slot.now)) }
-    ensures faults { OnOk result (all.new.faults.items ≡ all.old.faults.items ++ fault_at (path.now, proc_in program.now slot.now)) }
-    ensures waits { OnOk result (all.new.waits.items ≡ all.old.waits.items ++ wait_at program.now (procs_of program.now processes.now) (path.now, proc_in program.now slot.now)) }
+    requires family { HasFamily (order_of processes.now) path.now (proc_in program.now slot.now).phase
+        slot.now.first_child }
+    ensures lines { OnOk result
+        (all.new.lines.items ≡ all.old.lines.items ++ lines_at (path.now, proc_in program.now slot.now)) }
+    ensures faults { OnOk result
+        (all.new.faults.items ≡ all.old.faults.items ++ fault_at (path.now, proc_in program.now slot.now)) }
+    ensures waits { OnOk result (all.new.waits.items
+        ≡ all.old.waits.items
+        ++ wait_at program.now (procs_of program.now processes.now) (path.now, proc_in program.now slot.now)) }
 {
     push_lines(alloc, &mut all.lines, path, slot.process.plain.lines())?;
     push_fault(alloc, &mut all.faults, path, &slot.process.plain)?;
@@ -182,9 +197,13 @@ fn add_process(
 fn gathered(alloc: Global, program: &Program, processes: &Processes) -> Result<Gathered, NoMemory>
     requires next { AreLookedAt program.now processes.now }
     requires families { AreFamilies program.now processes.now }
-    ensures lines { IfOk result (λ all. all.lines.items ≡ flat_map lines_at (entries (procs_of program.now processes.now))) }
-    ensures faults { IfOk result (λ all. all.faults.items ≡ flat_map fault_at (entries (procs_of program.now processes.now))) }
-    ensures waits { IfOk result (λ all. all.waits.items ≡ flat_map (wait_at program.now (procs_of program.now processes.now)) (entries (procs_of program.now processes.now))) }
+    ensures lines { IfOk result
+        (λ all. all.lines.items ≡ flat_map lines_at (entries (procs_of program.now processes.now))) }
+    ensures faults { IfOk result
+        (λ all. all.faults.items ≡ flat_map fault_at (entries (procs_of program.now processes.now))) }
+    ensures waits { IfOk result (λ all. all.waits.items
+        ≡ flat_map (wait_at program.now (procs_of program.now processes.now))
+        (entries (procs_of program.now processes.now))) }
 {
     let mut all = Gathered::new(alloc);
     let rows = processes.rows.in_path_order(alloc)?;
@@ -196,7 +215,8 @@ fn gathered(alloc: Global, program: &Program, processes: &Processes) -> Result<G
 
 // The process of a number, as it goes along its statements.
 fn plain_of(processes: &Processes, number: u32) -> Option<&PlainProc>
-    ensures { (p : declared.Program) (q : Place) → place_at processes.now.rows number ≡ Some q → option_map (proc_of p) (option_copied result) ≡ get (procs_of p processes.now) q }
+    ensures { (p : declared.Program) (q : Place) → place_at processes.now.rows number ≡ Some q
+        → option_map (proc_of p) (option_copied result) ≡ get (procs_of p processes.now) q }
 {
     match processes.process(number) {
         Some(process) => Some(&process.plain),

@@ -93,7 +93,8 @@ fn discard_both(
 )
     requires kept { AreKept ports.old (let_go_ports program.now first ++ let_go_ports program.now second) }
     requires once { AreOnce (let_go_ports program.now first ++ let_go_ports program.now second) }
-    ensures channels { chans_of channels.new ≡ all_shed (let_go_ports program.now first ++ let_go_ports program.now second) (chans_of channels.old) }
+    ensures channels { chans_of channels.new
+        ≡ all_shed (let_go_ports program.now first ++ let_go_ports program.now second) (chans_of channels.old) }
     ensures others { StayBut (let_go_ports program.now first ++ let_go_ports program.now second) ports.old ports.new }
     ensures waking { WakesAll channels.old channels.new }
 {
@@ -110,7 +111,8 @@ fn discard_each(
 )
     requires kept { AreKept ports.old (flat_map (let_go_ports program.now) let_go.items) }
     requires once { AreOnce (flat_map (let_go_ports program.now) let_go.items) }
-    ensures channels { chans_of channels.new ≡ all_shed (flat_map (let_go_ports program.now) let_go.items) (chans_of channels.old) }
+    ensures channels { chans_of channels.new
+        ≡ all_shed (flat_map (let_go_ports program.now) let_go.items) (chans_of channels.old) }
     ensures others { StayBut (flat_map (let_go_ports program.now) let_go.items) ports.old ports.new }
     ensures waking { WakesAll channels.old channels.new }
 {
@@ -195,9 +197,13 @@ fn make(
     cost: u64,
     next: u32,
 ) -> Result<Done<PlainProc>, NoMemory>
-    requires event { action_of program.now (proc_of program.now process.old) ≡ action.Meets (action.Make places.now writers cost next) }
-    requires can { CanPerform program.now path.now (proc_of program.now process.old) (chans_of channels.old) [] ports.old }
-    ensures performs { IfOk result (λ done. Performs program.now path.now (proc_of program.now process.old) (chans_of channels.old) [] ports.old (proc_of program.now process.new) (map (proc_of program.now) done.children.items) (chans_of channels.new) ports.new done.cost) }
+    requires event { action_of program.now (proc_of program.now process.old)
+        ≡ action.Meets (action.Make places.now writers cost next) }
+    requires can { CanPerform program.now path.now (proc_of program.now process.old) (chans_of channels.old) []
+        ports.old }
+    ensures performs { IfOk result (λ done. Performs program.now path.now (proc_of program.now process.old)
+        (chans_of channels.old) [] ports.old (proc_of program.now process.new)
+        (map (proc_of program.now) done.children.items) (chans_of channels.new) ports.new done.cost) }
     ensures waking { OnOk result (WakesAll channels.old channels.new) }
 {
     let name = next_name(alloc, path, process)?;
@@ -227,9 +233,13 @@ fn send(
     items: Seq<Actual>,
     next: u32,
 ) -> Result<Done<PlainProc>, NoMemory>
-    requires event { action_of program.now (proc_of program.now process.old) ≡ action.Meets (action.Send channel writer items next) }
-    requires can { CanPerform program.now path.now (proc_of program.now process.old) (chans_of channels.old) [] ports.old }
-    ensures performs { IfOk result (λ done. Performs program.now path.now (proc_of program.now process.old) (chans_of channels.old) [] ports.old (proc_of program.now process.new) (map (proc_of program.now) done.children.items) (chans_of channels.new) ports.new done.cost) }
+    requires event { action_of program.now (proc_of program.now process.old)
+        ≡ action.Meets (action.Send channel writer items next) }
+    requires can { CanPerform program.now path.now (proc_of program.now process.old) (chans_of channels.old) []
+        ports.old }
+    ensures performs { IfOk result (λ done. Performs program.now path.now (proc_of program.now process.old)
+        (chans_of channels.old) [] ports.old (proc_of program.now process.new)
+        (map (proc_of program.now) done.children.items) (chans_of channels.new) ports.new done.cost) }
     ensures waking { OnOk result (WakesAll channels.old channels.new) }
 {
     let items = take_message(alloc, program, process, items, next)?;
@@ -269,10 +279,15 @@ fn store(
     message: Message,
     next: u32,
 ) -> Result<u64, NoMemory>
-    requires { MayDrop ports.old (message_ports message) (after_message (proc_of program.now process.old) next places.now iostat message).drops }
-    ensures process { OnOk result (proc_of program.now process.new ≡ (after_message (proc_of program.now process.old) next places.now iostat message).self) }
-    ensures channels { OnOk result (chans_of channels.new ≡ all_shed (after_message (proc_of program.now process.old) next places.now iostat message).drops (chans_of channels.old)) }
-    ensures ports { OnOk result (Carries (message_ports message) (after_message (proc_of program.now process.old) next places.now iostat message).drops ports.old ports.new) }
+    requires { MayDrop ports.old (message_ports message)
+        (after_message (proc_of program.now process.old) next places.now iostat message).drops }
+    ensures process { OnOk result (proc_of program.now process.new
+        ≡ (after_message (proc_of program.now process.old) next places.now iostat message).self) }
+    ensures channels { OnOk result (chans_of channels.new
+        ≡ all_shed (after_message (proc_of program.now process.old) next places.now iostat message).drops
+        (chans_of channels.old)) }
+    ensures ports { OnOk result (Carries (message_ports message)
+        (after_message (proc_of program.now process.old) next places.now iostat message).drops ports.old ports.new) }
     ensures cost { IfOk result (λ cost. cost ≡ 1 + words_of message) }
     ensures waking { OnOk result (WakesAll channels.old channels.new) }
 {
@@ -297,9 +312,13 @@ fn receive(
     at_end: Option<u32>,
     next: u32,
 ) -> Result<Done<PlainProc>, NoMemory>
-    requires event { action_of program.now (proc_of program.now process.old) ≡ action.Meets (action.Receive channel line.0 places.now iostat at_end next) }
-    requires can { CanPerform program.now path.now (proc_of program.now process.old) (chans_of channels.old) [] ports.old }
-    ensures performs { IfOk result (λ done. Performs program.now path.now (proc_of program.now process.old) (chans_of channels.old) [] ports.old (proc_of program.now process.new) (map (proc_of program.now) done.children.items) (chans_of channels.new) ports.new done.cost) }
+    requires event { action_of program.now (proc_of program.now process.old)
+        ≡ action.Meets (action.Receive channel line.0 places.now iostat at_end next) }
+    requires can { CanPerform program.now path.now (proc_of program.now process.old) (chans_of channels.old) []
+        ports.old }
+    ensures performs { IfOk result (λ done. Performs program.now path.now (proc_of program.now process.old)
+        (chans_of channels.old) [] ports.old (proc_of program.now process.new)
+        (map (proc_of program.now) done.children.items) (chans_of channels.new) ports.new done.cost) }
     ensures waking { OnOk result (WakesAll channels.old channels.new) }
 {
     let limits = limits_of(alloc, places)?;
@@ -344,9 +363,13 @@ fn probe(
     empty: Span,
     next: u32,
 ) -> Done<PlainProc>
-    requires event { action_of program.now (proc_of program.now process.old) ≡ action.Meets (action.Probe channel empty next) }
-    requires can { CanPerform program.now path.now (proc_of program.now process.old) (chans_of channels.now) [] ports.now }
-    ensures { Performs program.now path.now (proc_of program.now process.old) (chans_of channels.now) [] ports.now (proc_of program.now process.new) (map (proc_of program.now) result.children.items) (chans_of channels.now) ports.now result.cost }
+    requires event { action_of program.now (proc_of program.now process.old)
+        ≡ action.Meets (action.Probe channel empty next) }
+    requires can { CanPerform program.now path.now (proc_of program.now process.old) (chans_of channels.now) []
+        ports.now }
+    ensures { Performs program.now path.now (proc_of program.now process.old) (chans_of channels.now) [] ports.now
+        (proc_of program.now process.new) (map (proc_of program.now) result.children.items) (chans_of channels.now)
+        ports.now result.cost }
 {
     let waits = waits(channels, ports, &channel);
     put_probe(program, process, empty, waits, next);
@@ -358,8 +381,10 @@ fn start(
     program: &Program,
     process: &mut PlainProc,
 ) -> Result<Done<PlainProc>, NoMemory>
-    ensures process { OnOk result (proc_of program.now process.new ≡ (after_begin (proc_of program.now process.old)).self) }
-    ensures children { IfOk result (λ done. map (proc_of program.now) done.children.items ≡ (after_begin (proc_of program.now process.old)).starts) }
+    ensures process { OnOk result
+        (proc_of program.now process.new ≡ (after_begin (proc_of program.now process.old)).self) }
+    ensures children { IfOk result (λ done. map (proc_of program.now) done.children.items
+        ≡ (after_begin (proc_of program.now process.old)).starts) }
     ensures cost { IfOk result (λ done. done.cost ≡ 1 + length done.children.items) }
 {
     let children = begin(alloc, process)?;
@@ -377,9 +402,12 @@ fn finish(
 ) -> Result<(), NoMemory>
     requires kept { AreKept ports.old (ended program.now (proc_of program.now process.old)).drops }
     requires once { AreOnce (ended program.now (proc_of program.now process.old)).drops }
-    ensures process { OnOk result (proc_of program.now process.new ≡ (ended program.now (proc_of program.now process.old)).self) }
-    ensures channels { OnOk result (chans_of channels.new ≡ all_shed (ended program.now (proc_of program.now process.old)).drops (chans_of channels.old)) }
-    ensures others { OnOk result (StayBut (ended program.now (proc_of program.now process.old)).drops ports.old ports.new) }
+    ensures process { OnOk result
+        (proc_of program.now process.new ≡ (ended program.now (proc_of program.now process.old)).self) }
+    ensures channels { OnOk result (chans_of channels.new
+        ≡ all_shed (ended program.now (proc_of program.now process.old)).drops (chans_of channels.old)) }
+    ensures others { OnOk result
+        (StayBut (ended program.now (proc_of program.now process.old)).drops ports.old ports.new) }
     ensures waking { OnOk result (WakesAll channels.old channels.new) }
 {
     let gone = end(alloc, program, process)?;
@@ -397,10 +425,14 @@ pub(crate) fn perform(
     ports: &mut Ports,
     event: Event,
 ) -> Result<Done<PlainProc>, NoMemory>
-    requires event { action_of program.now (proc_of program.now process.old) ≡ action.Meets (event_by (proc_of program.now process.old).phase event) }
+    requires event { action_of program.now (proc_of program.now process.old)
+        ≡ action.Meets (event_by (proc_of program.now process.old).phase event) }
     requires alone { joined_by event ≡ None }
-    requires can { CanPerform program.now path.now (proc_of program.now process.old) (chans_of channels.old) [] ports.old }
-    ensures performs { IfOk result (λ done. Performs program.now path.now (proc_of program.now process.old) (chans_of channels.old) [] ports.old (proc_of program.now process.new) (map (proc_of program.now) done.children.items) (chans_of channels.new) ports.new done.cost) }
+    requires can { CanPerform program.now path.now (proc_of program.now process.old) (chans_of channels.old) []
+        ports.old }
+    ensures performs { IfOk result (λ done. Performs program.now path.now (proc_of program.now process.old)
+        (chans_of channels.old) [] ports.old (proc_of program.now process.new)
+        (map (proc_of program.now) done.children.items) (chans_of channels.new) ports.new done.cost) }
     ensures waking { OnOk result (WakesAll channels.old channels.new) }
 {
     match event {
@@ -481,8 +513,10 @@ pub(crate) fn join_all(
     next: u32,
 ) -> Result<u64, NoMemory>
     requires { CanJoin program.now (proc_of program.now process.old) next left.items ports.old }
-    ensures joins { IfOk result (λ cost. (kids : List Proc) → map frames_in kids ≡ map (left_frames program.now) left.items →
-        Joins (proc_of program.now process.old) next kids ports.old (chans_of channels.old) (proc_of program.now process.new) (chans_of channels.new) ports.new cost) }
+    ensures joins { IfOk result (λ cost. (kids : List Proc)
+        → map frames_in kids ≡ map (left_frames program.now) left.items
+        → Joins (proc_of program.now process.old) next kids ports.old (chans_of channels.old)
+        (proc_of program.now process.new) (chans_of channels.new) ports.new cost) }
     ensures waking { OnOk result (WakesAll channels.old channels.new) }
 {
     let joined = join(alloc, program, process, left, next)?;

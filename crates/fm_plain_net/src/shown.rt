@@ -92,7 +92,8 @@ fn put_shown(
     variable: &Variable,
     memory: &[Word],
 ) -> Result<(), NoMemory>
-    ensures { OnOk result (all.new ≡ with_new all.old variable.now.name (shown_by variable.now.kind (item_in memory.now variable.now))) }
+    ensures { OnOk result
+        (all.new ≡ with_new all.old variable.now.name (shown_by variable.now.kind (item_in memory.now variable.now))) }
 {
     if all.contains_key(&variable.name) {
         return Ok(());
@@ -107,7 +108,8 @@ fn by_name(
     variables: &[Variable],
     memory: &[Word],
 ) -> Result<NameMap<Shown>, NoMemory>
-    ensures { IfOk result (λ m. m ≡ first_of_each (shown_variables variables.now (values_of variables.now memory.now))) }
+    ensures { IfOk result
+        (λ m. m ≡ first_of_each (shown_variables variables.now (values_of variables.now memory.now))) }
 {
     let mut all = NameMap::new(alloc);
     'variables: for variable in variables {
@@ -118,7 +120,8 @@ fn by_name(
 
 // The frame of the process itself, below those of calls.
 fn own_frame(process: &PlainProc) -> Option<&Frame>
-    ensures { (p : declared.Program) → own_variables p (proc_of p process.now).execution.frames ≡ of_frame p (option_copied result) }
+    ensures { (p : declared.Program)
+        → own_variables p (proc_of p process.now).execution.frames ≡ of_frame p (option_copied result) }
 {
     match process.below.first() {
         Some(frame) => Some(frame),
@@ -132,7 +135,8 @@ fn shown_of(
     program: &Program,
     process: &PlainProc,
 ) -> Result<Vec<ShownVariable>, NoMemory>
-    ensures { IfOk result (λ v. v.items ≡ own_variables program.now (proc_of program.now process.now).execution.frames) }
+    ensures { IfOk result
+        (λ v. v.items ≡ own_variables program.now (proc_of program.now process.now).execution.frames) }
 {
     match own_frame(process) {
         Some(frame) => {
@@ -150,7 +154,8 @@ pub fn shown_all(
     program: &Program,
     main: Option<&PlainProc>,
 ) -> Result<Vec<ShownVariable>, NoMemory>
-    ensures { IfOk result (λ v. v.items ≡ shown_all program.now (option_map (proc_of program.now) (option_copied main.entry))) }
+    ensures { IfOk result
+        (λ v. v.items ≡ shown_all program.now (option_map (proc_of program.now) (option_copied main.entry))) }
 {
     match main {
         Some(process) => shown_of(alloc, program, process),

@@ -46,8 +46,8 @@ fn back_for(callee: &UnitView, number: u32, argument: &Actual) -> Option<Back>
     })
 }
 
-/// The formals that give back what they have, each with the place of its argument that gets it: those without INTENT(IN) whose
-/// arguments have places, from left to right. The only error is want of memory.
+/// The formals that give back what they have, each with the place of its argument that gets it: those without
+/// INTENT(IN) whose arguments have places, from left to right. The only error is want of memory.
 pub fn backs_of(
     alloc: Global,
     callee: &UnitView,

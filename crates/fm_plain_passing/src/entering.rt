@@ -60,7 +60,8 @@ fn pass(
     requires caller { AreLaidOut 0 caller.now }
     requires callee { AreLaidOut 0 callee.now }
     requires room { vec_len room.old + span.count ≤ vec_capacity room.old }
-    ensures frames { between caller.now mine.new callee.now theirs.new room.new.items ≡ passed span formal (between caller.now mine.old callee.now theirs.old room.old.items) }
+    ensures frames { between caller.now mine.new callee.now theirs.new room.new.items
+        ≡ passed span formal (between caller.now mine.old callee.now theirs.old room.old.items) }
     ensures len { vec_len room.new ≡ vec_len room.old + span.count }
     ensures capacity { vec_capacity room.old ≤ vec_capacity room.new }
 {
@@ -85,7 +86,8 @@ fn enter_one(
     requires fits { length (unit_of callee.now).names.variables < 2 ^ 32 }
     requires room { vec_len room.old + taken_by argument.now ≤ vec_capacity room.old }
     ensures frames { between caller.now mine.new (unit_of callee.now).names.variables theirs.new room.new.items
-        ≡ entered_one (unit_of callee.now) number argument.now (between caller.now mine.old (unit_of callee.now).names.variables theirs.old room.old.items) }
+        ≡ entered_one (unit_of callee.now) number argument.now
+        (between caller.now mine.old (unit_of callee.now).names.variables theirs.old room.old.items) }
     ensures len { vec_len room.new ≡ vec_len room.old + taken_by argument.now }
     ensures capacity { vec_capacity room.old ≤ vec_capacity room.new }
 {
@@ -117,7 +119,8 @@ fn enter_all(
     requires arguments_fit { length arguments.now < 2 ^ 32 }
     requires room { vec_len room.old + all_taken arguments.now ≤ vec_capacity room.old }
     ensures { between caller.now mine.new (unit_of callee.now).names.variables theirs.new room.new.items
-        ≡ entered_all (unit_of callee.now) 1 arguments.now (between caller.now mine.old (unit_of callee.now).names.variables theirs.old room.old.items) }
+        ≡ entered_all (unit_of callee.now) 1 arguments.now
+        (between caller.now mine.old (unit_of callee.now).names.variables theirs.old room.old.items) }
 {
     'arguments: for (index, argument) in arguments.iter().enumerate() {
         enter_one(
@@ -132,8 +135,8 @@ fn enter_all(
     }
 }
 
-/// Opens the frame of a unit that is called: its formals get the arguments, from left to right, and what the caller passes on
-/// of ports leaves NULL behind. The only error is want of memory; the caller's memory is then as it was.
+/// Opens the frame of a unit that is called: its formals get the arguments, from left to right, and what the caller
+/// passes on of ports leaves NULL behind. The only error is want of memory; the caller's memory is then as it was.
 pub fn enter(
     alloc: Global,
     callee: &UnitView,
@@ -142,10 +145,12 @@ pub fn enter(
     arguments: &[Actual],
 ) -> Result<Entered, NoMemory>
     requires { AreLaidOut 0 caller.now }
-    ensures mine { OnOk result (values_of caller.now memory.new ≡ (entered (unit_of callee.now) (values_of caller.now memory.old) arguments.now).mine) }
+    ensures mine { OnOk result (values_of caller.now memory.new
+        ≡ (entered (unit_of callee.now) (values_of caller.now memory.old) arguments.now).mine) }
     ensures theirs { IfOk result (λ e. values_of (unit_of callee.now).names.variables e.memory.items
         ≡ (entered (unit_of callee.now) (values_of caller.now memory.old) arguments.now).theirs) }
-    ensures drops { IfOk result (λ e. live e.replaced.items ≡ (entered (unit_of callee.now) (values_of caller.now memory.old) arguments.now).drops) }
+    ensures drops { IfOk result (λ e. live e.replaced.items
+        ≡ (entered (unit_of callee.now) (values_of caller.now memory.old) arguments.now).drops) }
     ensures err { OnErr result (values_of caller.now memory.new ≡ values_of caller.now memory.old) }
 {
     let variables = callee.variables();

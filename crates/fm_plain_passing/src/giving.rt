@@ -59,7 +59,9 @@ fn words_back(
     back: &Back,
 )
     requires { AreLaidOut 0 caller.now }
-    ensures { values_of caller.now mine.new ≡ written (values_of caller.now mine.old) back.now.place (take back.now.place.count (words_in (items_at (values_of callee.now theirs.now) back.now.formal))) }
+    ensures { values_of caller.now mine.new
+        ≡ written (values_of caller.now mine.old) back.now.place
+        (take back.now.place.count (words_in (items_at (values_of callee.now theirs.now) back.now.formal))) }
 {
     let words = variable_len(theirs, callee, back.formal).min(back.place.count as usize);
     'words: for index in 0..words {
@@ -76,7 +78,8 @@ fn words_back(
 /// Puts a word so many elements behind the first one of a span, if there is such an element.
 fn put_behind(variables: &[Variable], memory: &mut [Word], span: Span, behind: usize, number: i64)
     requires { AreLaidOut 0 variables.now }
-    ensures { values_of variables.now memory.new ≡ written_from (values_of variables.now memory.old) span.variable (span.first + behind) (number ∷ []) }
+    ensures { values_of variables.now memory.new
+        ≡ written_from (values_of variables.now memory.old) span.variable (span.first + behind) (number ∷ []) }
 {
     let words = memory.len();
     if span.first < words && behind < words - span.first {
@@ -103,7 +106,8 @@ fn port_back(
     requires callee { AreLaidOut 0 callee.now }
     requires room { vec_len room.old < vec_capacity room.old }
     ensures frames { between caller.now mine.new callee.now theirs.new room.new.items
-        ≡ port_back (between caller.now mine.old callee.now theirs.old room.old.items) back.now.formal index back.now.place.variable (back.now.place.first + index) }
+        ≡ port_back (between caller.now mine.old callee.now theirs.old room.old.items) back.now.formal index
+        back.now.place.variable (back.now.place.first + index) }
     ensures len { vec_len room.new ≤ vec_len room.old + 1 }
     ensures capacity { vec_capacity room.old ≤ vec_capacity room.new }
 {
@@ -137,7 +141,8 @@ fn ports_back(
     requires callee { AreLaidOut 0 callee.now }
     requires room { vec_len room.old + back.now.place.count ≤ vec_capacity room.old }
     ensures frames { between caller.now mine.new callee.now theirs.new room.new.items
-        ≡ ports_back (between caller.now mine.old callee.now theirs.old room.old.items) back.now.formal 0 back.now.place.variable back.now.place.first back.now.place.count }
+        ≡ ports_back (between caller.now mine.old callee.now theirs.old room.old.items) back.now.formal 0
+        back.now.place.variable back.now.place.first back.now.place.count }
     ensures len { vec_len room.new ≤ vec_len room.old + back.now.place.count }
     ensures capacity { vec_capacity room.old ≤ vec_capacity room.new }
 {
@@ -158,7 +163,8 @@ fn one_back(
     requires callee { AreLaidOut 0 callee.now }
     requires room { vec_len room.old + given_by callee.now back.now ≤ vec_capacity room.old }
     ensures frames { between caller.now mine.new callee.now theirs.new room.new.items
-        ≡ one_back (between caller.now mine.old callee.now theirs.old room.old.items) back.now (items_at (values_of callee.now theirs.old) back.now.formal) }
+        ≡ one_back (between caller.now mine.old callee.now theirs.old room.old.items) back.now
+        (items_at (values_of callee.now theirs.old) back.now.formal) }
     ensures len { vec_len room.new ≤ vec_len room.old + given_by callee.now back.now }
     ensures capacity { vec_capacity room.old ≤ vec_capacity room.new }
 {
@@ -188,7 +194,8 @@ fn each_back(
     }
 }
 
-/// The room that copying back wants: a NULL for each port that may be put out of its place. The only error is want of memory.
+/// The room that copying back wants: a NULL for each port that may be put out of its place. The only error is want of
+/// memory.
 pub fn back_room(
     alloc: Global,
     callee: &[Variable],
@@ -199,8 +206,8 @@ pub fn back_room(
     nulls(alloc, all_given(callee, backs)?)
 }
 
-/// Copies back what the callee's formals have, in the order of the arguments. What was put out of its place is in the room then.
-/// Takes no memory.
+/// Copies back what the callee's formals have, in the order of the arguments. What was put out of its place is in the
+/// room then. Takes no memory.
 pub fn give_back_into(
     room: &mut Vec<Option<PortValue>>,
     caller: &[Variable],
@@ -212,16 +219,25 @@ pub fn give_back_into(
     requires room { room.old.items ≡ replicate (all_given callee.now backs.now) None }
     requires caller { AreLaidOut 0 caller.now }
     requires callee { AreLaidOut 0 callee.now }
-    ensures mine { values_of caller.now mine.new ≡ (all_back (record { mine = values_of caller.now mine.old; theirs = values_of callee.now theirs.old; drops = [] }) backs.now).mine }
-    ensures theirs { values_of callee.now theirs.new ≡ (all_back (record { mine = values_of caller.now mine.old; theirs = values_of callee.now theirs.old; drops = [] }) backs.now).theirs }
-    ensures drops { live room.new.items ≡ (all_back (record { mine = values_of caller.now mine.old; theirs = values_of callee.now theirs.old; drops = [] }) backs.now).drops }
+    ensures mine { values_of caller.now mine.new
+        ≡ (all_back
+        (record { mine = values_of caller.now mine.old; theirs = values_of callee.now theirs.old; drops = [] })
+        backs.now).mine }
+    ensures theirs { values_of callee.now theirs.new
+        ≡ (all_back
+        (record { mine = values_of caller.now mine.old; theirs = values_of callee.now theirs.old; drops = [] })
+        backs.now).theirs }
+    ensures drops { live room.new.items
+        ≡ (all_back
+        (record { mine = values_of caller.now mine.old; theirs = values_of callee.now theirs.old; drops = [] })
+        backs.now).drops }
 {
     room.clear();
     each_back(room, caller, mine, callee, theirs, backs);
 }
 
-/// Copies back what the callee's formals have, in the order of the arguments, and answers what was put out of its place. The only
-/// error is want of memory; both frames are then as they were.
+/// Copies back what the callee's formals have, in the order of the arguments, and answers what was put out of its
+/// place. The only error is want of memory; both frames are then as they were.
 pub fn give_back(
     alloc: Global,
     caller: &[Variable],
@@ -232,9 +248,18 @@ pub fn give_back(
 ) -> Result<Vec<Option<PortValue>>, NoMemory>
     requires caller { AreLaidOut 0 caller.now }
     requires callee { AreLaidOut 0 callee.now }
-    ensures mine { OnOk result (values_of caller.now mine.new ≡ (all_back (record { mine = values_of caller.now mine.old; theirs = values_of callee.now theirs.old; drops = [] }) backs.now).mine) }
-    ensures theirs { OnOk result (values_of callee.now theirs.new ≡ (all_back (record { mine = values_of caller.now mine.old; theirs = values_of callee.now theirs.old; drops = [] }) backs.now).theirs) }
-    ensures drops { IfOk result (λ d. live d.items ≡ (all_back (record { mine = values_of caller.now mine.old; theirs = values_of callee.now theirs.old; drops = [] }) backs.now).drops) }
+    ensures mine { OnOk result (values_of caller.now mine.new
+        ≡ (all_back
+        (record { mine = values_of caller.now mine.old; theirs = values_of callee.now theirs.old; drops = [] })
+        backs.now).mine) }
+    ensures theirs { OnOk result (values_of callee.now theirs.new
+        ≡ (all_back
+        (record { mine = values_of caller.now mine.old; theirs = values_of callee.now theirs.old; drops = [] })
+        backs.now).theirs) }
+    ensures drops { IfOk result (λ d. live d.items
+        ≡ (all_back
+        (record { mine = values_of caller.now mine.old; theirs = values_of callee.now theirs.old; drops = [] })
+        backs.now).drops) }
     ensures err_mine { OnErr result (values_of caller.now mine.new ≡ values_of caller.now mine.old) }
     ensures err_theirs { OnErr result (values_of callee.now theirs.new ≡ values_of callee.now theirs.old) }
 {

@@ -44,15 +44,16 @@ fn all_lost(variables: &[Variable]) -> Result<usize, NoMemory>
     Ok(ports)
 }
 
-/// Takes the ports out of all variables but the formals without INTENT(IN), and answers them in the order of the variables. The
-/// only error is want of memory; the memory of the frame is then as it was.
+/// Takes the ports out of all variables but the formals without INTENT(IN), and answers them in the order of the
+/// variables. The only error is want of memory; the memory of the frame is then as it was.
 pub fn keep_formals(
     alloc: Global,
     variables: &[Variable],
     memory: &mut [Word],
 ) -> Result<Vec<Option<PortValue>>, NoMemory>
     requires { AreLaidOut 0 variables.now }
-    ensures memory { OnOk result (values_of variables.now memory.new ≡ (kept variables.now (values_of variables.now memory.old)).0) }
+    ensures memory { OnOk result
+        (values_of variables.now memory.new ≡ (kept variables.now (values_of variables.now memory.old)).0) }
     ensures drops { IfOk result (λ d. live d.items ≡ (kept variables.now (values_of variables.now memory.old)).1) }
     ensures err { OnErr result (values_of variables.now memory.new ≡ values_of variables.now memory.old) }
 {

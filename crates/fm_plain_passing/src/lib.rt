@@ -1,4 +1,5 @@
-//! What passes between frames, and between frames and messages: folds of the exchange of a port with a place in a frame.
+//! What passes between frames, and between frames and messages: folds of the exchange of a port with a place in a
+//! frame.
 //!
 //! What takes memory makes all room before the first port moves, so that after want of memory everything is as it was.
 #![tactic(auto)]

@@ -59,8 +59,10 @@ fn take_each(
     requires laid_out { AreLaidOut 0 variables.now }
     requires rooms { map vec_items rooms.items ≡ rooms_for items.items }
     requires message { vec_len message.old + length items.items ≤ vec_capacity message.old }
-    ensures memory { values_of variables.now memory.new ≡ (message_from (values_of variables.now memory.old) items.items).0 }
-    ensures message { message_of message.new.items ≡ message_of message.old.items ++ (message_from (values_of variables.now memory.old) items.items).1 }
+    ensures memory { values_of variables.now memory.new
+        ≡ (message_from (values_of variables.now memory.old) items.items).0 }
+    ensures message { message_of message.new.items
+        ≡ message_of message.old.items ++ (message_from (values_of variables.now memory.old) items.items).1 }
 {
     let mut items = VecDeque::from_vec(items);
     let mut rooms = VecDeque::from_vec(rooms);
@@ -71,8 +73,8 @@ fn take_each(
     }
 }
 
-/// The items of a message, taken from left to right; the places of ports are NULL then. The only error is want of memory; the
-/// memory of the frame is then as it was.
+/// The items of a message, taken from left to right; the places of ports are NULL then. The only error is want of
+/// memory; the memory of the frame is then as it was.
 pub fn take_items(
     alloc: Global,
     variables: &[Variable],
@@ -80,7 +82,8 @@ pub fn take_items(
     items: Seq<Actual>,
 ) -> Result<Seq<Item>, NoMemory>
     requires { AreLaidOut 0 variables.now }
-    ensures memory { OnOk result (values_of variables.now memory.new ≡ (message_from (values_of variables.now memory.old) items).0) }
+    ensures memory { OnOk result
+        (values_of variables.now memory.new ≡ (message_from (values_of variables.now memory.old) items).0) }
     ensures message { IfOk result (λ m. message_of m ≡ (message_from (values_of variables.now memory.old) items).1) }
     ensures err { OnErr result (values_of variables.now memory.new ≡ values_of variables.now memory.old) }
 {
@@ -114,8 +117,10 @@ fn all_ports(message: &[Item]) -> Result<usize, NoMemory>
 fn store(room: &mut Room, variables: &[Variable], memory: &mut [Word], span: Span, item: Item)
     requires laid_out { AreLaidOut 0 variables.now }
     requires room { vec_len room.old + ports_by item ≤ vec_capacity room.old }
-    ensures memory { values_of variables.now memory.new ≡ (stored (values_of variables.now memory.old) span (item_of item)).0 }
-    ensures drops { live room.new.items ≡ live room.old.items ++ (stored (values_of variables.now memory.old) span (item_of item)).1 }
+    ensures memory { values_of variables.now memory.new
+        ≡ (stored (values_of variables.now memory.old) span (item_of item)).0 }
+    ensures drops { live room.new.items
+        ≡ live room.old.items ++ (stored (values_of variables.now memory.old) span (item_of item)).1 }
     ensures len { vec_len room.new ≡ vec_len room.old + ports_by item }
     ensures capacity { vec_capacity room.old ≤ vec_capacity room.new }
 {
@@ -152,8 +157,11 @@ fn store_each(
 )
     requires laid_out { AreLaidOut 0 variables.now }
     requires room { vec_len room.old + all_ports message.items ≤ vec_capacity room.old }
-    ensures memory { values_of variables.now memory.new ≡ (stored_all (values_of variables.now memory.old) places.now (message_of message.items)).0 }
-    ensures drops { live room.new.items ≡ live room.old.items ++ (stored_all (values_of variables.now memory.old) places.now (message_of message.items)).1 }
+    ensures memory { values_of variables.now memory.new
+        ≡ (stored_all (values_of variables.now memory.old) places.now (message_of message.items)).0 }
+    ensures drops { live room.new.items
+        ≡ live room.old.items
+        ++ (stored_all (values_of variables.now memory.old) places.now (message_of message.items)).1 }
 {
     let mut waiting = VecDeque::from_vec(message);
     let mut left = places;
@@ -168,8 +176,9 @@ fn store_each(
     }
 }
 
-/// Stores the items of a message one after the other, and answers the ports that find no place or were put out of theirs. The
-/// only error is want of memory; the memory of the frame is then as it was, and the message's ports are gone with it.
+/// Stores the items of a message one after the other, and answers the ports that find no place or were put out of
+/// theirs. The only error is want of memory; the memory of the frame is then as it was, and the message's ports are
+/// gone with it.
 pub fn store_items(
     alloc: Global,
     variables: &[Variable],
@@ -178,8 +187,10 @@ pub fn store_items(
     message: Seq<Item>,
 ) -> Result<Vec<Option<PortValue>>, NoMemory>
     requires { AreLaidOut 0 variables.now }
-    ensures memory { OnOk result (values_of variables.now memory.new ≡ (stored_all (values_of variables.now memory.old) places.now (message_of message)).0) }
-    ensures drops { IfOk result (λ d. live d.items ≡ (stored_all (values_of variables.now memory.old) places.now (message_of message)).1) }
+    ensures memory { OnOk result (values_of variables.now memory.new
+        ≡ (stored_all (values_of variables.now memory.old) places.now (message_of message)).0) }
+    ensures drops { IfOk result
+        (λ d. live d.items ≡ (stored_all (values_of variables.now memory.old) places.now (message_of message)).1) }
     ensures err { OnErr result (values_of variables.now memory.new ≡ values_of variables.now memory.old) }
 {
     let mut room = make_room(alloc, all_ports(message.as_slice())?)?;
@@ -196,8 +207,10 @@ fn place_each(
 )
     requires laid_out { AreLaidOut 0 variables.now }
     requires room { vec_len room.old + length ports.items ≤ vec_capacity room.old }
-    ensures memory { values_of variables.now memory.new ≡ (placed_all (values_of variables.now memory.old) places.now ports.items).0 }
-    ensures drops { live room.new.items ≡ live room.old.items ++ (placed_all (values_of variables.now memory.old) places.now ports.items).1 }
+    ensures memory { values_of variables.now memory.new
+        ≡ (placed_all (values_of variables.now memory.old) places.now ports.items).0 }
+    ensures drops { live room.new.items
+        ≡ live room.old.items ++ (placed_all (values_of variables.now memory.old) places.now ports.items).1 }
 {
     let mut waiting = VecDeque::from_vec(ports);
     let mut left = places;
@@ -213,8 +226,8 @@ fn place_each(
     }
 }
 
-/// Puts ports that were made into these places, each into its own, and answers those that find no place or were put out of
-/// theirs. The only error is want of memory; the memory of the frame is then as it was, and the ports are gone.
+/// Puts ports that were made into these places, each into its own, and answers those that find no place or were put out
+/// of theirs. The only error is want of memory; the memory of the frame is then as it was, and the ports are gone.
 pub fn place_ports(
     alloc: Global,
     variables: &[Variable],
@@ -223,8 +236,10 @@ pub fn place_ports(
     ports: Vec<PortValue>,
 ) -> Result<Vec<Option<PortValue>>, NoMemory>
     requires { AreLaidOut 0 variables.now }
-    ensures memory { OnOk result (values_of variables.now memory.new ≡ (placed_all (values_of variables.now memory.old) places.now ports.items).0) }
-    ensures drops { IfOk result (λ d. live d.items ≡ (placed_all (values_of variables.now memory.old) places.now ports.items).1) }
+    ensures memory { OnOk result (values_of variables.now memory.new
+        ≡ (placed_all (values_of variables.now memory.old) places.now ports.items).0) }
+    ensures drops { IfOk result
+        (λ d. live d.items ≡ (placed_all (values_of variables.now memory.old) places.now ports.items).1) }
     ensures err { OnErr result (values_of variables.now memory.new ≡ values_of variables.now memory.old) }
 {
     let mut room = make_room(alloc, ports.len())?;

@@ -27,7 +27,8 @@ pub(crate) fn ports_at(kind: &Kind, elements: u32) -> u32
     }
 }
 
-/// Exchanges the port that stands so many elements behind another one. Where there is no such element, the port comes out.
+/// Exchanges the port that stands so many elements behind another one. Where there is no such element, the port comes
+/// out.
 pub(crate) fn exchange_behind(
     memory: &mut [Word],
     variables: &[Variable],
@@ -37,7 +38,8 @@ pub(crate) fn exchange_behind(
     port: Option<PortValue>,
 ) -> Option<PortValue>
     requires { AreLaidOut 0 variables.now }
-    ensures memory { values_of variables.now memory.new ≡ (exchange (values_of variables.now memory.old) variable (first + behind) port).0 }
+    ensures memory { values_of variables.now memory.new
+        ≡ (exchange (values_of variables.now memory.old) variable (first + behind) port).0 }
     ensures port { result ≡ (exchange (values_of variables.now memory.old) variable (first + behind) port).1 }
 {
     let words = memory.len();
@@ -73,8 +75,10 @@ pub(crate) fn put_from(
 )
     requires laid_out { AreLaidOut 0 variables.now }
     requires room { vec_len room.old + length ports.items ≤ vec_capacity room.old }
-    ensures memory { values_of variables.now memory.new ≡ (exchange_all (values_of variables.now memory.old) span.variable span.first ports.items).0 }
-    ensures ports { room.new.items ≡ room.old.items ++ (exchange_all (values_of variables.now memory.old) span.variable span.first ports.items).1 }
+    ensures memory { values_of variables.now memory.new
+        ≡ (exchange_all (values_of variables.now memory.old) span.variable span.first ports.items).0 }
+    ensures ports { room.new.items
+        ≡ room.old.items ++ (exchange_all (values_of variables.now memory.old) span.variable span.first ports.items).1 }
     ensures len { vec_len room.new ≡ vec_len room.old + length ports.items }
     ensures capacity { vec_capacity room.old ≤ vec_capacity room.new }
 {

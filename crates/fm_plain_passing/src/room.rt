@@ -1,5 +1,5 @@
-//! Room for ports that are put out of their places. It is made before the first of them moves, so that no port is without a
-//! place where memory is wanting.
+//! Room for ports that are put out of their places. It is made before the first of them moves, so that no port is
+//! without a place where memory is wanting.
 
 ghost use Rattle.std.specs.Prelude.{◌≡◌, ◌+◌, ◌<◌, ◌≤◌, ◌^◌, None, [], ◌∷◌, ◌++◌, IfOk, OnOk, replicate, vec_len, vec_capacity};
 

@@ -60,13 +60,15 @@ fn put_children(alloc: Global, starts: Vec<Start>, children: &mut Vec<PlainProc>
     }
 }
 
-/// All starts of its open block begin as its next block, and it waits for them. Answers the children, in order. The cost in
-/// turns is 1 and 1 more for each child.
+/// All starts of its open block begin as its next block, and it waits for them. Answers the children, in order. The
+/// cost in turns is 1 and 1 more for each child.
 ///
 /// NoMemory comes also where the block behind it has no number.
 pub fn begin(alloc: Global, process: &mut PlainProc) -> Result<Vec<PlainProc>, NoMemory>
-    ensures process { IfOk result (λ children. (p : Program) → proc_of p process.new ≡ (after_begin (proc_of p process.old)).self) }
-    ensures starts { IfOk result (λ children. (p : Program) → map (proc_of p) children.items ≡ (after_begin (proc_of p process.old)).starts) }
+    ensures process { IfOk result
+        (λ children. (p : Program) → proc_of p process.new ≡ (after_begin (proc_of p process.old)).self) }
+    ensures starts { IfOk result
+        (λ children. (p : Program) → map (proc_of p) children.items ≡ (after_begin (proc_of p process.old)).starts) }
     ensures err { OnErr result ((p : Program) → proc_of p process.new ≡ proc_of p process.old) }
 {
     raise(&mut process.top, &mut process.below);

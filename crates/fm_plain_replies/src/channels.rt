@@ -52,8 +52,8 @@ pub fn fail(process: &mut PlainProc, line: Line, fault: Fault)
     process.phase = Phase::Faulted(line, fault);
 }
 
-/// The channel was made that it asked for: puts its ports, the inport first and then the outports by their numbers, into these
-/// places, and goes on at the entry `next`. Answers what stood there.
+/// The channel was made that it asked for: puts its ports, the inport first and then the outports by their numbers,
+/// into these places, and goes on at the entry `next`. Answers what stood there.
 ///
 /// NoMemory comes also where the next channel has no number.
 pub fn put_ports(
@@ -64,9 +64,12 @@ pub fn put_ports(
     ports: Vec<PortValue>,
     next: u32,
 ) -> Result<LetGo, NoMemory>
-    ensures ok { IfOk result (λ l. (c : ChanName) (n cost : ℕ) → ports.items ≡ ports_from c n →
-        (proc_of program.now process.new ≡ (after_make (proc_of program.now process.old) next places.now n cost c).self)
-        × (let_go_ports program.now l ≡ (after_make (proc_of program.now process.old) next places.now n cost c).drops)) }
+    ensures ok { IfOk result (λ l. (c : ChanName) (n cost : ℕ)
+        → ports.items ≡ ports_from c n
+        → (proc_of program.now process.new
+        ≡ (after_make (proc_of program.now process.old) next places.now n cost c).self)
+        × (let_go_ports program.now l
+        ≡ (after_make (proc_of program.now process.old) next places.now n cost c).drops)) }
     ensures err { OnErr result (proc_of program.now process.new ≡ proc_of program.now process.old) }
 {
     raise(&mut process.top, &mut process.below);
@@ -83,7 +86,8 @@ pub fn put_ports(
     }
 }
 
-/// Takes the items of the message that it sends, from left to right, and goes on at the entry `next`. Answers the message.
+/// Takes the items of the message that it sends, from left to right, and goes on at the entry `next`. Answers the
+/// message.
 pub fn take_message(
     alloc: Global,
     program: &Program,
@@ -91,7 +95,8 @@ pub fn take_message(
     items: Seq<Actual>,
     next: u32,
 ) -> Result<Seq<Item>, NoMemory>
-    ensures ok { IfOk result (λ m. (proc_of program.now process.new ≡ (after_send (proc_of program.now process.old) next items).self)
+    ensures ok { IfOk result (λ m. (proc_of program.now process.new
+        ≡ (after_send (proc_of program.now process.old) next items).self)
         × (message_of m ≡ message_sent (proc_of program.now process.old) items)) }
     ensures err { OnErr result (proc_of program.now process.new ≡ proc_of program.now process.old) }
 {
@@ -107,8 +112,8 @@ pub fn take_message(
     }
 }
 
-/// A message came: stores its items into these places, from left to right, sets IOSTAT to 0 where it is given, and goes on at the
-/// entry `next`. Answers what stood in the places.
+/// A message came: stores its items into these places, from left to right, sets IOSTAT to 0 where it is given, and goes
+/// on at the entry `next`. Answers what stood in the places.
 pub fn store_message(
     alloc: Global,
     program: &Program,
@@ -118,8 +123,10 @@ pub fn store_message(
     message: Seq<Item>,
     next: u32,
 ) -> Result<LetGo, NoMemory>
-    ensures ok { IfOk result (λ l. (proc_of program.now process.new ≡ (after_message (proc_of program.now process.old) next places.now iostat (message_of message)).self)
-        × (let_go_ports program.now l ≡ (after_message (proc_of program.now process.old) next places.now iostat (message_of message)).drops)) }
+    ensures ok { IfOk result (λ l. (proc_of program.now process.new
+        ≡ (after_message (proc_of program.now process.old) next places.now iostat (message_of message)).self)
+        × (let_go_ports program.now l
+        ≡ (after_message (proc_of program.now process.old) next places.now iostat (message_of message)).drops)) }
     ensures err { OnErr result (proc_of program.now process.new ≡ proc_of program.now process.old) }
 {
     raise(&mut process.top, &mut process.below);
@@ -145,8 +152,8 @@ fn put_status(variables: &[Variable], memory: &mut [Word], iostat: Option<Span>,
     }
 }
 
-/// The channel is at its end: sets IOSTAT to -1 and goes on at END's entry, where they are given, else at the entry `next`. With
-/// neither it faults. Takes no memory, and lets nothing go.
+/// The channel is at its end: sets IOSTAT to -1 and goes on at END's entry, where they are given, else at the entry
+/// `next`. With neither it faults. Takes no memory, and lets nothing go.
 pub fn meet_end(
     program: &Program,
     process: &mut PlainProc,
@@ -155,7 +162,8 @@ pub fn meet_end(
     at_end: Option<u32>,
     next: u32,
 )
-    ensures { proc_of program.now process.new ≡ (after_end_of_channel (proc_of program.now process.old) line.0 next iostat at_end).self }
+    ensures { proc_of program.now process.new
+        ≡ (after_end_of_channel (proc_of program.now process.old) line.0 next iostat at_end).self }
 {
     raise(&mut process.top, &mut process.below);
     match &mut process.top {

@@ -28,9 +28,11 @@ struct Lost {
 
 /// The own frame of a process keeps its formals alone.
 fn end_frame(alloc: Global, program: &Program, frame: &mut Frame) -> Result<Lost, NoMemory>
-    ensures frame { IfOk result (λ l. frame_of program.now frame.new ≡ own_end program.now (frame_of program.now frame.old)) }
+    ensures frame { IfOk result
+        (λ l. frame_of program.now frame.new ≡ own_end program.now (frame_of program.now frame.old)) }
     ensures ports { IfOk result (λ l. live l.ports.items ≡ own_ports program.now (frame_of program.now frame.old)) }
-    ensures starts { IfOk result (λ l. map (start_of program.now) l.starts.items ≡ (frame_of program.now frame.old).starts) }
+    ensures starts { IfOk result
+        (λ l. map (start_of program.now) l.starts.items ≡ (frame_of program.now frame.old).starts) }
     ensures err { OnErr result (frame_of program.now frame.new ≡ frame_of program.now frame.old) }
 {
     let variables = variables_of(program, frame.unit);
@@ -58,8 +60,10 @@ fn let_starts_go(alloc: Global, starts: Vec<Start>) -> LetGo
 
 /// The frames of calls go, and what the own frame doesn't keep.
 fn let_all_go(alloc: Global, top: Option<Frame>, below: Vec<Frame>, lost: Lost) -> (LetGo, LetGo)
-    ensures { (p : Program) → let_go_ports p result.0 ++ let_go_ports p result.1
-        ≡ frames_ports (frames_of p top below.items) ++ (live lost.ports.items ++ started_ports (map (start_of p) lost.starts.items)) }
+    ensures { (p : Program)
+        → let_go_ports p result.0 ++ let_go_ports p result.1
+        ≡ frames_ports (frames_of p top below.items)
+        ++ (live lost.ports.items ++ started_ports (map (start_of p) lost.starts.items)) }
 {
     let frames = LetGo {
         replaced: Vec::new(alloc),
@@ -76,8 +80,10 @@ fn end_alone(
     program: &Program,
     top: &mut Option<Frame>,
 ) -> Result<(LetGo, LetGo), NoMemory>
-    ensures frames { IfOk result (λ l. frames_of program.now top.new [] ≡ (ended_frames program.now (frames_of program.now top.old [])).0) }
-    ensures drops { IfOk result (λ l. let_go_ports program.now l.0 ++ let_go_ports program.now l.1 ≡ (ended_frames program.now (frames_of program.now top.old [])).1) }
+    ensures frames { IfOk result
+        (λ l. frames_of program.now top.new [] ≡ (ended_frames program.now (frames_of program.now top.old [])).0) }
+    ensures drops { IfOk result (λ l. let_go_ports program.now l.0 ++ let_go_ports program.now l.1
+        ≡ (ended_frames program.now (frames_of program.now top.old [])).1) }
     ensures err { OnErr result (frames_of program.now top.new [] ≡ frames_of program.now top.old []) }
 {
     let lost = match top {
@@ -97,9 +103,12 @@ fn end_frames(
     top: &mut Option<Frame>,
     below: &mut Vec<Frame>,
 ) -> Result<(LetGo, LetGo), NoMemory>
-    ensures frames { IfOk result (λ l. frames_of program.now top.new below.new.items ≡ (ended_frames program.now (frames_of program.now top.old below.old.items)).0) }
-    ensures drops { IfOk result (λ l. let_go_ports program.now l.0 ++ let_go_ports program.now l.1 ≡ (ended_frames program.now (frames_of program.now top.old below.old.items)).1) }
-    ensures err { OnErr result (frames_of program.now top.new below.new.items ≡ frames_of program.now top.old below.old.items) }
+    ensures frames { IfOk result (λ l. frames_of program.now top.new below.new.items
+        ≡ (ended_frames program.now (frames_of program.now top.old below.old.items)).0) }
+    ensures drops { IfOk result (λ l. let_go_ports program.now l.0 ++ let_go_ports program.now l.1
+        ≡ (ended_frames program.now (frames_of program.now top.old below.old.items)).1) }
+    ensures err { OnErr result
+        (frames_of program.now top.new below.new.items ≡ frames_of program.now top.old below.old.items) }
 {
     if below.is_empty() {
         return end_alone(alloc, program, top);
@@ -111,15 +120,17 @@ fn end_frames(
     Ok(let_all_go(alloc, innermost, others, lost))
 }
 
-/// It ends: frames of calls go, and its own frame keeps its formals without INTENT(IN) alone. Answers what is let go: first the
-/// ports of frames and variables, then those of starts that didn't begin.
+/// It ends: frames of calls go, and its own frame keeps its formals without INTENT(IN) alone. Answers what is let go:
+/// first the ports of frames and variables, then those of starts that didn't begin.
 pub fn end(
     alloc: Global,
     program: &Program,
     process: &mut PlainProc,
 ) -> Result<(LetGo, LetGo), NoMemory>
-    ensures process { IfOk result (λ l. proc_of program.now process.new ≡ (ended program.now (proc_of program.now process.old)).self) }
-    ensures drops { IfOk result (λ l. let_go_ports program.now l.0 ++ let_go_ports program.now l.1 ≡ (ended program.now (proc_of program.now process.old)).drops) }
+    ensures process { IfOk result
+        (λ l. proc_of program.now process.new ≡ (ended program.now (proc_of program.now process.old)).self) }
+    ensures drops { IfOk result (λ l. let_go_ports program.now l.0 ++ let_go_ports program.now l.1
+        ≡ (ended program.now (proc_of program.now process.old)).drops) }
     ensures err { OnErr result (proc_of program.now process.new ≡ proc_of program.now process.old) }
 {
     let lost = end_frames(alloc, program, &mut process.top, &mut process.below)?;

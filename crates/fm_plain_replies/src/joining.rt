@@ -98,7 +98,8 @@ fn leaving(
     kids: &[Kid],
     children: Vec<Ended>,
 ) -> Result<Vec<LetGo>, NoMemory>
-    ensures frames { IfOk result (λ v. map (leaving program.now) v.items ≡ map (left_frames program.now) children.items) }
+    ensures frames { IfOk result
+        (λ v. map (leaving program.now) v.items ≡ map (left_frames program.now) children.items) }
     ensures ready { IfOk result (λ v. AreReady program.now (map kid_of kids.now) v.items) }
 {
     let mut all = Vec::new(alloc);
@@ -128,9 +129,24 @@ fn give_from(
 )
     requires laid_out { AreLaidOut 0 variables.now }
     requires room { HasRoom program.now (Some (kid_of kid.now)) room.old.items }
-    ensures memory { values_of variables.now memory.new ≡ (given_from (values_of variables.now memory.old) (kid_of kid.now) (frame_of program.now frame.old)).mine }
-    ensures frame { frame_of program.now frame.new ≡ record (frame_of program.now frame.old) { values = (given_from (values_of variables.now memory.old) (kid_of kid.now) (frame_of program.now frame.old)).theirs } }
-    ensures drops { live room.new.items ≡ (given_from (values_of variables.now memory.old) (kid_of kid.now) (frame_of program.now frame.old)).drops }
+    ensures memory { values_of variables.now memory.new
+        ≡ (given_from
+        (values_of variables.now memory.old)
+        (kid_of kid.now)
+        (frame_of program.now frame.old)).mine }
+    ensures frame { frame_of program.now frame.new
+        ≡ record (frame_of program.now frame.old) {
+          values =
+              (given_from
+              (values_of variables.now memory.old)
+              (kid_of kid.now)
+              (frame_of program.now frame.old)).theirs;
+        } }
+    ensures drops { live room.new.items
+        ≡ (given_from
+        (values_of variables.now memory.old)
+        (kid_of kid.now)
+        (frame_of program.now frame.old)).drops }
 {
     if frame.unit == kid.unit {
         give_back_into(
@@ -154,8 +170,16 @@ fn child_back(
 )
     requires laid_out { AreLaidOut 0 variables.now }
     requires ready { IsReady program.now (first_kid (map kid_of kids.now)) child.old }
-    ensures memory { values_of variables.now memory.new ≡ (kid_back (with_values (values_of variables.now memory.old)) (kid_or_nobody (first_kid (map kid_of kids.now))) (leaving program.now child.old)).mine }
-    ensures drops { let_go_ports program.now child.new ≡ (kid_back (with_values (values_of variables.now memory.old)) (kid_or_nobody (first_kid (map kid_of kids.now))) (leaving program.now child.old)).drops }
+    ensures memory { values_of variables.now memory.new
+        ≡ (kid_back
+        (with_values (values_of variables.now memory.old))
+        (kid_or_nobody (first_kid (map kid_of kids.now)))
+        (leaving program.now child.old)).mine }
+    ensures drops { let_go_ports program.now child.new
+        ≡ (kid_back
+        (with_values (values_of variables.now memory.old))
+        (kid_or_nobody (first_kid (map kid_of kids.now)))
+        (leaving program.now child.old)).drops }
 {
     raise(&mut child.top, &mut child.below);
     if let Some(frame) = &mut child.top {
@@ -175,8 +199,16 @@ fn children_back(
 )
     requires laid_out { AreLaidOut 0 variables.now }
     requires ready { AreReady program.now (map kid_of kids.now) children.old }
-    ensures memory { values_of variables.now memory.new ≡ (frames_back (with_values (values_of variables.now memory.old)) (map kid_of kids.now) (map (leaving program.now) children.old)).mine }
-    ensures drops { flat_map (let_go_ports program.now) children.new ≡ (frames_back (with_values (values_of variables.now memory.old)) (map kid_of kids.now) (map (leaving program.now) children.old)).drops }
+    ensures memory { values_of variables.now memory.new
+        ≡ (frames_back
+        (with_values (values_of variables.now memory.old))
+        (map kid_of kids.now)
+        (map (leaving program.now) children.old)).mine }
+    ensures drops { flat_map (let_go_ports program.now) children.new
+        ≡ (frames_back
+        (with_values (values_of variables.now memory.old))
+        (map kid_of kids.now)
+        (map (leaving program.now) children.old)).drops }
 {
     let mut kids = kids;
     'children: for child in children.iter_mut() {
@@ -194,8 +226,20 @@ fn join_frame(
     children: Vec<Ended>,
     next: u32,
 ) -> Result<(Vec<LetGo>, u64), NoMemory>
-    ensures frame { IfOk result (λ r. frame_of program.now frame.new ≡ at_entry (record (frame_of program.now frame.old) { values = (frames_back (with_values (frame_of program.now frame.old).values) (map kid_of kids.now) (map (left_frames program.now) children.items)).mine }) next) }
-    ensures drops { IfOk result (λ r. flat_map (let_go_ports program.now) r.0.items ≡ (frames_back (with_values (frame_of program.now frame.old).values) (map kid_of kids.now) (map (left_frames program.now) children.items)).drops) }
+    ensures frame { IfOk result (λ r. frame_of program.now frame.new
+        ≡ at_entry (record (frame_of program.now frame.old) {
+          values =
+              (frames_back
+              (with_values (frame_of program.now frame.old).values)
+              (map kid_of kids.now)
+              (map (left_frames program.now) children.items)).mine;
+        })
+        next) }
+    ensures drops { IfOk result (λ r. flat_map (let_go_ports program.now) r.0.items
+        ≡ (frames_back
+        (with_values (frame_of program.now frame.old).values)
+        (map kid_of kids.now)
+        (map (left_frames program.now) children.items)).drops) }
     ensures cost { IfOk result (λ r. r.1 ≡ 1 + joining_words (map kid_of kids.now)) }
     ensures err { OnErr result (frame_of program.now frame.new ≡ frame_of program.now frame.old) }
 {
@@ -207,9 +251,9 @@ fn join_frame(
     Ok((going, cost))
 }
 
-/// The children of its block have ended: they give back in the order of their starts, each by what its start was given, and what
-/// they still have is let go. It goes on at the entry `next`. Answers what is let go with each child, in order, and the cost in
-/// turns.
+/// The children of its block have ended: they give back in the order of their starts, each by what its start was given,
+/// and what they still have is let go. It goes on at the entry `next`. Answers what is let go with each child, in
+/// order, and the cost in turns.
 pub fn join(
     alloc: Global,
     program: &Program,
@@ -217,12 +261,14 @@ pub fn join(
     children: Vec<Ended>,
     next: u32,
 ) -> Result<(Vec<LetGo>, u64), NoMemory>
-    ensures process { IfOk result (λ r. (ys : List Proc) → map frames_in ys ≡ map (left_frames program.now) children.items →
-        proc_of program.now process.new ≡ (after_join (proc_of program.now process.old) next ys).self) }
-    ensures drops { IfOk result (λ r. (ys : List Proc) → map frames_in ys ≡ map (left_frames program.now) children.items →
-        flat_map (let_go_ports program.now) r.0.items ≡ (after_join (proc_of program.now process.old) next ys).drops) }
-    ensures cost { IfOk result (λ r. (ys : List Proc) → map frames_in ys ≡ map (left_frames program.now) children.items →
-        r.1 ≡ (after_join (proc_of program.now process.old) next ys).cost) }
+    ensures process { IfOk result (λ r. (ys : List Proc)
+        → map frames_in ys ≡ map (left_frames program.now) children.items
+        → proc_of program.now process.new ≡ (after_join (proc_of program.now process.old) next ys).self) }
+    ensures drops { IfOk result (λ r. (ys : List Proc) → map frames_in ys ≡ map (left_frames program.now) children.items
+        → flat_map (let_go_ports program.now) r.0.items
+        ≡ (after_join (proc_of program.now process.old) next ys).drops) }
+    ensures cost { IfOk result (λ r. (ys : List Proc) → map frames_in ys ≡ map (left_frames program.now) children.items
+        → r.1 ≡ (after_join (proc_of program.now process.old) next ys).cost) }
     ensures err { OnErr result (proc_of program.now process.new ≡ proc_of program.now process.old) }
 {
     raise(&mut process.top, &mut process.below);

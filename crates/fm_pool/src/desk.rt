@@ -81,8 +81,8 @@ impl<T: SharedTable> Desk<T> {
         }
     }
 
-    /// Gives what a piece came to, or leaves the piece where there was no memory to compute it. False where the worker is to
-    /// stop.
+    /// Gives what a piece came to, or leaves the piece where there was no memory to compute it. False where the worker
+    /// is to stop.
     pub fn bring(&mut self, alloc: Global, done: Result<T::Done, NoMemory>) -> bool
         ensures brought { MatchResult done
             (λ d. IsBrought T.give_does IsSame d result self.old.table self.new.table) (λ _. result ≡ false) }
@@ -100,8 +100,8 @@ impl<T: SharedTable> Desk<T> {
         }
     }
 
-    /// Gives what a piece came to, of which the table plays one entry of its process or nothing. False where there is no
-    /// memory for it.
+    /// Gives what a piece came to, of which the table plays one entry of its process or nothing. False where there is
+    /// no memory for it.
     pub fn give(&mut self, alloc: Global, done: T::Done) -> bool
         ensures brought { IsBrought T.give_does IsSame done result self.old.table self.new.table }
         ensures played { HasPlayed (T.process_of done) (T.history_of self.old.table) (T.history_of self.new.table) }

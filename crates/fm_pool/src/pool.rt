@@ -12,8 +12,9 @@ use std::thread::Threads;
 
 /// Plays a table by threads.
 ///
-/// A method of a trait can't promise this for every gate and every table, since what it lends to threads has to be of known
-/// types. So the crate of a table says for its own: `impl<R> Workers<Table> for Pool<Plain, R>`, whose `drive` is `play`.
+/// A method of a trait can't promise this for every gate and every table, since what it lends to threads has to be of
+/// known types. So the crate of a table says for its own: `impl<R> Workers<Table> for Pool<Plain, R>`, whose `drive` is
+/// `play`.
 #[derive(Drop)]
 pub struct Pool<G, R: Threads + Wait + Sync> {
     /// Who computes a piece.

@@ -33,8 +33,8 @@ impl<T: SharedTable> Room<T> {
         }
     }
 
-    /// The next piece, when there is one. None where the worker is to stop. Where `light` says so, the table makes those
-    /// pieces by itself that aren't worth giving out.
+    /// The next piece, when there is one. None where the worker is to stop. Where `light` says so, the table makes
+    /// those pieces by itself that aren't worth giving out.
     pub fn next<R: Wait>(
         &self,
         rt: &R,
@@ -73,9 +73,9 @@ impl<T: SharedTable> Room<T> {
         desk
     }
 
-    // The next piece for a worker who has the lock. It keeps the lock while the table makes pieces by itself, which would only
-    // go from one processor to another; but it lets in who begins or brings what a piece came to. Who leaves with a piece wakes one that
-    // waits, who may find another piece and wakes the next one then; who stops wakes all.
+    // The next piece for a worker who has the lock. It keeps the lock while the table makes pieces by itself, which
+    // would only go from one processor to another; but it lets in who begins or brings what a piece came to. Who leaves
+    // with a piece wakes one that waits, who may find another piece and wakes the next one then; who stops wakes all.
     fn next_at<'b, R: Wait>(
         &'b self,
         rt: &R,
@@ -116,8 +116,8 @@ impl<T: SharedTable> Room<T> {
         desk
     }
 
-    /// Leaves the lock for a moment to those that come in, if there are any; and where the table goes on with a process for this worker
-    /// while another one is ready, also to one that is idle, which it wakes.
+    /// Leaves the lock for a moment to those that come in, if there are any; and where the table goes on with a process
+    /// for this worker while another one is ready, also to one that is idle, which it wakes.
     pub fn let_in<'b, R: Wait>(
         &'b self,
         rt: &R,
@@ -150,8 +150,8 @@ impl<T: SharedTable> Room<T> {
         desk
     }
 
-    /// Gives what a piece came to, or leaves the piece where there was no memory to compute it. False where the worker is to
-    /// stop, which wakes all others; else it wakes one that waits.
+    /// Gives what a piece came to, or leaves the piece where there was no memory to compute it. False where the worker
+    /// is to stop, which wakes all others; else it wakes one that waits.
     pub fn bring<R: Wait>(&self, rt: &R, alloc: Global, done: Result<T::Done, NoMemory>) -> bool {
         let mut desk = self.come_in(rt);
         let given = desk.bring(alloc, done);

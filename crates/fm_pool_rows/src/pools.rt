@@ -131,8 +131,8 @@ fn any_workers(rt: HostRuntime) -> Result<(), Fail> {
 // How often a piece looks for another one that is being computed.
 const MOST_LOOKS: u32 = 1_000_000;
 
-// A gate at which pieces wait until two are being computed at once. It is plain, as the programs' own is: a pool asks the
-// table for pieces that it makes by itself, and plays these under its lock.
+// A gate at which pieces wait until two are being computed at once. It is plain, as the programs' own is: a pool asks
+// the table for pieces that it makes by itself, and plays these under its lock.
 #[derive(Drop)]
 struct Meets {
     inside: AtomicU64,

@@ -21,7 +21,9 @@ use fm_symbols::{Direction, Formal, UnitNames};
 use fm_tree::{Expr, Field, PortType, Simple, Stmt, Var};
 
 fn lack_outports(site: &Site, ports: &[Var]) -> bool
-    ensures { result ≡ list_any (λ v. lacks_ports Out site.now.names.now (variable_type site.now.context.now site.now.scope.now v)) ports.now }
+    ensures { result
+        ≡ list_any (λ v. lacks_ports Out site.now.names.now (variable_type site.now.context.now site.now.scope.now v))
+        ports.now }
 {
     'ports: for port in ports {
         if lacks_ports(Direction::Out, site.names, variable_type(site, port)) {
@@ -77,7 +79,9 @@ fn lacks_direction(site: &Site, simple: &Simple) -> bool
 // declares the port.
 #[tactic(auto, using(crate::proofs::Items::unlike_number))]
 fn expressions_fit(site: &Site, items: &[Expr], fields: &[Field]) -> bool
-    ensures { result ≡ fit_fields site.now.names.now (map (type_of site.now.context.now site.now.scope.now) items.now) (fields_of fields.now) }
+    ensures { result
+        ≡ fit_fields site.now.names.now (map (type_of site.now.context.now site.now.scope.now) items.now)
+        (fields_of fields.now) }
 {
     if items.len() != fields.len() {
         return false;
@@ -94,7 +98,9 @@ fn expressions_fit(site: &Site, items: &[Expr], fields: &[Field]) -> bool
 // The same for the variables of a RECEIVE.
 #[tactic(auto, using(crate::proofs::Items::unlike_number))]
 fn variables_fit(site: &Site, variables: &[Var], fields: &[Field]) -> bool
-    ensures { result ≡ fit_fields site.now.names.now (map (variable_type site.now.context.now site.now.scope.now) variables.now) (fields_of fields.now) }
+    ensures { result
+        ≡ fit_fields site.now.names.now (map (variable_type site.now.context.now site.now.scope.now) variables.now)
+        (fields_of fields.now) }
 {
     if variables.len() != fields.len() {
         return false;
@@ -109,7 +115,8 @@ fn variables_fit(site: &Site, variables: &[Var], fields: &[Field]) -> bool
 }
 
 fn message_at<'a>(site: &Site<'a>, port: &Var) -> Option<&'a PortType>
-    ensures { option_map (λ p. p.now) result ≡ message_at site.now.names.now site.now.context.now site.now.scope.now port.now }
+    ensures { option_map (λ p. p.now) result
+        ≡ message_at site.now.names.now site.now.context.now site.now.scope.now port.now }
 {
     message_of(port_variable(site.names, variable_type(site, port)))
 }
@@ -140,7 +147,9 @@ fn breaks_move(names: &UnitNames, from: ExprType, to: ExprType) -> bool
 }
 
 fn outports_differ(site: &Site, message: Option<&PortType>, ports: &[Var]) -> bool
-    ensures { result ≡ list_any (λ v. messages_differ (option_map (λ p. p.now) message.entry) (message_at site.now.names.now site.now.context.now site.now.scope.now v)) ports.now }
+    ensures { result
+        ≡ list_any (λ v. messages_differ (option_map (λ p. p.now) message.entry)
+        (message_at site.now.names.now site.now.context.now site.now.scope.now v)) ports.now }
 {
     'ports: for port in ports {
         if messages_differ(message, message_at(site, port)) {
@@ -174,9 +183,12 @@ fn breaks_type(site: &Site, simple: &Simple) -> bool
     }
 }
 
-// A formal that is a port, by the names of its unit, and an actual that doesn't fit it. No other actual is judged again.
+// A formal that is a port, by the names of its unit, and an actual that doesn't fit it. No other actual is judged
+// again.
 fn breaks_formal(callee: &UnitNames, site: &Site, actual: &Expr, formal: Formal) -> bool
-    ensures { result ≡ breaks_formal callee.now site.now.names.now (type_of site.now.context.now site.now.scope.now actual.now) formal }
+    ensures { result
+        ≡ breaks_formal callee.now site.now.names.now (type_of site.now.context.now site.now.scope.now actual.now)
+        formal }
 {
     match formal {
         Formal::Value(_) => false,
@@ -189,7 +201,9 @@ fn breaks_formal(callee: &UnitNames, site: &Site, actual: &Expr, formal: Formal)
 }
 
 fn break_formals(callee: &UnitNames, site: &Site, actuals: &[Expr], formals: &[Formal]) -> bool
-    ensures { result ≡ break_formals callee.now site.now.names.now (map (type_of site.now.context.now site.now.scope.now) actuals.now) formals.now }
+    ensures { result
+        ≡ break_formals callee.now site.now.names.now
+        (map (type_of site.now.context.now site.now.scope.now) actuals.now) formals.now }
 {
     'actuals: for (actual, formal) in actuals.iter().zip(formals) {
         if breaks_formal(callee, site, actual, *formal) {
@@ -200,7 +214,9 @@ fn break_formals(callee: &UnitNames, site: &Site, actuals: &[Expr], formals: &[F
 }
 
 fn breaks_unit(site: &Site, actuals: &[Expr], unit: u32) -> bool
-    ensures { result ≡ actuals_break site.now.names.now (map (type_of site.now.context.now site.now.scope.now) actuals.now) (slice_get site.now.all.now.units unit) (slice_get site.now.context.now.scopes unit) }
+    ensures { result
+        ≡ actuals_break site.now.names.now (map (type_of site.now.context.now site.now.scope.now) actuals.now)
+        (slice_get site.now.all.now.units unit) (slice_get site.now.context.now.scopes unit) }
 {
     let callee = site.all.units.as_slice().get(unit as usize);
     let formals = site.context.scopes.as_slice().get(unit as usize);
@@ -216,7 +232,9 @@ fn breaks_unit(site: &Site, actuals: &[Expr], unit: u32) -> bool
 
 // Whether an actual of a call doesn't fit a formal that is a port.
 pub(crate) fn breaks_call(site: &Site, stmt: &Stmt) -> bool
-    ensures { result ≡ breaks_call site.now.all.now.units site.now.names.now site.now.context.now site.now.scope.now (call_in stmt.now) }
+    ensures { result
+        ≡ breaks_call site.now.all.now.units site.now.names.now site.now.context.now site.now.scope.now
+        (call_in stmt.now) }
 {
     match call_in(stmt) {
         Some((name, actuals)) => match site.context.units.get(name) {
@@ -239,7 +257,8 @@ pub(crate) fn breaks_rank(names: &UnitNames, stmt: &Stmt) -> bool
 
 // Whether something stands where a port of a direction is needed.
 pub(crate) fn has_wrong_direction(site: &Site, stmt: &Stmt) -> bool
-    ensures { result ≡ in_simple (lacks_direction site.now.names.now site.now.context.now site.now.scope.now) (simple_in stmt.now) }
+    ensures { result
+        ≡ in_simple (lacks_direction site.now.names.now site.now.context.now site.now.scope.now) (simple_in stmt.now) }
 {
     match simple_in(stmt) {
         Some(simple) => lacks_direction(site, simple),
@@ -249,7 +268,8 @@ pub(crate) fn has_wrong_direction(site: &Site, stmt: &Stmt) -> bool
 
 // Whether the items of a SEND or RECEIVE don't fit the fields of its message.
 pub(crate) fn has_wrong_message(site: &Site, stmt: &Stmt) -> bool
-    ensures { result ≡ in_simple (breaks_message site.now.names.now site.now.context.now site.now.scope.now) (simple_in stmt.now) }
+    ensures { result
+        ≡ in_simple (breaks_message site.now.names.now site.now.context.now site.now.scope.now) (simple_in stmt.now) }
 {
     match simple_in(stmt) {
         Some(simple) => breaks_message(site, simple),
@@ -259,7 +279,8 @@ pub(crate) fn has_wrong_message(site: &Site, stmt: &Stmt) -> bool
 
 // Whether CHANNEL, MERGER or MOVEPORT have ports of different types.
 pub(crate) fn has_wrong_type(site: &Site, stmt: &Stmt) -> bool
-    ensures { result ≡ in_simple (breaks_type site.now.names.now site.now.context.now site.now.scope.now) (simple_in stmt.now) }
+    ensures { result
+        ≡ in_simple (breaks_type site.now.names.now site.now.context.now site.now.scope.now) (simple_in stmt.now) }
 {
     match simple_in(stmt) {
         Some(simple) => breaks_type(site, simple),

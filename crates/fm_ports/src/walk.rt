@@ -15,7 +15,9 @@ use fm_tree::{Entry, Unit, Units};
 
 #[tactic(auto, using(fm_base::proofs::Least::least_from_append))]
 fn statement(site: &Site, entry: &Entry, best: Option<Refusal>) -> Option<Refusal>
-    ensures { result ≡ least_from best (broken_at site.now.all.now.units site.now.names.now site.now.context.now site.now.scope.now entry.now.line.0 entry.now.stmt) }
+    ensures { result
+        ≡ least_from best (broken_at site.now.all.now.units site.now.names.now site.now.context.now site.now.scope.now
+        entry.now.line.0 entry.now.stmt) }
 {
     let (line, stmt) = (entry.line, &entry.stmt);
     let stray = has_stray_port(site, stmt);
@@ -33,7 +35,9 @@ fn statement(site: &Site, entry: &Entry, best: Option<Refusal>) -> Option<Refusa
 
 #[tactic(auto, using(fm_base::proofs::Least::least_from_append))]
 fn body(site: &Site, entries: &[Entry], best: Option<Refusal>) -> Option<Refusal>
-    ensures { result ≡ least_from best (broken_body site.now.all.now.units site.now.names.now site.now.context.now site.now.scope.now entries.now) }
+    ensures { result
+        ≡ least_from best
+        (broken_body site.now.all.now.units site.now.names.now site.now.context.now site.now.scope.now entries.now) }
 {
     let mut best = best;
     'entries: for entry in entries {
@@ -49,7 +53,9 @@ fn unit(
     number: usize,
     best: Option<Refusal>,
 ) -> Option<Refusal>
-    ensures { result ≡ least_from best (broken_unit all.now.units context.now unit.now (slice_get all.now.units number) (slice_get context.now.scopes number)) }
+    ensures { result
+        ≡ least_from best (broken_unit all.now.units context.now unit.now (slice_get all.now.units number)
+        (slice_get context.now.scopes number)) }
 {
     let names = all.units.as_slice().get(number);
     let scope = context.scopes.as_slice().get(number);
@@ -80,8 +86,8 @@ fn least_broken(units: &[Unit], names: &Names, context: &Context) -> Option<Refu
     best
 }
 
-/// The least broken rule on ports in the units of a program, given what their names are and mean, or none where no rule is
-/// broken. It is asked where no rule on structure, names and types is broken. Takes no memory.
+/// The least broken rule on ports in the units of a program, given what their names are and mean, or none where no rule
+/// is broken. It is asked where no rule on structure, names and types is broken. Takes no memory.
 pub fn ports(units: &Units, names: &Names, context: &Context) -> Option<Refusal>
     ensures { IsVerdict (Contains (broken_ports units.now.units names.now.units context.now)) result }
 {

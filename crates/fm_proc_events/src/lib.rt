@@ -1,6 +1,7 @@
 //! One process of stack code, and its events at channels.
 //!
-//! Contracts say that each is what `code_language` of `fm_proc_language` says, for every process, however its words and slots stand.
+//! Contracts say that each is what `code_language` of `fm_proc_language` says, for every process, however its words and
+//! slots stand.
 #![tactic(auto)]
 
 mod failing;

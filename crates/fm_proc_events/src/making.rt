@@ -46,7 +46,8 @@ fn new_mute_channel(
     Ok(ports)
 }
 
-/// Makes the channel of this name, which has one writer: its inport and its outport. After want of memory no channel has changed.
+/// Makes the channel of this name, which has one writer: its inport and its outport. After want of memory no channel
+/// has changed.
 fn new_plain_channel(
     alloc: Global,
     channels: &mut Channels,
@@ -115,9 +116,13 @@ fn place(
 )
     requires slots { HasRoom slots.old (2 * length ports.items) }
     requires drops { vec_len drops.old + length ports.items ≤ vec_capacity drops.old }
-    ensures body { body.new ≡ with_words body.old next (all_placed (held body.old.frame.words (slots_in slots.old)) numbers.now ports.items).0.words }
-    ensures slots { slots_in slots.new ≡ (all_placed (held body.old.frame.words (slots_in slots.old)) numbers.now ports.items).0.slots }
-    ensures drops { drops.new.items ≡ drops.old.items ++ (all_placed (held body.old.frame.words (slots_in slots.old)) numbers.now ports.items).1 }
+    ensures body { body.new
+        ≡ with_words body.old next
+        (all_placed (held body.old.frame.words (slots_in slots.old)) numbers.now ports.items).0.words }
+    ensures slots { slots_in slots.new
+        ≡ (all_placed (held body.old.frame.words (slots_in slots.old)) numbers.now ports.items).0.slots }
+    ensures drops { drops.new.items
+        ≡ drops.old.items ++ (all_placed (held body.old.frame.words (slots_in slots.old)) numbers.now ports.items).1 }
 {
     let mut words = body.frame.words.take(alloc).into_vec();
     place_all(&mut words, slots, numbers, ports, drops);
@@ -131,8 +136,9 @@ fn number_after(number: u32) -> Result<u32, NoMemory>
     number.checked_add(1).ok_or(NoMemory)
 }
 
-/// Makes a channel with so many writers, whose ports come to these words. After want of memory the process and the channels are as
-/// they were: the room for the ports is taken first, then the channel is made, and what follows takes no memory.
+/// Makes a channel with so many writers, whose ports come to these words. After want of memory the process and the
+/// channels are as they were: the room for the ports is taken first, then the channel is made, and what follows takes
+/// no memory.
 fn make(
     alloc: Global,
     path: &Path,
@@ -145,7 +151,8 @@ fn make(
 ) -> Result<(), NoMemory>
     requires makes { Makes (proc_of process.old) next numbers.now writers cost }
     requires new { MakesNew path.now (proc_of process.old) (chans_of channels.old) }
-    ensures performs { OnOk result (Performs path.now (proc_of process.old) (chans_of channels.old) (proc_of process.new) [] (chans_of channels.new) cost) }
+    ensures performs { OnOk result (Performs path.now (proc_of process.old) (chans_of channels.old)
+        (proc_of process.new) [] (chans_of channels.new) cost) }
     ensures stays { OnErr result (proc_of process.new ≡ proc_of process.old) }
     ensures channels { OnErr result (chans_of channels.new ≡ chans_of channels.old) }
     ensures waking { OnOk result (WakesAll channels.old channels.new) }
@@ -187,7 +194,8 @@ pub fn make_channel(
     requires look { look_of (proc_of process.old) ≡ Asks (ask.Channel inport outport next) }
     requires can { CanPerform (proc_of process.old) (chans_of channels.old) }
     requires new { MakesNew path.now (proc_of process.old) (chans_of channels.old) }
-    ensures performs { OnOk result (Performs path.now (proc_of process.old) (chans_of channels.old) (proc_of process.new) [] (chans_of channels.new) 1) }
+    ensures performs { OnOk result (Performs path.now (proc_of process.old) (chans_of channels.old)
+        (proc_of process.new) [] (chans_of channels.new) 1) }
     ensures stays { OnErr result (proc_of process.new ≡ proc_of process.old) }
     ensures channels { OnErr result (chans_of channels.new ≡ chans_of channels.old) }
     ensures waking { OnOk result (WakesAll channels.old channels.new) }
@@ -228,7 +236,8 @@ pub fn make_merger(
     requires look { look_of (proc_of process.old) ≡ Asks (ask.Merger inport outports next) }
     requires can { CanPerform (proc_of process.old) (chans_of channels.old) }
     requires new { MakesNew path.now (proc_of process.old) (chans_of channels.old) }
-    ensures performs { IfOk result (λ cost. Performs path.now (proc_of process.old) (chans_of channels.old) (proc_of process.new) [] (chans_of channels.new) cost) }
+    ensures performs { IfOk result (λ cost. Performs path.now (proc_of process.old) (chans_of channels.old)
+        (proc_of process.new) [] (chans_of channels.new) cost) }
     ensures stays { OnErr result (proc_of process.new ≡ proc_of process.old) }
     ensures channels { OnErr result (chans_of channels.new ≡ chans_of channels.old) }
     ensures waking { OnOk result (WakesAll channels.old channels.new) }

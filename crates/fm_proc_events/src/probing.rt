@@ -26,7 +26,8 @@ pub fn probe(
 )
     requires look { look_of (proc_of process.old) ≡ Asks (ask.Probe slot empty next) }
     requires can { CanPerform (proc_of process.old) (chans_of channels.now) }
-    ensures { Performs path.now (proc_of process.old) (chans_of channels.now) (proc_of process.new) [] (chans_of channels.now) 1 }
+    ensures { Performs path.now (proc_of process.old) (chans_of channels.now) (proc_of process.new) []
+        (chans_of channels.now) 1 }
 {
     let waits = match process.slots.port(slot) {
         Some(port) => channels.probe(port),

@@ -36,12 +36,14 @@ use fm_proc_slots::{Slots, set_word, store_all};
 use std::alloc::Global;
 use std::mem::replace;
 
-/// What a receive into operands gets of a port's channel. A message leaves it that has no more elements for an item than its operand.
+/// What a receive into operands gets of a port's channel. A message leaves it that has no more elements for an item
+/// than its operand.
 #[inline(always)]
 fn next_message(channels: &mut Channels, port: &Port, operands: &Seq<Operand>) -> Got
     requires { is_outport port.now ≡ false }
     ensures got { result ≡ got_at (limits_of operands.now) (chan_at port.now (chans_of channels.old)) }
-    ensures channels { chans_of channels.new ≡ after_op port.now (Pop (limits_of operands.now)) (chans_of channels.old) }
+    ensures channels { chans_of channels.new
+        ≡ after_op port.now (Pop (limits_of operands.now)) (chans_of channels.old) }
     ensures room { brings result ≡ true → HasRoom channels.new (channel_of port.now) }
     ensures waking { WakesAll channels.old channels.new }
 {
@@ -52,7 +54,8 @@ fn next_message(channels: &mut Channels, port: &Port, operands: &Seq<Operand>) -
 /// A message goes back to the channel of the port in a slot.
 fn put_back_at(channels: &mut Channels, slots: &Slots, slot: i64, message: Message)
     requires { (x : PortValue) → in_slot slots.now slot ≡ Some x → HasRoom channels.old (channel_of x) }
-    ensures { (x : PortValue) → in_slot slots.now slot ≡ Some x → chans_of channels.new ≡ adjust (chans_of channels.old) (channel_of x) (put_first message) }
+    ensures { (x : PortValue) → in_slot slots.now slot ≡ Some x
+        → chans_of channels.new ≡ adjust (chans_of channels.old) (channel_of x) (put_first message) }
 {
     match slots.port(slot) {
         Some(port) => channels.put_back(port, message),
@@ -78,7 +81,8 @@ struct Stored {
     drops: Vec<Port>,
 }
 
-/// A message is stored in the innermost frame, which goes on. After want of memory it comes back, and nothing has changed.
+/// A message is stored in the innermost frame, which goes on. After want of memory it comes back, and nothing has
+/// changed.
 #[inline(always)]
 fn store_message(
     alloc: Global,
@@ -89,9 +93,13 @@ fn store_message(
     message: Message,
     next: u32,
 ) -> Result<Stored, (Message, NoMemory)>
-    ensures body { OnOk result (body.new ≡ with_words body.old next (with_status (all_stored (held body.old.frame.words slots.old) items.now message).0 status (pos 0)).words) }
-    ensures slots { OnOk result (slots.new ≡ (with_status (all_stored (held body.old.frame.words slots.old) items.now message).0 status (pos 0)).slots) }
-    ensures drops { IfOk result (λ s. s.drops.items ≡ (all_stored (held body.old.frame.words slots.old) items.now message).1) }
+    ensures body { OnOk result (body.new
+        ≡ with_words body.old next
+        (with_status (all_stored (held body.old.frame.words slots.old) items.now message).0 status (pos 0)).words) }
+    ensures slots { OnOk result (slots.new
+        ≡ (with_status (all_stored (held body.old.frame.words slots.old) items.now message).0 status (pos 0)).slots) }
+    ensures drops { IfOk result
+        (λ s. s.drops.items ≡ (all_stored (held body.old.frame.words slots.old) items.now message).1) }
     ensures cost { IfOk result (λ s. s.cost ≡ 1 + message_words message) }
     ensures back { IfErr result (λ e. e.0 ≡ message) }
     ensures body_stays { OnErr result (body.new ≡ body.old) }
@@ -132,7 +140,8 @@ fn meet_end(process: &mut Process, body: Body, status: Option<u32>, at_end: Opti
 
 /// A process, whose oldest message exceeds its operands, meets a fault.
 fn meet_excess(process: &mut Process)
-    ensures { (b : declared.Body) → (proc_of process.old).body ≡ Some b → proc_of process.new ≡ (faulted (proc_of process.old) (line_of b) Subscript).self }
+    ensures { (b : declared.Body) → (proc_of process.old).body ≡ Some b
+        → proc_of process.new ≡ (faulted (proc_of process.old) (line_of b) Subscript).self }
 {
     let Some(body) = &process.body else {
         return;
@@ -143,9 +152,9 @@ fn meet_excess(process: &mut Process)
     };
 }
 
-/// Receives a message by the port in a slot, or meets the end of its channel. Where the message has more elements for an item than
-/// its operand, it stays and is a fault. The cost. After want of memory the process and the channels are as they were: the message
-/// goes back to where it was.
+/// Receives a message by the port in a slot, or meets the end of its channel. Where the message has more elements for
+/// an item than its operand, it stays and is a fault. The cost. After want of memory the process and the channels are
+/// as they were: the message goes back to where it was.
 #[inline(always)]
 pub fn receive(
     alloc: Global,
@@ -160,7 +169,8 @@ pub fn receive(
 ) -> Result<u64, NoMemory>
     requires look { look_of (proc_of process.old) ≡ Asks (ask.Receive slot items.now status at_end next) }
     requires can { CanPerform (proc_of process.old) (chans_of channels.old) }
-    ensures performs { IfOk result (λ cost. Performs path.now (proc_of process.old) (chans_of channels.old) (proc_of process.new) [] (chans_of channels.new) cost) }
+    ensures performs { IfOk result (λ cost. Performs path.now (proc_of process.old) (chans_of channels.old)
+        (proc_of process.new) [] (chans_of channels.new) cost) }
     ensures stays { OnErr result (proc_of process.new ≡ proc_of process.old) }
     ensures channels { OnErr result (chans_of channels.new ≡ chans_of channels.old) }
     ensures waking { OnOk result (WakesAll channels.old channels.new) }

@@ -62,7 +62,8 @@ fn post(channels: &mut Channels, channel: &ChanName, message: Message) -> Result
 fn reserve_at(channels: &mut Channels, slots: &Slots, slot: i64) -> Result<(), NoMemory>
     requires { (x : PortValue) → in_slot slots.now slot ≡ Some x → is_outport x ≡ true }
     ensures channels { chans_of channels.new ≡ chans_of channels.old }
-    ensures room { OnOk result ((c : declared.ChanName) → Some c ≡ channel_in (in_slot slots.now slot) → HasRoom channels.new c) }
+    ensures room { OnOk result
+        ((c : declared.ChanName) → Some c ≡ channel_in (in_slot slots.now slot) → HasRoom channels.new c) }
     ensures waking { WakesAll channels.old channels.new }
 {
     match slots.port(slot) {
@@ -71,7 +72,8 @@ fn reserve_at(channels: &mut Channels, slots: &Slots, slot: i64) -> Result<(), N
     }
 }
 
-/// A message with ports leaves a frame for a channel that has room for it. The cost. After want of memory nothing has changed.
+/// A message with ports leaves a frame for a channel that has room for it. The cost. After want of memory nothing has
+/// changed.
 fn send_ports(
     alloc: Global,
     channels: &mut Channels,
@@ -82,8 +84,10 @@ fn send_ports(
 ) -> Result<u64, NoMemory>
     requires { HasRoom channels.old channel.now }
     ensures held { OnOk result (held words.new slots.new ≡ (message_from (held words.old slots.old) items.now).0) }
-    ensures channels { OnOk result (chans_of channels.new ≡ after_send_to channel.now (message_from (held words.old slots.old) items.now).1 (chans_of channels.old)) }
-    ensures cost { IfOk result (λ cost. cost ≡ 1 + message_words (message_from (held words.old slots.old) items.now).1) }
+    ensures channels { OnOk result (chans_of channels.new
+        ≡ after_send_to channel.now (message_from (held words.old slots.old) items.now).1 (chans_of channels.old)) }
+    ensures cost { IfOk result
+        (λ cost. cost ≡ 1 + message_words (message_from (held words.old slots.old) items.now).1) }
     ensures stays { OnErr result (held words.new slots.new ≡ held words.old slots.old) }
     ensures channels_stay { OnErr result (chans_of channels.new ≡ chans_of channels.old) }
     ensures waking { OnOk result (Wakes channels.old channels.new) }
@@ -98,8 +102,9 @@ fn send_ports(
     }
 }
 
-/// A message leaves the innermost frame for the channel of the port in a slot, and the frame goes on. The cost. After want of memory
-/// nothing has changed: a message without ports is a copy, and for one with ports all room is taken first.
+/// A message leaves the innermost frame for the channel of the port in a slot, and the frame goes on. The cost. After
+/// want of memory nothing has changed: a message without ports is a copy, and for one with ports all room is taken
+/// first.
 fn send_message(
     alloc: Global,
     channels: &mut Channels,
@@ -112,10 +117,14 @@ fn send_message(
 ) -> Result<u64, NoMemory>
     requires channel { Some channel.now ≡ channel_in (in_slot slots.old slot) }
     requires outport { (x : PortValue) → in_slot slots.old slot ≡ Some x → is_outport x ≡ true }
-    ensures body { OnOk result (body.new ≡ with_words body.old next (message_from (held body.old.frame.words slots.old) items.now).0.words) }
+    ensures body { OnOk result
+        (body.new ≡ with_words body.old next (message_from (held body.old.frame.words slots.old) items.now).0.words) }
     ensures slots { OnOk result (slots.new ≡ (message_from (held body.old.frame.words slots.old) items.now).0.slots) }
-    ensures channels { OnOk result (chans_of channels.new ≡ after_send_to channel.now (message_from (held body.old.frame.words slots.old) items.now).1 (chans_of channels.old)) }
-    ensures cost { IfOk result (λ cost. cost ≡ 1 + message_words (message_from (held body.old.frame.words slots.old) items.now).1) }
+    ensures channels { OnOk result (chans_of channels.new
+        ≡ after_send_to channel.now (message_from (held body.old.frame.words slots.old) items.now).1
+        (chans_of channels.old)) }
+    ensures cost { IfOk result
+        (λ cost. cost ≡ 1 + message_words (message_from (held body.old.frame.words slots.old) items.now).1) }
     ensures body_stays { OnErr result (body.new ≡ body.old) }
     ensures slots_stay { OnErr result (slots.new ≡ slots.old) }
     ensures channels_stay { OnErr result (chans_of channels.new ≡ chans_of channels.old) }
@@ -150,7 +159,8 @@ pub fn send(
 ) -> Result<u64, NoMemory>
     requires look { look_of (proc_of process.old) ≡ Asks (ask.Send slot items.now next) }
     requires can { CanPerform (proc_of process.old) (chans_of channels.old) }
-    ensures performs { IfOk result (λ cost. Performs path.now (proc_of process.old) (chans_of channels.old) (proc_of process.new) [] (chans_of channels.new) cost) }
+    ensures performs { IfOk result (λ cost. Performs path.now (proc_of process.old) (chans_of channels.old)
+        (proc_of process.new) [] (chans_of channels.new) cost) }
     ensures stays { OnErr result (proc_of process.new ≡ proc_of process.old) }
     ensures channels { OnErr result (chans_of channels.new ≡ chans_of channels.old) }
     ensures waking { OnOk result (WakesAll channels.old channels.new) }

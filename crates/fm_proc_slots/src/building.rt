@@ -58,7 +58,8 @@ fn taken(
     requires ports { span.count ≤ vec_capacity ports }
     requires words { operand_grown (vec_len words.old) (operand.Ports span) ≤ vec_capacity words.old }
     requires slots { HasRoom slots.old span.count }
-    ensures item { (held words.new.items (slots_in slots.new), plain_item result) ≡ item_from (held words.old.items (slots_in slots.old)) (operand.Ports span) }
+    ensures item { (held words.new.items (slots_in slots.new), plain_item result)
+        ≡ item_from (held words.old.items (slots_in slots.old)) (operand.Ports span) }
     ensures len { vec_len words.new ≤ operand_grown (vec_len words.old) (operand.Ports span) }
     ensures capacity { vec_capacity words.old ≤ vec_capacity words.new }
     ensures slots { LeavesRoom span.count slots.old slots.new }
@@ -73,7 +74,8 @@ fn taken(
 fn fill(blank: Blank, words: &mut Vec<i64>, slots: &mut OpenSlots) -> Item
     requires words { operand_grown (vec_len words.old) blank.operand ≤ vec_capacity words.old }
     requires slots { HasRoom slots.old (operand_ports blank.operand) }
-    ensures item { (held words.new.items (slots_in slots.new), plain_item result) ≡ item_from (held words.old.items (slots_in slots.old)) blank.operand }
+    ensures item { (held words.new.items (slots_in slots.new), plain_item result)
+        ≡ item_from (held words.old.items (slots_in slots.old)) blank.operand }
     ensures len { vec_len words.new ≤ operand_grown (vec_len words.old) blank.operand }
     ensures capacity { vec_capacity words.old ≤ vec_capacity words.new }
     ensures slots { LeavesRoom (operand_ports blank.operand) slots.old slots.new }
@@ -96,7 +98,8 @@ fn fill_all(blanks: Vec<Blank>, words: &mut Vec<i64>, slots: &mut OpenSlots, ite
     requires slots { HasRoom slots.old (ports_room (map operand_in blanks.items)) }
     requires empty { items.old.items ≡ [] }
     requires room { length blanks.items ≤ vec_capacity items.old }
-    ensures { (held words.new.items (slots_in slots.new), map plain_item items.new.items) ≡ message_from (held words.old.items (slots_in slots.old)) (map operand_in blanks.items) }
+    ensures { (held words.new.items (slots_in slots.new), map plain_item items.new.items)
+        ≡ message_from (held words.old.items (slots_in slots.old)) (map operand_in blanks.items) }
 {
     let mut rest = VecDeque::from_vec(blanks);
     'blanks: while let Some(blank) = rest.pop_front() {
@@ -155,7 +158,8 @@ fn items_from(
     slots: &mut Slots,
     items: &[Operand],
 ) -> Result<Vec<Item>, NoMemory>
-    ensures items { IfOk result (λ v. (held words.new slots.new, map plain_item v.items) ≡ message_from (held words.old slots.old) items.now) }
+    ensures items { IfOk result
+        (λ v. (held words.new slots.new, map plain_item v.items) ≡ message_from (held words.old slots.old) items.now) }
     ensures stays { OnErr result (held words.new slots.new ≡ held words.old slots.old) }
 {
     let blanks = blanks(alloc, items)?;
@@ -177,15 +181,16 @@ fn items_from(
     }
 }
 
-/// A message of these items, from left to right, whose ports leave NULL. After want of memory the words and the slots are as they
-/// were. A message whose words and ports can't be counted is want of memory.
+/// A message of these items, from left to right, whose ports leave NULL. After want of memory the words and the slots
+/// are as they were. A message whose words and ports can't be counted is want of memory.
 pub fn ports_message(
     alloc: Global,
     words: &mut Seq<i64>,
     slots: &mut Slots,
     items: &[Operand],
 ) -> Result<Message, NoMemory>
-    ensures message { IfOk result (λ m. (held words.new slots.new, m) ≡ message_from (held words.old slots.old) items.now) }
+    ensures message { IfOk result
+        (λ m. (held words.new slots.new, m) ≡ message_from (held words.old slots.old) items.now) }
     ensures counted { IfOk result (λ m. message_words m < 18446744073709551615) }
     ensures stays { OnErr result (held words.new slots.new ≡ held words.old slots.old) }
 {

@@ -19,7 +19,8 @@ pub(crate) fn exchange(
     port: Option<Port>,
 ) -> Option<Port>
     requires { HasRoom slots.old 2 }
-    ensures exchanged { (held words.new.items (slots_in slots.new), result) ≡ exchanged (held words.old.items (slots_in slots.old)) number port }
+    ensures exchanged { (held words.new.items (slots_in slots.new), result)
+        ≡ exchanged (held words.old.items (slots_in slots.old)) number port }
     ensures len { vec_len words.new ≡ vec_len words.old }
     ensures capacity { vec_capacity words.new ≡ vec_capacity words.old }
     ensures room { LeavesRoom 2 slots.old slots.new }
@@ -43,8 +44,10 @@ pub(crate) fn exchange_all(
     requires count { length ports.items ≤ span.count }
     requires slots { HasRoom slots.old (2 * length ports.items) }
     requires drops { vec_len drops.old + length ports.items ≤ vec_capacity drops.old }
-    ensures held { held words.new.items (slots_in slots.new) ≡ (all_exchanged (held words.old.items (slots_in slots.old)) span.first ports.items).0 }
-    ensures drops { drops.new.items ≡ drops.old.items ++ (all_exchanged (held words.old.items (slots_in slots.old)) span.first ports.items).1 }
+    ensures held { held words.new.items (slots_in slots.new)
+        ≡ (all_exchanged (held words.old.items (slots_in slots.old)) span.first ports.items).0 }
+    ensures drops { drops.new.items
+        ≡ drops.old.items ++ (all_exchanged (held words.old.items (slots_in slots.old)) span.first ports.items).1 }
     ensures words { vec_len words.new ≡ vec_len words.old }
     ensures room { vec_capacity words.new ≡ vec_capacity words.old }
     ensures slots { LeavesRoom (2 * length ports.items) slots.old slots.new }

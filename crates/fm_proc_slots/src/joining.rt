@@ -39,8 +39,11 @@ pub struct Child {
 /// A port goes to its word, and what was there is let go.
 fn settle(gains: &mut Gains, number: usize, port: Port)
     requires room { HasRoomFor gains.old 1 }
-    ensures held { held gains.new.words.items (slots_in gains.new.slots) ≡ (exchanged (held gains.old.words.items (slots_in gains.old.slots)) number (Some port)).0 }
-    ensures drops { gains.new.drops.items ≡ gains.old.drops.items ++ option_to_list (exchanged (held gains.old.words.items (slots_in gains.old.slots)) number (Some port)).1 }
+    ensures held { held gains.new.words.items (slots_in gains.new.slots)
+        ≡ (exchanged (held gains.old.words.items (slots_in gains.old.slots)) number (Some port)).0 }
+    ensures drops { gains.new.drops.items
+        ≡ gains.old.drops.items
+        ++ option_to_list (exchanged (held gains.old.words.items (slots_in gains.old.slots)) number (Some port)).1 }
     ensures room { LeavesRoomFor 1 gains.old gains.new }
 {
     let out = exchange(&mut gains.words, &mut gains.slots, number, Some(port));
@@ -67,7 +70,8 @@ fn give_port(gains: &mut Gains, child: &mut Child, from: usize, to: usize)
 
 fn give_ports(gains: &mut Gains, child: &mut Child, back: Back)
     requires room { HasRoomFor gains.old back.words }
-    ensures given { GivesSo (ports_given (joined gains.old child.old) back.from back.to back.words) gains.new child.new }
+    ensures given { GivesSo (ports_given (joined gains.old child.old) back.from back.to back.words) gains.new
+        child.new }
     ensures room { LeavesRoomFor back.words gains.old gains.new }
 {
     'ports: for index in 0..back.words as usize {
@@ -117,7 +121,8 @@ fn vacate_word(slots: &mut Slots, word: i64, drops: &mut Vec<Port>)
     }
 }
 
-/// The ports at these port words are let go, one after the other. The slots that they leave aren't noted. Takes no memory.
+/// The ports at these port words are let go, one after the other. The slots that they leave aren't noted. Takes no
+/// memory.
 pub fn vacate_words(slots: &mut Slots, words: &[i64], drops: &mut Vec<Port>)
     requires room { vec_len drops.old + length words.now ≤ vec_capacity drops.old }
     ensures drops { drops.new.items ≡ drops.old.items ++ vacated slots.old (live words.now) }

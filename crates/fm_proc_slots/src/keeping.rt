@@ -23,7 +23,8 @@ fn stays(formal: Formal) -> bool
 
 /// Notes the first word of a formal whose ports stay.
 fn note_kept(first: &mut BTreeSet<u32>, formal: Formal) -> Result<(), NoMemory>
-    ensures { OnOk result ((k : ℕ) → contains nat_cmp first.new k ≡ (kept_one formal k || contains nat_cmp first.old k)) }
+    ensures { OnOk result
+        ((k : ℕ) → contains nat_cmp first.new k ≡ (kept_one formal k || contains nat_cmp first.old k)) }
 {
     if stays(formal) {
         first.insert(formal.span.first)?;
@@ -62,8 +63,10 @@ fn keep_span(
     words: &mut Seq<i64>,
     left: &mut Vec<i64>,
 ) -> Result<(), NoMemory>
-    ensures words { OnOk result (words.new ≡ cond (contains nat_cmp kept.now span.first) words.old (spliced words.old span.first (nulls span.count))) }
-    ensures left { OnOk result (left.new.items ≡ left.old.items ++ cond (contains nat_cmp kept.now span.first) [] (live (span_of words.old span))) }
+    ensures words { OnOk result (words.new
+        ≡ cond (contains nat_cmp kept.now span.first) words.old (spliced words.old span.first (nulls span.count))) }
+    ensures left { OnOk result (left.new.items
+        ≡ left.old.items ++ cond (contains nat_cmp kept.now span.first) [] (live (span_of words.old span))) }
 {
     if kept.contains(&span.first) {
         return Ok(());

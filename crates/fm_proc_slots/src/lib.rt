@@ -1,5 +1,6 @@
 //! The ports of a process of stack code, each in a numbered slot: the words of frames name slots, and 0 is NULL.
-//! Each function does to words and slots what the definition of `fm_proc_language` says, for every number that a word may have.
+//! Each function does to words and slots what the definition of `fm_proc_language` says, for every number that a word
+//! may have.
 #![tactic(auto)]
 
 mod blanks;

@@ -14,7 +14,8 @@ use fm_code::{Span, word_at, words_of};
 fn move_word(words: &mut Seq<i64>, number: usize, from: &mut OpenSlots, to: &mut OpenSlots)
     requires from { HasRoom from.old 1 }
     requires to { HasRoom to.old 1 }
-    ensures moved { (words.new, (slots_in from.new, slots_in to.new)) ≡ word_moved number words.old (slots_in from.old) (slots_in to.old) }
+    ensures moved { (words.new, (slots_in from.new, slots_in to.new))
+        ≡ word_moved number words.old (slots_in from.old) (slots_in to.old) }
     ensures from { LeavesRoom 1 from.old from.new }
     ensures to { LeavesRoom 1 to.old to.new }
 {
@@ -27,7 +28,8 @@ fn move_word(words: &mut Seq<i64>, number: usize, from: &mut OpenSlots, to: &mut
 fn move_span(span: Span, words: &mut Seq<i64>, from: &mut OpenSlots, to: &mut OpenSlots)
     requires from { HasRoom from.old span.count }
     requires to { HasRoom to.old span.count }
-    ensures moved { (words.new, (slots_in from.new, slots_in to.new)) ≡ moved_over (span ∷ []) words.old (slots_in from.old) (slots_in to.old) }
+    ensures moved { (words.new, (slots_in from.new, slots_in to.new))
+        ≡ moved_over (span ∷ []) words.old (slots_in from.old) (slots_in to.old) }
     ensures from { LeavesRoom span.count from.old from.new }
     ensures to { LeavesRoom span.count to.old to.new }
 {
@@ -41,7 +43,8 @@ fn move_span(span: Span, words: &mut Seq<i64>, from: &mut OpenSlots, to: &mut Op
 pub fn move_over(spans: &[Span], words: &mut Seq<i64>, from: &mut OpenSlots, to: &mut OpenSlots)
     requires from { HasRoom from.old (span_words spans.now) }
     requires to { HasRoom to.old (span_words spans.now) }
-    ensures moved { (words.new, (slots_in from.new, slots_in to.new)) ≡ moved_over spans.now words.old (slots_in from.old) (slots_in to.old) }
+    ensures moved { (words.new, (slots_in from.new, slots_in to.new))
+        ≡ moved_over spans.now words.old (slots_in from.old) (slots_in to.old) }
     ensures from { LeavesRoom (span_words spans.now) from.old from.new }
 {
     'spans: for span in spans {

@@ -11,8 +11,8 @@ use fm_code::is_port;
 use std::alloc::Global;
 use std::mem::replace;
 
-/// The ports of a process while a step moves them. What that takes was reserved before: contracts see the slots (`slots_in`),
-/// and how many ports may still come and go (`HasRoom`).
+/// The ports of a process while a step moves them. What that takes was reserved before: contracts see the slots
+/// (`slots_in`), and how many ports may still come and go (`HasRoom`).
 #[derive(Drop)]
 pub struct OpenSlots {
     stock: Option<Box<Stock>>,
@@ -39,7 +39,8 @@ impl Slots {
     ghost use Rattle.std.specs.Prelude.{◌≡◌, IfOk, OnErr};
     ghost use Rattle.fm_proc_slots.specs.Rooms.{HasRoom, slots_in};
 
-    /// Takes the ports out, with room for so many to come and so many to go. After want of memory the slots are as they were.
+    /// Takes the ports out, with room for so many to come and so many to go. After want of memory the slots are as they
+    /// were.
     pub fn open(&mut self, alloc: Global, room: usize) -> Result<OpenSlots, NoMemory>
         ensures opened { IfOk result (λ o. (slots_in o ≡ self.old) × HasRoom o room) }
         ensures stays { OnErr result (self.new ≡ self.old) }

@@ -56,7 +56,8 @@ fn place_next<'a>(
 ) -> &'a [u32]
     requires slots { HasRoom slots.old 2 }
     requires out { vec_len out.old < vec_capacity out.old }
-    ensures placed { PlacesPort (held words.old.items (slots_in slots.old)) numbers.now out.old.items port (held words.new.items (slots_in slots.new)) result.now out.new.items }
+    ensures placed { PlacesPort (held words.old.items (slots_in slots.old)) numbers.now out.old.items port
+        (held words.new.items (slots_in slots.new)) result.now out.new.items }
     ensures room { LeavesRoom 2 slots.old slots.new }
     ensures len { vec_len out.new ≤ vec_len out.old + 1 }
     ensures capacity { vec_capacity out.old ≤ vec_capacity out.new }
@@ -74,7 +75,8 @@ fn place_next<'a>(
     }
 }
 
-/// Ports go to words one after the other; what is let go is added, which is what was there and what finds no word. Takes no memory.
+/// Ports go to words one after the other; what is let go is added, which is what was there and what finds no word.
+/// Takes no memory.
 pub fn place_all(
     words: &mut Vec<i64>,
     slots: &mut OpenSlots,
@@ -84,8 +86,10 @@ pub fn place_all(
 )
     requires slots { HasRoom slots.old (2 * length ports.items) }
     requires out { vec_len out.old + length ports.items ≤ vec_capacity out.old }
-    ensures held { held words.new.items (slots_in slots.new) ≡ (all_placed (held words.old.items (slots_in slots.old)) numbers.now ports.items).0 }
-    ensures out { out.new.items ≡ out.old.items ++ (all_placed (held words.old.items (slots_in slots.old)) numbers.now ports.items).1 }
+    ensures held { held words.new.items (slots_in slots.new)
+        ≡ (all_placed (held words.old.items (slots_in slots.old)) numbers.now ports.items).0 }
+    ensures out { out.new.items
+        ≡ out.old.items ++ (all_placed (held words.old.items (slots_in slots.old)) numbers.now ports.items).1 }
 {
     let mut numbers = numbers;
     let mut rest = VecDeque::from_vec(ports);

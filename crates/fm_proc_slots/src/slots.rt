@@ -11,7 +11,8 @@ use std::alloc::Global;
 use std::marker::Model;
 use std::mem::replace;
 
-/// The ports of a process. The number of a slot is a word of a frame. Contracts see what stands in the slots, and which are free.
+/// The ports of a process. The number of a slot is a word of a frame. Contracts see what stands in the slots, and which
+/// are free.
 pub struct Slots {
     // none of a process that has never had room for a port, as many haven't: so it takes little
     pub(crate) stock: Option<Box<Stock>>,

@@ -49,7 +49,8 @@ impl Stock {
     /// A port leaves its slot, and the slot isn't noted as free: what stood there.
     pub fn drain(&mut self, word: i64) -> Option<Port>
         ensures port { result ≡ in_slot (slots_by self.old) word }
-        ensures slots { slots_by self.new ≡ record (slots_by self.old) { ports = slice_set (slots_by self.old).ports (before word) None } }
+        ensures slots { slots_by self.new
+            ≡ record (slots_by self.old) { ports = slice_set (slots_by self.old).ports (before word) None } }
     {
         replaced(&mut self.ports, before(word), None)
     }

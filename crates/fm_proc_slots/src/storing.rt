@@ -75,7 +75,8 @@ fn store_words(words: &mut Vec<i64>, place: Operand, items: &[i64])
 fn store_span(stage: &mut Stage, span: Span, ports: Vec<Option<Port>>)
     requires { HasRoomToStore stage.old (operand.Ports span ∷ []) (length ports.items) }
     ensures held { holds stage.new ≡ (stored (holds stage.old) (operand.Ports span) (base.Ports ports.items)).0 }
-    ensures drops { stage.new.drops.items ≡ stage.old.drops.items ++ (stored (holds stage.old) (operand.Ports span) (base.Ports ports.items)).1 }
+    ensures drops { stage.new.drops.items
+        ≡ stage.old.drops.items ++ (stored (holds stage.old) (operand.Ports span) (base.Ports ports.items)).1 }
     ensures room { LeavesRoomToStore (operand.Ports span) (length ports.items) stage.old stage.new }
 {
     let mut ports = ports;
@@ -92,7 +93,8 @@ fn store_span(stage: &mut Stage, span: Span, ports: Vec<Option<Port>>)
 fn store_ports(stage: &mut Stage, place: Operand, ports: Vec<Option<Port>>)
     requires { HasRoomToStore stage.old (place ∷ []) (length ports.items) }
     ensures held { holds stage.new ≡ (stored (holds stage.old) place (base.Ports ports.items)).0 }
-    ensures drops { stage.new.drops.items ≡ stage.old.drops.items ++ (stored (holds stage.old) place (base.Ports ports.items)).1 }
+    ensures drops { stage.new.drops.items
+        ≡ stage.old.drops.items ++ (stored (holds stage.old) place (base.Ports ports.items)).1 }
     ensures room { LeavesRoomToStore place (length ports.items) stage.old stage.new }
 {
     match place {
@@ -106,7 +108,8 @@ fn store_ports(stage: &mut Stage, place: Operand, ports: Vec<Option<Port>>)
 fn store(stage: &mut Stage, place: Operand, item: Item)
     requires { HasRoomToStore stage.old (place ∷ []) (item_slots (plain_item item)) }
     ensures held { holds stage.new ≡ (stored (holds stage.old) place (plain_item item)).0 }
-    ensures drops { stage.new.drops.items ≡ stage.old.drops.items ++ (stored (holds stage.old) place (plain_item item)).1 }
+    ensures drops { stage.new.drops.items
+        ≡ stage.old.drops.items ++ (stored (holds stage.old) place (plain_item item)).1 }
     ensures room { LeavesRoomToStore place (item_slots (plain_item item)) stage.old stage.new }
 {
     match item {
@@ -131,8 +134,10 @@ fn let_go(item: Item, drops: &mut Vec<Port>)
 /// An item is stored at the first place, or let go: the places that are left.
 fn store_next<'a>(stage: &mut Stage, places: &'a [Operand], item: Item) -> &'a [Operand]
     requires { HasRoomToStore stage.old places.now (item_slots (plain_item item)) }
-    ensures placed { PlacesMessage (holds stage.old) places.now stage.old.drops.items (plain_item item) (holds stage.new) result.now stage.new.drops.items }
-    ensures room { (n : ℕ) → HasRoomToStore stage.old places.now (item_slots (plain_item item) + n) → HasRoomToStore stage.new result.now n }
+    ensures placed { PlacesMessage (holds stage.old) places.now stage.old.drops.items (plain_item item)
+        (holds stage.new) result.now stage.new.drops.items }
+    ensures room { (n : ℕ) → HasRoomToStore stage.old places.now (item_slots (plain_item item) + n)
+        → HasRoomToStore stage.new result.now n }
 {
     match front(places) {
         Some((place, left)) => {
@@ -150,7 +155,8 @@ fn store_next<'a>(stage: &mut Stage, places: &'a [Operand], item: Item) -> &'a [
 fn store_items(stage: &mut Stage, places: &[Operand], items: Seq<Item>)
     requires { HasRoomToStore stage.old places.now (message_slots (map plain_item items)) }
     ensures held { holds stage.new ≡ (all_stored (holds stage.old) places.now (map plain_item items)).0 }
-    ensures drops { stage.new.drops.items ≡ stage.old.drops.items ++ (all_stored (holds stage.old) places.now (map plain_item items)).1 }
+    ensures drops { stage.new.drops.items
+        ≡ stage.old.drops.items ++ (all_stored (holds stage.old) places.now (map plain_item items)).1 }
 {
     let mut places = places;
     let mut rest = VecDeque::from_vec(items.into_vec());
@@ -219,7 +225,8 @@ fn store_listed(
     content: Content,
 ) -> Result<Vec<Port>, (Content, NoMemory)>
     requires { kept_word content ≡ None }
-    ensures message { IfOk result (λ v. (held words.new slots.new, v.items) ≡ all_stored (held words.old slots.old) places.now (plain_message content)) }
+    ensures message { IfOk result (λ v. (held words.new slots.new, v.items)
+        ≡ all_stored (held words.old slots.old) places.now (plain_message content)) }
     ensures back { IfErr result (λ e. e.0 ≡ content) }
     ensures stays { OnErr result (held words.new slots.new ≡ held words.old slots.old) }
 {
@@ -271,7 +278,8 @@ fn store_first(
     places: &[Operand],
     items: &[i64],
 ) -> Result<(), NoMemory>
-    ensures stored { OnOk result ((slots : PlainSlots) → (held words.new slots, []) ≡ all_stored (held words.old slots) places.now (base.Words items.now ∷ [])) }
+    ensures stored { OnOk result ((slots : PlainSlots)
+        → (held words.new slots, []) ≡ all_stored (held words.old slots) places.now (base.Words items.now ∷ [])) }
     ensures stays { OnErr result (words.new ≡ words.old) }
 {
     match front(places) {
@@ -288,7 +296,8 @@ fn store_content(
     places: &[Operand],
     content: Content,
 ) -> Result<Vec<Port>, (Content, NoMemory)>
-    ensures message { IfOk result (λ v. (held words.new slots.new, v.items) ≡ all_stored (held words.old slots.old) places.now (plain_message content)) }
+    ensures message { IfOk result (λ v. (held words.new slots.new, v.items)
+        ≡ all_stored (held words.old slots.old) places.now (plain_message content)) }
     ensures back { IfErr result (λ e. e.0 ≡ content) }
     ensures stays { OnErr result (held words.new slots.new ≡ held words.old slots.old) }
 {
@@ -301,8 +310,8 @@ fn store_content(
     }
 }
 
-/// The items of a message go to places one after the other: what is let go, which is what was there and what finds no place. After
-/// want of memory the message comes back, and the words and the slots are as they were.
+/// The items of a message go to places one after the other: what is let go, which is what was there and what finds no
+/// place. After want of memory the message comes back, and the words and the slots are as they were.
 #[inline(always)]
 pub fn store_all(
     alloc: Global,
@@ -311,7 +320,8 @@ pub fn store_all(
     places: &[Operand],
     message: Message,
 ) -> Result<Vec<Port>, (Message, NoMemory)>
-    ensures message { IfOk result (λ v. (held words.new slots.new, v.items) ≡ all_stored (held words.old slots.old) places.now message) }
+    ensures message { IfOk result
+        (λ v. (held words.new slots.new, v.items) ≡ all_stored (held words.old slots.old) places.now message) }
     ensures back { IfErr result (λ e. e.0 ≡ message) }
     ensures stays { OnErr result (held words.new slots.new ≡ held words.old slots.old) }
 {

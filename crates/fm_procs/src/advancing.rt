@@ -24,8 +24,8 @@ pub struct Advanced {
     pub next: Look,
 }
 
-/// Does statements of a process, as many as `slice` at most, and stops where the next one touches channels or other processes,
-/// or where there is none. After want of memory the process may have gone on.
+/// Does statements of a process, as many as `slice` at most, and stops where the next one touches channels or other
+/// processes, or where there is none. After want of memory the process may have gone on.
 #[inline(always)]
 pub fn advance(
     alloc: Global,

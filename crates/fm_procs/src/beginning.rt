@@ -33,7 +33,16 @@ pub fn no_loops(alloc: Global, count: u32) -> Result<Seq<Option<Trips>>, NoMemor
 
 /// The frame with which a child begins, before its words come and what it gives back.
 fn blank_frame(alloc: Global, code: &SharedCode, unit: u32) -> Result<Frame, NoMemory>
-    ensures { IfOk result (λ f. f ≡ record { unit = unit; address = 0; words = []; loops = replicate (loops_in (slice_get code.now.units unit)) None; results = []; starts = []; backs = [] }) }
+    ensures { IfOk result (λ f. f
+        ≡ record {
+          unit = unit;
+          address = 0;
+          words = [];
+          loops = replicate (loops_in (slice_get code.now.units unit)) None;
+          results = [];
+          starts = [];
+          backs = [];
+        }) }
 {
     Ok(Frame {
         unit,
@@ -127,7 +136,8 @@ fn rooms(drafts: &[Draft]) -> Result<usize, NoMemory>
 fn fill(body: &mut Body, start: Start, from: &mut OpenSlots, to: &mut OpenSlots)
     requires from { HasRoom from.old (ports_room body.old) }
     requires to { HasRoom to.old (ports_room body.old) }
-    ensures filled { (body.new, (slots_in from.new, slots_in to.new)) ≡ filled body.old start (slots_in from.old) (slots_in to.old) }
+    ensures filled { (body.new, (slots_in from.new, slots_in to.new))
+        ≡ filled body.old start (slots_in from.old) (slots_in to.old) }
     ensures left { LeavesRoom (ports_room body.old) from.old from.new }
 {
     body.frame.words = start.words;
@@ -183,7 +193,8 @@ fn put_children(
     requires room { HasRoom slots.old (rooms (map child_in drafts.items)) }
     requires empty { children.old.items ≡ [] }
     requires reserved { length drafts.items ≤ vec_capacity children.old }
-    ensures { (map boxed_of children.new.items, slots_in slots.new) ≡ all_begun (slots_in slots.old) (map child_in drafts.items) starts.items }
+    ensures { (map boxed_of children.new.items, slots_in slots.new)
+        ≡ all_begun (slots_in slots.old) (map child_in drafts.items) starts.items }
 {
     let mut drafts = VecDeque::from_vec(drafts);
     let mut starts = VecDeque::from_vec(starts);
@@ -195,7 +206,8 @@ fn put_children(
     }
 }
 
-/// The children of these drafts, to which their starts come. After want of memory the starts and the slots are as they were.
+/// The children of these drafts, to which their starts come. After want of memory the starts and the slots are as they
+/// were.
 fn children(
     alloc: Global,
     drafts: Vec<Draft>,
@@ -204,7 +216,8 @@ fn children(
 ) -> Result<Vec<Box<Process>>, NoMemory>
     requires ready { AllByRecursion IsReady drafts.items }
     requires paired { length drafts.items ≡ length starts.old }
-    ensures children { IfOk result (λ v. (map boxed_of v.items, slots.new) ≡ all_begun slots.old (map child_in drafts.items) starts.old) }
+    ensures children { IfOk result
+        (λ v. (map boxed_of v.items, slots.new) ≡ all_begun slots.old (map child_in drafts.items) starts.old) }
     ensures taken { OnOk result (starts.new ≡ []) }
     ensures stays { OnErr result ((starts.new ≡ starts.old) × (slots.new ≡ slots.old)) }
 {
@@ -260,9 +273,11 @@ fn begin_block(
     next: u32,
 ) -> Result<Block, NoMemory>
     ensures kids { IfOk result (λ g. map kid_of g.kids ≡ map code.kid_of body.old.frame.starts) }
-    ensures children { IfOk result (λ g. (map boxed_of g.done.children.items, slots.new) ≡ children_of body.old slots.old body.old.frame.starts) }
+    ensures children { IfOk result
+        (λ g. (map boxed_of g.done.children.items, slots.new) ≡ children_of body.old slots.old body.old.frame.starts) }
     ensures cost { IfOk result (λ g. g.done.cost ≡ 1 + length body.old.frame.starts) }
-    ensures body { IfOk result (λ g. body.new ≡ record body.old { frame = record body.old.frame { starts = []; address = next } }) }
+    ensures body { IfOk result
+        (λ g. body.new ≡ record body.old { frame = record body.old.frame { starts = []; address = next } }) }
     ensures stays { OnErr result ((body.new ≡ body.old) × (slots.new ≡ slots.old)) }
 {
     let kids = kids(alloc, body.frame.starts.as_slice())?;
@@ -276,7 +291,8 @@ fn begin_block(
     })
 }
 
-/// All starts of the innermost frame begin as the next block, and the process joins. After want of memory it is as it was.
+/// All starts of the innermost frame begin as the next block, and the process joins. After want of memory it is as it
+/// was.
 pub(crate) fn begin(
     alloc: Global,
     path: &Path,
@@ -285,7 +301,8 @@ pub(crate) fn begin(
 ) -> Result<StepEnd, NoMemory>
     requires look { look_of (proc_of process.old) ≡ Asks (ask.Begin next) }
     requires running { is_running (proc_of process.old) ≡ true }
-    ensures performs { IfOk result (λ d. (cs : Chans) → Performs path.now (proc_of process.old) cs (proc_of process.new) (map boxed_of d.children.items) cs d.cost) }
+    ensures performs { IfOk result (λ d. (cs : Chans)
+        → Performs path.now (proc_of process.old) cs (proc_of process.new) (map boxed_of d.children.items) cs d.cost) }
     ensures stays { OnErr result (proc_of process.new ≡ proc_of process.old) }
 {
     let block = process.next_block;

@@ -47,8 +47,11 @@ pub fn note(procs: &mut CodeProcs, number: u32) -> Result<(), NoMemory>
     requires waits { can_at (state_of procs.old) (order_of procs.old.entries) number ≡ false }
     ensures entries { OnOk result (procs.new.entries ≡ procs.old.entries) }
     ensures channels { OnOk result (chans_of procs.new.channels ≡ chans_of procs.old.channels) }
-    ensures noted { OnOk result ((q : Place) (y : CodeProc) → place_at procs.old.entries.rows number ≡ Some q → get (procs_of procs.old.entries) q ≡ Some y →
-        ((c : declared_channel.ChanName) → channel_waited y ≡ Some c → contains_key (chans_of procs.old.channels) c ≡ true) → IsNoted procs.new.channels number y) }
+    ensures noted { OnOk result ((q : Place) (y : CodeProc) → place_at procs.old.entries.rows number ≡ Some q
+        → get (procs_of procs.old.entries) q ≡ Some y
+        → ((c : declared_channel.ChanName) → channel_waited y ≡ Some c
+        → contains_key (chans_of procs.old.channels) c ≡ true)
+        → IsNoted procs.new.channels number y) }
     ensures waking { OnOk result (WakesAll procs.old.channels procs.new.channels) }
 {
     procs.note(&(), number)

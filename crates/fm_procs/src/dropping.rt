@@ -26,7 +26,8 @@ fn drop_span(words: &[i64], span: Span, slots: &mut Slots, drops: &mut Vec<Port>
 /// Lets go the ports at the words of a unit.
 fn drop_unit(code: &SharedCode, unit: u32, words: &[i64], slots: &mut Slots, drops: &mut Vec<Port>)
     requires room { vec_len drops.old + unit_room code.now unit ≤ vec_capacity drops.old }
-    ensures sheds { Sheds (ports_in (ports_of (slice_get code.now.units unit)) words.now) slots.old drops.old.items slots.new drops.new.items }
+    ensures sheds { Sheds (ports_in (ports_of (slice_get code.now.units unit)) words.now) slots.old drops.old.items
+        slots.new drops.new.items }
     ensures len { vec_len drops.new ≤ vec_len drops.old + unit_room code.now unit }
     ensures capacity { vec_capacity drops.old ≤ vec_capacity drops.new }
 {

@@ -29,8 +29,10 @@ struct Rest {
 
 /// Adds the ports of all frames but the process's own, innermost first: that one.
 fn push_frames<'a>(body: &'a Body, ports: &mut Seq<i64>) -> Result<&'a Frame, NoMemory>
-    ensures frame { IfOk result (λ f. (ended_frame body.now f.now []).0 ≡ (ended_frame body.now body.now.frame body.now.below).0) }
-    ensures ports { IfOk result (λ f. ports.new ++ (ended_frame body.now f.now []).1 ≡ ports.old ++ (ended_frame body.now body.now.frame body.now.below).1) }
+    ensures frame { IfOk result
+        (λ f. (ended_frame body.now f.now []).0 ≡ (ended_frame body.now body.now.frame body.now.below).0) }
+    ensures ports { IfOk result (λ f. ports.new ++ (ended_frame body.now f.now []).1
+        ≡ ports.old ++ (ended_frame body.now body.now.frame body.now.below).1) }
 {
     let frames = body.below.outermost_first();
     let mut frame = &body.frame;
@@ -85,7 +87,8 @@ fn rest_of(alloc: Global, body: &Body) -> Result<Rest, NoMemory>
 
 /// Leaves all frames but the process's own. Takes no memory.
 fn leave_frames(body: &mut Body)
-    ensures frame { (ended_frame body.old body.new.frame []).0 ≡ (ended_frame body.old body.old.frame body.old.below).0 }
+    ensures frame { (ended_frame body.old body.new.frame []).0
+        ≡ (ended_frame body.old body.old.frame body.old.below).0 }
     ensures body { body.new ≡ record body.old { frame = body.new.frame; below = [] } }
 {
     'frames: while let Some(frame) = body.below.pop() {
@@ -95,7 +98,9 @@ fn leave_frames(body: &mut Body)
 
 /// Leaves the process's own frame with these words, and nothing else. Takes no memory.
 fn end_body(body: &mut Body, words: Seq<i64>)
-    ensures { body.new ≡ record body.old { frame = record (ended_frame body.old body.old.frame body.old.below).0 { words = words }; below = [] } }
+    ensures { body.new
+        ≡ record body.old
+        { frame = record (ended_frame body.old body.old.frame body.old.below).0 { words = words }; below = [] } }
 {
     leave_frames(body);
     body.frame.words = words;
@@ -105,7 +110,8 @@ fn end_body(body: &mut Body, words: Seq<i64>)
 
 /// Whether all ports of the innermost frame stay, and it has no start.
 fn keeps_frame(body: &Body) -> bool
-    ensures { result ≡ true → ended_frame body.now body.now.frame [] ≡ (record body.now.frame { results = []; starts = [] }, []) }
+    ensures { result ≡ true
+        → ended_frame body.now body.now.frame [] ≡ (record body.now.frame { results = []; starts = [] }, []) }
 {
     if !body.frame.starts.is_empty() {
         return false;
@@ -119,7 +125,8 @@ fn keeps_frame(body: &Body) -> bool
 /// Whether a process is in its own frame, which has no start, and all its ports stay.
 fn ends_whole(body: &Body) -> bool
     ensures alone { result ≡ true → body.now.below ≡ [] }
-    ensures whole { result ≡ true → ended_frame body.now body.now.frame [] ≡ (record body.now.frame { results = []; starts = [] }, []) }
+    ensures whole { result ≡ true
+        → ended_frame body.now body.now.frame [] ≡ (record body.now.frame { results = []; starts = [] }, []) }
 {
     match body.below.first() {
         Some(_) => false,
@@ -144,9 +151,11 @@ pub(crate) fn end(
 ) -> Result<(), NoMemory>
     requires look { look_of (proc_of process.old) ≡ Asks ask.End }
     requires running { is_running (proc_of process.old) ≡ true }
-    ensures performs { OnOk result (Performs path.now (proc_of process.old) (chans_of channels.old) (proc_of process.new) [] (chans_of channels.new) 1) }
+    ensures performs { OnOk result (Performs path.now (proc_of process.old) (chans_of channels.old)
+        (proc_of process.new) [] (chans_of channels.new) 1) }
     ensures waking { OnOk result (WakesAll channels.old channels.new) }
-    ensures stays { OnErr result ((proc_of process.new ≡ proc_of process.old) × (chans_of channels.new ≡ chans_of channels.old)) }
+    ensures stays { OnErr result
+        ((proc_of process.new ≡ proc_of process.old) × (chans_of channels.new ≡ chans_of channels.old)) }
 {
     let Some(body) = &mut process.body else {
         unreachable!()

@@ -32,12 +32,16 @@ fn put_end_of(
     done: &Done,
 ) -> Result<Advanced, NoMemory>
     requires actor { IsActor entries.old actor.now }
-    requires running { (y : CodeProc) → get (procs_of entries.old) (actor_place actor.now) ≡ Some y → is_running y ≡ true }
-    requires own { (y : CodeProc) → get (procs_of entries.old) (actor_place actor.now) ≡ Some y → y.body ≡ Some done.now.start.value }
+    requires running { (y : CodeProc) → get (procs_of entries.old) (actor_place actor.now) ≡ Some y
+        → is_running y ≡ true }
+    requires own { (y : CodeProc) → get (procs_of entries.old) (actor_place actor.now) ≡ Some y
+        → y.body ≡ Some done.now.start.value }
     ensures order { OnOk result (order_of entries.new ≡ order_of entries.old) }
     ensures families { OnOk result (AreFamilies entries.old → AreFamilies entries.new) }
-    ensures told { OnOk result (AreToldBut (actor_place actor.now) entries.old → AreToldBut (actor_place actor.now) entries.new) }
-    ensures advances { IfOk result (λ a. (y : CodeProc) → get (procs_of entries.old) (actor_place actor.now) ≡ Some y → AdvancesAt done.now.steps (actor_place actor.now) y a (procs_of entries.old) (procs_of entries.new)) }
+    ensures told { OnOk result
+        (AreToldBut (actor_place actor.now) entries.old → AreToldBut (actor_place actor.now) entries.new) }
+    ensures advances { IfOk result (λ a. (y : CodeProc) → get (procs_of entries.old) (actor_place actor.now) ≡ Some y
+        → AdvancesAt done.now.steps (actor_place actor.now) y a (procs_of entries.old) (procs_of entries.new)) }
     ensures steps { IfOk result (λ a. a.steps ≡ done.now.steps) }
 {
     match entries.rows.get_mut(actor.number) {
@@ -58,12 +62,15 @@ fn finish_piece(
     requires families { AreFamilies procs.old.entries }
     requires actor { IsActor procs.old.entries actor.now }
     requires new { IsNewAt (state_of procs.old) (actor_place actor.now) }
-    requires look { (y : CodeProc) → get (procs_of procs.old.entries) (actor_place actor.now) ≡ Some y → look_of y ≡ next }
+    requires look { (y : CodeProc) → get (procs_of procs.old.entries) (actor_place actor.now) ≡ Some y
+        → look_of y ≡ next }
     requires own { next ≡ look.Goes → is_local_at (state_of procs.old) (actor_place actor.now) ≡ true }
     requires told { AreToldBut (actor_place actor.now) procs.old.entries }
     ensures kept { OnOk result (AreKept procs.new.entries) }
-    ensures order { IfOk result (λ r. order_of procs.new.entries ≡ order_of procs.old.entries ++ child_places (actor_place actor.now) r.block 1 r.started) }
-    ensures steps { IfOk result (λ r. Finishes (state_of procs.old) (actor_place actor.now) steps cost r (state_of procs.new)) }
+    ensures order { IfOk result (λ r. order_of procs.new.entries
+        ≡ order_of procs.old.entries ++ child_places (actor_place actor.now) r.block 1 r.started) }
+    ensures steps { IfOk result
+        (λ r. Finishes (state_of procs.old) (actor_place actor.now) steps cost r (state_of procs.new)) }
     ensures waking { OnOk result (WakesAll procs.old.channels procs.new.channels) }
 {
     match next {
@@ -79,7 +86,8 @@ fn finish_piece(
     }
 }
 
-// A process gets what came of a slice, and makes its step behind it that concerns others, if it comes to one that it can make.
+// A process gets what came of a slice, and makes its step behind it that concerns others, if it comes to one that it
+// can make.
 fn given_piece(
     procs: &mut CodeProcs,
     alloc: Global,
@@ -89,13 +97,17 @@ fn given_piece(
     requires families { AreFamilies procs.old.entries }
     requires actor { IsActor procs.old.entries actor.now }
     requires new { IsNewAlong (state_of procs.old) (actor_place actor.now) }
-    requires look { (y : CodeProc) → get (procs_of procs.old.entries) (actor_place actor.now) ≡ Some y → look_of y ≡ look.Goes }
+    requires look { (y : CodeProc) → get (procs_of procs.old.entries) (actor_place actor.now) ≡ Some y
+        → look_of y ≡ look.Goes }
     requires can { is_some (code_step (state_of procs.old) (actor_place actor.now)) ≡ true }
     requires told { AreToldBut (actor_place actor.now) procs.old.entries }
-    requires own { (y : CodeProc) → get (procs_of procs.old.entries) (actor_place actor.now) ≡ Some y → y.body ≡ Some done.now.start.value }
+    requires own { (y : CodeProc) → get (procs_of procs.old.entries) (actor_place actor.now) ≡ Some y
+        → y.body ≡ Some done.now.start.value }
     ensures kept { OnOk result (AreKept procs.new.entries) }
-    ensures order { IfOk result (λ r. order_of procs.new.entries ≡ order_of procs.old.entries ++ child_places (actor_place actor.now) r.block 1 r.started) }
-    ensures piece { IfOk result (λ r. IsPiece done.now.steps true (state_of procs.old) (actor_place actor.now) r (state_of procs.new)) }
+    ensures order { IfOk result (λ r. order_of procs.new.entries
+        ≡ order_of procs.old.entries ++ child_places (actor_place actor.now) r.block 1 r.started) }
+    ensures piece { IfOk result
+        (λ r. IsPiece done.now.steps true (state_of procs.old) (actor_place actor.now) r (state_of procs.new)) }
     ensures steps { IfOk result (λ r. (r.steps ≡ done.now.steps) ⊎ (r.steps ≡ done.now.steps + 1)) }
     ensures waking { OnOk result (WakesAll procs.old.channels procs.new.channels) }
 {
@@ -109,8 +121,8 @@ fn given_piece(
     finish_piece(procs, alloc, actor, steps, cost, next)
 }
 
-/// Makes a piece of a process, which can step, of what came of a slice that was made from a copy of it, as it stands: the
-/// statements of the slice, and then its step that concerns others, if it comes to one that it can make.
+/// Makes a piece of a process, which can step, of what came of a slice that was made from a copy of it, as it stands:
+/// the statements of the slice, and then its step that concerns others, if it comes to one that it can make.
 ///
 /// After want of memory these aren't to be used any more.
 pub fn give_piece(
@@ -123,10 +135,13 @@ pub fn give_piece(
     requires actor { IsActor procs.old.entries actor.now }
     requires new { IsNewAlong (state_of procs.old) (actor_place actor.now) }
     requires can { is_some (code_step (state_of procs.old) (actor_place actor.now)) ≡ true }
-    requires own { (y : CodeProc) → get (procs_of procs.old.entries) (actor_place actor.now) ≡ Some y → y.body ≡ Some done.now.start.value }
+    requires own { (y : CodeProc) → get (procs_of procs.old.entries) (actor_place actor.now) ≡ Some y
+        → y.body ≡ Some done.now.start.value }
     ensures kept { OnOk result (AreKept procs.new.entries) }
-    ensures order { IfOk result (λ r. order_of procs.new.entries ≡ order_of procs.old.entries ++ child_places (actor_place actor.now) r.block 1 r.started) }
-    ensures piece { IfOk result (λ r. IsPiece done.now.steps true (state_of procs.old) (actor_place actor.now) r (state_of procs.new)) }
+    ensures order { IfOk result (λ r. order_of procs.new.entries
+        ≡ order_of procs.old.entries ++ child_places (actor_place actor.now) r.block 1 r.started) }
+    ensures piece { IfOk result
+        (λ r. IsPiece done.now.steps true (state_of procs.old) (actor_place actor.now) r (state_of procs.new)) }
     ensures steps { IfOk result (λ r. (r.steps ≡ done.now.steps) ⊎ (r.steps ≡ done.now.steps + 1)) }
     ensures waking { OnOk result (WakesAll procs.old.channels procs.new.channels) }
 {

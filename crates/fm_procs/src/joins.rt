@@ -58,7 +58,8 @@ fn child_number(family: Family, place: usize) -> u32
 
 // The room for all ports that a process still has.
 fn left_room_of(entries: &Entries, number: u32) -> Result<usize, NoMemory>
-    ensures { IfOk result (λ n. (q : Place) (y : CodeProc) → place_at entries.now.rows number ≡ Some q → get (procs_of entries.now) q ≡ Some y → n ≡ left_room y.body) }
+    ensures { IfOk result (λ n. (q : Place) (y : CodeProc) → place_at entries.now.rows number ≡ Some q
+        → get (procs_of entries.now) q ≡ Some y → n ≡ left_room y.body) }
 {
     match entries.process(number) {
         Some(process) => left_room(&process.held),
@@ -68,8 +69,10 @@ fn left_room_of(entries: &Entries, number: u32) -> Result<usize, NoMemory>
 
 // The room for all ports that the children of a family still have.
 fn lefts_room(entries: &Entries, family: Family) -> Result<usize, NoMemory>
-    ensures { IfOk result (λ n. (q : Place) (b : ℕ) (children : List CodeProc) → AreChildren (order_of entries.now) family.first q b family.count →
-        gathered is_done (procs_of entries.now) q b 1 family.count ≡ Some children → n ≡ lefts_room (map left_by children)) }
+    ensures { IfOk result (λ n. (q : Place) (b : ℕ) (children : List CodeProc)
+        → AreChildren (order_of entries.now) family.first q b family.count
+        → gathered is_done (procs_of entries.now) q b 1 family.count ≡ Some children
+        → n ≡ lefts_room (map left_by children)) }
 {
     let mut room: usize = 0;
     'children: for place in 0..family.count {
@@ -81,8 +84,8 @@ fn lefts_room(entries: &Entries, family: Family) -> Result<usize, NoMemory>
     Ok(room)
 }
 
-// Begins the join of a process, with room for so many ports that its children still have. After want of memory nothing has
-// changed.
+// Begins the join of a process, with room for so many ports that its children still have. After want of memory nothing
+// has changed.
 fn open_join_of(
     alloc: Global,
     entries: &mut Entries,
@@ -91,12 +94,15 @@ fn open_join_of(
     room: usize,
 ) -> Result<OpenJoin, NoMemory>
     requires actor { IsActor entries.old actor.now }
-    requires look { (y : CodeProc) → get (procs_of entries.old) (actor_place actor.now) ≡ Some y → look_of y ≡ look.Asks (ask.Join next) }
-    requires joining { (y : CodeProc) → get (procs_of entries.old) (actor_place actor.now) ≡ Some y → is_joining y ≡ true }
+    requires look { (y : CodeProc) → get (procs_of entries.old) (actor_place actor.now) ≡ Some y
+        → look_of y ≡ look.Asks (ask.Join next) }
+    requires joining { (y : CodeProc) → get (procs_of entries.old) (actor_place actor.now) ≡ Some y
+        → is_joining y ≡ true }
     ensures order { order_of entries.new ≡ order_of entries.old }
     ensures told { AreToldBut (actor_place actor.now) entries.old → AreToldBut (actor_place actor.now) entries.new }
     ensures families { AreFamilies entries.old → AreFamilies entries.new }
-    ensures opens { IfOk result (λ j. (y : CodeProc) → get (procs_of entries.old) (actor_place actor.now) ≡ Some y → OpensAt (actor_place actor.now) y j (procs_of entries.old) (procs_of entries.new)) }
+    ensures opens { IfOk result (λ j. (y : CodeProc) → get (procs_of entries.old) (actor_place actor.now) ≡ Some y
+        → OpensAt (actor_place actor.now) y j (procs_of entries.old) (procs_of entries.new)) }
     ensures room { IfOk result (λ j. HasRoomToJoin j room) }
     ensures stays { OnErr result (procs_of entries.new ≡ procs_of entries.old) }
 {
@@ -113,10 +119,14 @@ fn take_children(alloc: Global, entries: &mut Entries, family: Family, join: &mu
     ensures order { order_of entries.new ≡ order_of entries.old }
     ensures processes { (q : Place) (b : ℕ) → AreChildren (order_of entries.old) family.first q b family.count →
         procs_of entries.new ≡ alters (child_changes emptied q b 1 family.count) (procs_of entries.old) }
-    ensures joined { (q : Place) (b : ℕ) (children : List CodeProc) (y z : CodeProc) → AreChildren (order_of entries.old) family.first q b family.count →
-        gathered is_done (procs_of entries.old) q b 1 family.count ≡ Some children → HasJoined y [] z join.old → HasJoined y (map left_by children) z join.new }
-    ensures told { (own q : Place) (b : ℕ) (children : List CodeProc) → AreChildren (order_of entries.old) family.first q b family.count →
-        gathered is_done (procs_of entries.old) q b 1 family.count ≡ Some children → AreToldBut own entries.old → AreToldBut own entries.new }
+    ensures joined { (q : Place) (b : ℕ) (children : List CodeProc) (y z : CodeProc)
+        → AreChildren (order_of entries.old) family.first q b family.count
+        → gathered is_done (procs_of entries.old) q b 1 family.count ≡ Some children
+        → HasJoined y [] z join.old → HasJoined y (map left_by children) z join.new }
+    ensures told { (own q : Place) (b : ℕ) (children : List CodeProc)
+        → AreChildren (order_of entries.old) family.first q b family.count
+        → gathered is_done (procs_of entries.old) q b 1 family.count ≡ Some children
+        → AreToldBut own entries.old → AreToldBut own entries.new }
     ensures families { AreFamilies entries.old → AreFamilies entries.new }
 {
     'children: for place in 0..family.count {
@@ -133,9 +143,13 @@ fn close_join(entries: &mut Entries, actor: &Actor, join: OpenJoin, channels: &m
     requires actor { IsActor entries.old actor.now }
     ensures order { order_of entries.new ≡ order_of entries.old }
     ensures told { AreToldBut (actor_place actor.now) entries.old → AreToldBut (actor_place actor.now) entries.new }
-    ensures families { AreFamiliesBut (actor_place actor.now) entries.old → AreFamiliesBut (actor_place actor.now) entries.new }
-    ensures joins { (y z : CodeProc) (children : List CodeProc) → get (procs_of entries.old) (actor_place actor.now) ≡ Some z → HasJoined y (map left_by children) z join →
-        JoinsAt (actor_place actor.now) y children (chans_of channels.old) (procs_of entries.old) (procs_of entries.new) (chans_of channels.new) result }
+    ensures families { AreFamiliesBut (actor_place actor.now) entries.old
+        → AreFamiliesBut (actor_place actor.now) entries.new }
+    ensures joins { (y z : CodeProc) (children : List CodeProc)
+        → get (procs_of entries.old) (actor_place actor.now) ≡ Some z
+        → HasJoined y (map left_by children) z join
+        → JoinsAt (actor_place actor.now) y children (chans_of channels.old) (procs_of entries.old)
+        (procs_of entries.new) (chans_of channels.new) result }
     ensures waking { WakesAll channels.old channels.new }
 {
     match entries.rows.get_mut(actor.number) {
@@ -154,17 +168,24 @@ fn join(
     next: u32,
 ) -> Result<u64, NoMemory>
     requires actor { IsActor entries.old actor.now }
-    requires look { (y : CodeProc) → get (procs_of entries.old) (actor_place actor.now) ≡ Some y → look_of y ≡ look.Asks (ask.Join next) }
-    requires joining { (y : CodeProc) → get (procs_of entries.old) (actor_place actor.now) ≡ Some y → is_joining y ≡ true }
+    requires look { (y : CodeProc) → get (procs_of entries.old) (actor_place actor.now) ≡ Some y
+        → look_of y ≡ look.Asks (ask.Join next) }
+    requires joining { (y : CodeProc) → get (procs_of entries.old) (actor_place actor.now) ≡ Some y
+        → is_joining y ≡ true }
     requires ended { HaveEnded entries.old (actor_place actor.now) family }
     ensures order { order_of entries.new ≡ order_of entries.old }
     ensures told { AreToldBut (actor_place actor.now) entries.old → AreToldBut (actor_place actor.now) entries.new }
     ensures families { OnOk result (AreFamilies entries.old → AreFamiliesBut (actor_place actor.now) entries.new) }
-    ensures joins { IfOk result (λ cost. (y : CodeProc) (b : ℕ) (children : List CodeProc) → get (procs_of entries.old) (actor_place actor.now) ≡ Some y →
-        AreChildren (order_of entries.old) family.first (actor_place actor.now) b family.count → gathered is_done (procs_of entries.old) (actor_place actor.now) b 1 family.count ≡ Some children →
-        JoinsAt (actor_place actor.now) y children (chans_of channels.old) (alters (child_changes emptied (actor_place actor.now) b 1 family.count) (procs_of entries.old)) (procs_of entries.new) (chans_of channels.new) cost) }
+    ensures joins { IfOk result (λ cost. (y : CodeProc) (b : ℕ) (children : List CodeProc)
+        → get (procs_of entries.old) (actor_place actor.now) ≡ Some y
+        → AreChildren (order_of entries.old) family.first (actor_place actor.now) b family.count
+        → gathered is_done (procs_of entries.old) (actor_place actor.now) b 1 family.count ≡ Some children
+        → JoinsAt (actor_place actor.now) y children (chans_of channels.old)
+        (alters (child_changes emptied (actor_place actor.now) b 1 family.count) (procs_of entries.old))
+        (procs_of entries.new) (chans_of channels.new) cost) }
     ensures waking { OnOk result (WakesAll channels.old channels.new) }
-    ensures stays { OnErr result ((procs_of entries.new ≡ procs_of entries.old) × (chans_of channels.new ≡ chans_of channels.old)) }
+    ensures stays { OnErr result
+        ((procs_of entries.new ≡ procs_of entries.old) × (chans_of channels.new ≡ chans_of channels.old)) }
     ensures families_stay { OnErr result (AreFamilies entries.old → AreFamilies entries.new) }
 {
     number_behind(family.first, family.count)?;
@@ -174,7 +195,8 @@ fn join(
     Ok(close_join(entries, actor, join, channels))
 }
 
-/// Joins a process with the children of its block, which have ended: the cost. After want of memory nothing has changed.
+/// Joins a process with the children of its block, which have ended: the cost. After want of memory nothing has
+/// changed.
 pub(crate) fn join_block(
     alloc: Global,
     entries: &mut Entries,
@@ -184,15 +206,22 @@ pub(crate) fn join_block(
 ) -> Result<u64, NoMemory>
     requires families { AreFamilies entries.old }
     requires actor { IsActor entries.old actor.now }
-    requires can { is_some (code_step (record { procs = procs_of entries.old; chans = chans_of channels.old }) (actor_place actor.now)) ≡ true }
-    requires look { (y : CodeProc) → get (procs_of entries.old) (actor_place actor.now) ≡ Some y → look_of y ≡ look.Asks (ask.Join next) }
-    ensures step { IfOk result (λ cost. code_step (record { procs = procs_of entries.old; chans = chans_of channels.old }) (actor_place actor.now) ≡ Some (record { procs = procs_of entries.new; chans = chans_of channels.new }, cost)) }
-    ensures starts { OnOk result (starts_at code_language (record { procs = procs_of entries.old; chans = chans_of channels.old }) (actor_place actor.now) ≡ []) }
+    requires can { is_some
+        (code_step (record { procs = procs_of entries.old; chans = chans_of channels.old }) (actor_place actor.now))
+        ≡ true }
+    requires look { (y : CodeProc) → get (procs_of entries.old) (actor_place actor.now) ≡ Some y
+        → look_of y ≡ look.Asks (ask.Join next) }
+    ensures step { IfOk result (λ cost. code_step
+        (record { procs = procs_of entries.old; chans = chans_of channels.old }) (actor_place actor.now)
+        ≡ Some (record { procs = procs_of entries.new; chans = chans_of channels.new }, cost)) }
+    ensures starts { OnOk result (starts_at code_language
+        (record { procs = procs_of entries.old; chans = chans_of channels.old }) (actor_place actor.now) ≡ []) }
     ensures families { OnOk result (AreFamilies entries.new) }
     ensures order { order_of entries.new ≡ order_of entries.old }
     ensures told { AreToldBut (actor_place actor.now) entries.old → AreToldBut (actor_place actor.now) entries.new }
     ensures waking { OnOk result (WakesAll channels.old channels.new) }
-    ensures stays { OnErr result ((procs_of entries.new ≡ procs_of entries.old) × (chans_of channels.new ≡ chans_of channels.old)) }
+    ensures stays { OnErr result
+        ((procs_of entries.new ≡ procs_of entries.old) × (chans_of channels.new ≡ chans_of channels.old)) }
     ensures families_stay { OnErr result (AreFamilies entries.new) }
 {
     let family = entries.family(actor.number);

@@ -17,8 +17,8 @@ use fm_proc_events::{Process, shed, vacate};
 use fm_proc_slots::Slots;
 use std::alloc::Global;
 
-/// Does the next statement, after which these ports are let go. The cost. After want of memory the process and the channels are as
-/// they were.
+/// Does the next statement, after which these ports are let go. The cost. After want of memory the process and the
+/// channels are as they were.
 pub(crate) fn let_go(
     alloc: Global,
     work: &mut Work,
@@ -29,7 +29,8 @@ pub(crate) fn let_go(
 ) -> Result<u64, NoMemory>
     requires look { look_of (proc_of process.old) ≡ Asks (ask.LetGo slots) }
     requires can { CanPerform (proc_of process.old) (chans_of channels.old) }
-    ensures performs { IfOk result (λ cost. Performs path.now (proc_of process.old) (chans_of channels.old) (proc_of process.new) [] (chans_of channels.new) cost) }
+    ensures performs { IfOk result (λ cost. Performs path.now (proc_of process.old) (chans_of channels.old)
+        (proc_of process.new) [] (chans_of channels.new) cost) }
     ensures stays { OnErr result (proc_of process.new ≡ proc_of process.old) }
     ensures channels { OnErr result (chans_of channels.new ≡ chans_of channels.old) }
     ensures waking { OnOk result (WakesAll channels.old channels.new) }

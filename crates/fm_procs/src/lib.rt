@@ -1,12 +1,13 @@
 //! Processes of stack code over channels.
 //!
-//! Of one process: what it does next (`next_look`), statements of its own (`advance`), its event (`perform`), letting ports go
-//! (`release`), starting, joining, ending. Contracts say that it is what `code_language` of `fm_proc_language` says, for every process,
-//! however its words and slots stand.
+//! Of one process: what it does next (`next_look`), statements of its own (`advance`), its event (`perform`), letting
+//! ports go (`release`), starting, joining, ending. Contracts say that it is what `code_language` of `fm_proc_language`
+//! says, for every process, however its words and slots stand.
 //!
-//! Of all of them: contracts see the processes and channels (`CodeProcs`) as a state of the machine of stack code (`state_of`): a step of a
-//! process is the step of that machine (`code_step`), and a piece is so many of them (`IsPiece`). Of each process it is kept what it does
-//! next, and the number of the first of the children that it waits for (`AreKept`): a process that waits isn't asked again.
+//! Of all of them: contracts see the processes and channels (`CodeProcs`) as a state of the machine of stack code
+//! (`state_of`): a step of a process is the step of that machine (`code_step`), and a piece is so many of them
+//! (`IsPiece`). Of each process it is kept what it does next, and the number of the first of the children that it waits
+//! for (`AreKept`): a process that waits isn't asked again.
 #![tactic(auto)]
 
 mod advancing;

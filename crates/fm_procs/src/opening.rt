@@ -66,7 +66,8 @@ fn give_back_if(gains: &mut Gains, child: &mut Child, same: bool, backs: &[Back]
 /// A child that was there gives back, and then all that it still has is let go.
 fn take_body(alloc: Global, gains: &mut Gains, body: Body, slots: Slots, unit: u32, backs: &[Back])
     requires room { HasRoomFor gains.old (back_words backs.now + body_room body) }
-    ensures back { mine_of (kid_back (gained gains.old) (record { unit = unit; backs = backs.now }) slots (Some body)) ≡ mine_of (gained gains.new) }
+    ensures back { mine_of (kid_back (gained gains.old) (record { unit = unit; backs = backs.now }) slots (Some body))
+        ≡ mine_of (gained gains.new) }
     ensures room { LeavesRoomFor (back_words backs.now + body_room body) gains.old gains.new }
 {
     let mut body = body;
@@ -81,7 +82,9 @@ fn take_body(alloc: Global, gains: &mut Gains, body: Body, slots: Slots, unit: u
 /// What a child left comes to its parent.
 fn take_left(alloc: Global, gains: &mut Gains, left: Left, unit: u32, backs: &[Back])
     requires room { HasRoomFor gains.old (back_words backs.now + left_room left.body) }
-    ensures back { mine_of (kid_back (gained gains.old) (record { unit = unit; backs = backs.now }) left.slots left.body) ≡ mine_of (gained gains.new) }
+    ensures back { mine_of
+        (kid_back (gained gains.old) (record { unit = unit; backs = backs.now }) left.slots left.body)
+        ≡ mine_of (gained gains.new) }
     ensures room { LeavesRoomFor (back_words backs.now + left_room left.body) gains.old gains.new }
 {
     let Left { body, slots } = left;
@@ -141,8 +144,8 @@ struct Opened {
     cost: u64,
 }
 
-/// Takes all memory that a join needs, of which the children still have so much at most. After want of memory the parent is as it
-/// was.
+/// Takes all memory that a join needs, of which the children still have so much at most. After want of memory the
+/// parent is as it was.
 fn open_body(
     alloc: Global,
     body: &mut Body,
@@ -163,8 +166,8 @@ fn open_body(
     Ok(Opened { gains, cost })
 }
 
-/// A join under way: what the parent has, the children that it hasn't joined yet, where it goes on, and the cost. Contracts say which
-/// children a process has joined (`HasJoined`).
+/// A join under way: what the parent has, the children that it hasn't joined yet, where it goes on, and the cost.
+/// Contracts say which children a process has joined (`HasJoined`).
 #[derive(Drop)]
 pub struct OpenJoin {
     gains: Gains,
@@ -173,8 +176,8 @@ pub struct OpenJoin {
     cost: u64,
 }
 
-/// All children of the process's block have ended, and it begins to join them, with room for so many ports that they still have. The
-/// process runs then, and its words and ports are with the join. After want of memory it is as it was.
+/// All children of the process's block have ended, and it begins to join them, with room for so many ports that they
+/// still have. The process runs then, and its words and ports are with the join. After want of memory it is as it was.
 pub fn open_join(
     alloc: Global,
     process: &mut Process,
@@ -237,17 +240,22 @@ impl OpenJoin {
     /// What the next child left, in the order of the starts, comes to its parent. Takes no memory.
     pub fn take(&mut self, alloc: Global, left: Left)
         requires room { HasRoomToJoin self.old (left_room left.body) }
-        ensures joined { (y z : CodeProc) (lefts : List (Option declared_body.Body × bodies.Slots)) → HasJoined y lefts z self.old → HasJoined y (lefts ++ left_of left ∷ []) z self.new }
-        ensures room { (ports : ℕ) → HasRoomToJoin self.old (left_room left.body + ports) → HasRoomToJoin self.new ports }
+        ensures joined { (y z : CodeProc) (lefts : List (Option declared_body.Body × bodies.Slots))
+            → HasJoined y lefts z self.old → HasJoined y (lefts ++ left_of left ∷ []) z self.new }
+        ensures room { (ports : ℕ) → HasRoomToJoin self.old (left_room left.body + ports)
+            → HasRoomToJoin self.new ports }
     {
         let kid = next_kid(alloc, &mut self.kids);
         take_left(alloc, &mut self.gains, left, kid.unit, kid.backs.as_slice());
     }
 
-    /// All children have been joined: the process goes on behind its block with what it has, and what was let go is discarded. The
-    /// cost. Takes no memory.
+    /// All children have been joined: the process goes on behind its block with what it has, and what was let go is
+    /// discarded. The cost. Takes no memory.
     pub fn close(self, process: &mut Process, channels: &mut Channels) -> u64
-        ensures joins { (y : CodeProc) (children : List CodeProc) → HasJoined y (map left_by children) (proc_of process.old) self → (p : Place) → Joins p y children (chans_of channels.old) (proc_of process.new) (chans_of channels.new) result }
+        ensures joins { (y : CodeProc) (children : List CodeProc)
+            → HasJoined y (map left_by children) (proc_of process.old) self
+            → (p : Place)
+            → Joins p y children (chans_of channels.old) (proc_of process.new) (chans_of channels.new) result }
         ensures waking { WakesAll channels.old channels.new }
     {
         let OpenJoin {

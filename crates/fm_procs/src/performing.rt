@@ -51,7 +51,8 @@ fn at_port(
     requires at { is_at_port ask ≡ true }
     requires look { look_of (proc_of process.old) ≡ Asks ask }
     requires can { CanPerform (proc_of process.old) (chans_of channels.old) }
-    ensures performs { IfOk result (λ cost. Performs path.now (proc_of process.old) (chans_of channels.old) (proc_of process.new) [] (chans_of channels.new) cost) }
+    ensures performs { IfOk result (λ cost. Performs path.now (proc_of process.old) (chans_of channels.old)
+        (proc_of process.new) [] (chans_of channels.new) cost) }
     ensures stays { OnErr result (proc_of process.new ≡ proc_of process.old) }
     ensures channels { OnErr result (chans_of channels.new ≡ chans_of channels.old) }
     ensures waking { OnOk result (WakesAll channels.old channels.new) }
@@ -89,8 +90,8 @@ fn at_port(
     }
 }
 
-/// Does the event of a process that its next statement asks for. After want of memory the process and the channels are as they were,
-/// whatever is asked.
+/// Does the event of a process that its next statement asks for. After want of memory the process and the channels are
+/// as they were, whatever is asked.
 #[inline(always)]
 pub fn perform(
     alloc: Global,
@@ -103,7 +104,8 @@ pub fn perform(
     requires look { look_of (proc_of process.old) ≡ Asks ask }
     requires can { CanPerform (proc_of process.old) (chans_of channels.old) }
     requires new { MakesNew path.now (proc_of process.old) (chans_of channels.old) }
-    ensures performs { IfOk result (λ d. Performs path.now (proc_of process.old) (chans_of channels.old) (proc_of process.new) (map boxed_of d.children.items) (chans_of channels.new) d.cost) }
+    ensures performs { IfOk result (λ d. Performs path.now (proc_of process.old) (chans_of channels.old)
+        (proc_of process.new) (map boxed_of d.children.items) (chans_of channels.new) d.cost) }
     ensures stays { OnErr result (proc_of process.new ≡ proc_of process.old) }
     ensures channels { OnErr result (chans_of channels.new ≡ chans_of channels.old) }
     ensures waking { OnOk result (WakesAll channels.old channels.new) }

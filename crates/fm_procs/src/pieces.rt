@@ -12,8 +12,9 @@ use fm_base::NoMemory;
 use fm_net_procs::{Actor, Piece};
 use std::alloc::Global;
 
-/// Makes a piece of a process, which can step: statements of its own, as many as `slice` at most, and then, where there is room for
-/// one more step, its event, if it can do it. With a step to `spare` there is room for it behind a whole slice too.
+/// Makes a piece of a process, which can step: statements of its own, as many as `slice` at most, and then, where there
+/// is room for one more step, its event, if it can do it. With a step to `spare` there is room for it behind a whole
+/// slice too.
 ///
 /// After want of memory these aren't to be used any more.
 pub fn make_piece(
@@ -29,8 +30,10 @@ pub fn make_piece(
     requires new { IsNewAlong (state_of procs.old) (actor_place actor.now) }
     requires can { is_some (code_step (state_of procs.old) (actor_place actor.now)) ≡ true }
     ensures kept { OnOk result (AreKept procs.new.entries) }
-    ensures order { IfOk result (λ r. order_of procs.new.entries ≡ order_of procs.old.entries ++ child_places (actor_place actor.now) r.block 1 r.started) }
-    ensures piece { IfOk result (λ r. IsPiece slice spare (state_of procs.old) (actor_place actor.now) r (state_of procs.new)) }
+    ensures order { IfOk result (λ r. order_of procs.new.entries
+        ≡ order_of procs.old.entries ++ child_places (actor_place actor.now) r.block 1 r.started) }
+    ensures piece { IfOk result
+        (λ r. IsPiece slice spare (state_of procs.old) (actor_place actor.now) r (state_of procs.new)) }
     ensures waking { OnOk result (WakesAll procs.old.channels procs.new.channels) }
 {
     procs.make_piece(alloc, &(), actor, slice, spare)

@@ -65,8 +65,9 @@ fn put_in_room(alloc: Global, body: &mut Body, end: &Body) -> Result<(), NoMemor
     Ok(())
 }
 
-// A body takes the place of another. Where their frames have as many words it is copied into the room of the other, which so stays where
-// it is, whoever brings the end: what a thread has let go it uses again, and then two threads would write side by side.
+// A body takes the place of another. Where their frames have as many words it is copied into the room of the other,
+// which so stays where it is, whoever brings the end: what a thread has let go it uses again, and then two threads
+// would write side by side.
 fn put_over(alloc: Global, body: &mut Body, end: &Body) -> Result<(), NoMemory>
     ensures { OnOk result (body.new ≡ end.now) }
 {
@@ -90,8 +91,8 @@ fn put_body(alloc: Global, held: &mut Option<Body>, end: &Body) -> Result<(), No
     }
 }
 
-/// A process gets the end of a slice that was made from a copy of it, with its lines. Both are copied. After want of memory what is in
-/// its body and its lines means nothing.
+/// A process gets the end of a slice that was made from a copy of it, with its lines. Both are copied. After want of
+/// memory what is in its body and its lines means nothing.
 pub fn put_end(
     alloc: Global,
     work: &mut Work,

@@ -26,7 +26,8 @@ fn push_waits(
     on: &[Option<Path>],
 ) -> Result<(), NoMemory>
     requires { on.now ≡ map (waits_for outcome.now) outcome.now.waits }
-    ensures { OnOk result (out.new.items ≡ out.old.items ++ flat_map (λ w. wait_line w (waits_for outcome.now w)) outcome.now.waits) }
+    ensures { OnOk result
+        (out.new.items ≡ out.old.items ++ flat_map (λ w. wait_line w (waits_for outcome.now w)) outcome.now.waits) }
 {
     let waits = outcome.waits.as_slice();
     'waits: for k in 0..waits.len() {
@@ -58,7 +59,8 @@ pub fn report(alloc: Global, outcome: &Outcome, vars: bool) -> Result<Vec<u8>, N
 
 /// Where an outcome tells of each process of a state that hasn't ended, its report has a line for each of them.
 pub fn reports_name_each()
-    ensures { (p : Program) (s : State Proc) (o : shown.Outcome) (vars : Bool) → TellsEach p s o → NamesEach p s o (report_text vars o) }
+    ensures { (p : Program) (s : State Proc) (o : shown.Outcome) (vars : Bool)
+        → TellsEach p s o → NamesEach p s o (report_text vars o) }
 {}
 
 /// The text of a run that was spent.

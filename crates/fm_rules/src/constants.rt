@@ -12,13 +12,13 @@ pub struct Shape {
     pub known: bool,
     /// Whether some upper bound is under its lower.
     pub inverted: bool,
-    /// How many elements: 1 where it is no array, 0 where a bound is no constant or under its lower. In memory any number
-    /// over 65,536 stands as 65,537.
+    /// How many elements: 1 where it is no array, 0 where a bound is no constant or under its lower. In memory any
+    /// number over 65,536 stands as 65,537.
     pub elements: u32,
 }
 
-/// A constant: its value, where its expression has one, and where it is defined: in which of the specification statements
-/// of its unit, and where in the list there. Both count from 0.
+/// A constant: its value, where its expression has one, and where it is defined: in which of the specification
+/// statements of its unit, and where in the list there. Both count from 0.
 #[derive(Clone, Copy)]
 pub struct Known {
     pub value: Option<Constant>,

@@ -1,6 +1,6 @@
-//! What a lawful program is: the rules that the statements of a source may break, as definitions in `specs/`, the plain types
-//! that they speak of, and programs that break none. The meaning of programs stands on these, and the checkers that find what is
-//! broken stand beside it.
+//! What a lawful program is: the rules that the statements of a source may break, as definitions in `specs/`, the plain
+//! types that they speak of, and programs that break none. The meaning of programs stands on these, and the checkers
+//! that find what is broken stand beside it.
 #![tactic(auto)]
 
 mod calls;

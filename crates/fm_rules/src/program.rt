@@ -60,9 +60,9 @@ pub fn main_of(units: &[Unit]) -> Option<usize>
 }
 
 impl Program {
-    /// The program of units and names that break no rule. `context` is what the names mean, `links` where the entries of
-    /// each unit lead to, `race` the least line of a race: of a PROBE, or of a MERGER that may have several writers, that a process may
-    /// come to.
+    /// The program of units and names that break no rule. `context` is what the names mean, `links` where the entries
+    /// of each unit lead to, `race` the least line of a race: of a PROBE, or of a MERGER that may have several writers,
+    /// that a process may come to.
     pub fn new(
         units: Units,
         names: Names,
@@ -124,17 +124,20 @@ impl Program {
         self.main
     }
 
-    /// Whether no process may come to a PROBE, or to a MERGER with more than one `OUT=` or a whole array as its one. Then every
-    /// schedule comes to one outcome.
+    /// Whether no process may come to a PROBE, or to a MERGER with more than one `OUT=` or a whole array as its one.
+    /// Then every schedule comes to one outcome.
     pub fn deterministic(&self) -> bool
-        ensures { result ≡ true ↔ IsDeterministic self.now.units.units (context_of self.now.units.units self.now.names.units) }
+        ensures { result
+            ≡ true ↔ IsDeterministic self.now.units.units (context_of self.now.units.units self.now.names.units) }
     {
         self.race.is_none()
     }
 
-    /// The least line of a PROBE, or of a MERGER with more than one `OUT=` or a whole array as its one, that a process may come to.
+    /// The least line of a PROBE, or of a MERGER with more than one `OUT=` or a whole array as its one, that a process
+    /// may come to.
     pub fn first_race(&self) -> Option<Line>
-        ensures { ∥ IsRaceVerdict self.now.units.units (context_of self.now.units.units self.now.names.units) result ∥₁ }
+        ensures { ∥ IsRaceVerdict self.now.units.units (context_of self.now.units.units self.now.names.units) result
+            ∥₁ }
     {
         self.race
     }

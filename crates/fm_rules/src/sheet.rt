@@ -22,8 +22,8 @@ pub enum Aspect {
     Own,
 }
 
-/// The bounds of an array, none where one is no constant, and its words. In memory any number of words over 65,536 stands
-/// as 65,537.
+/// The bounds of an array, none where one is no constant, and its words. In memory any number of words over 65,536
+/// stands as 65,537.
 #[derive(Drop)]
 pub struct ArrayShape {
     pub bounds: Seq<(i64, i64)>,

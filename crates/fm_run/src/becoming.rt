@@ -23,7 +23,8 @@ fn take_woken<N: Net>(net: &mut N, spare: Vec<u32>) -> Result<Vec<u32>, NoMemory
     ensures history { N.history net.new ≡ N.history net.old }
     ensures state { OnOk result ((p : N.Source) → N.state p net.new ≡ N.state p net.old) }
     ensures sound { OnOk result ((p : N.Source) → N.IsSound p net.old → N.IsSound p net.new) }
-    ensures readers { OnOk result ((c : declared_channel.ChanName) → waiting_reader (N.channels net.new) c ≡ waiting_reader (N.channels net.old) c) }
+    ensures readers { OnOk result ((c : declared_channel.ChanName)
+        → waiting_reader (N.channels net.new) c ≡ waiting_reader (N.channels net.old) c) }
     ensures woken { IfOk result (λ v. (n : ℕ) → Contains (woken_of (N.channels net.old)) n → Contains v.items n) }
 {
     let mut all = spare;
@@ -67,9 +68,14 @@ fn as_count(known: usize) -> Result<u32, NoMemory>
 // Whether the process of a number doesn't wait for a child that hasn't ended. The children that have ended,
 // from the first on, are counted, and aren't looked at again.
 fn awaits_nobody<N: Net>(net: &N, ended: &mut [u32], number: u32) -> Result<bool, NoMemory>
-    ensures able { IfOk result (λ r. (p : N.Source) → N.IsSound p net.now → can_at (N.play p) (N.state p net.now) (N.order net.now) number ≡ true → r ≡ true) }
-    ensures left { IfOk result (λ r. (p : N.Source) (q : Place) (x : (N.play p).Proc) → N.IsSound p net.now → slice_get (N.order net.now) number ≡ Some q → get (N.state p net.now).procs q ≡ Some x
-        → AreKnown (N.play p) (N.state p net.now) q x (slice_index_or ended.old number 0) → (r ≡ false) ↔ HasOneLeft (N.play p) (N.state p net.now) q x) }
+    ensures able { IfOk result (λ r. (p : N.Source) → N.IsSound p net.now
+        → can_at (N.play p) (N.state p net.now) (N.order net.now) number ≡ true
+        → r ≡ true) }
+    ensures left { IfOk result (λ r. (p : N.Source) (q : Place) (x : (N.play p).Proc)
+        → N.IsSound p net.now → slice_get (N.order net.now) number ≡ Some q
+        → get (N.state p net.now).procs q ≡ Some x
+        → AreKnown (N.play p) (N.state p net.now) q x (slice_index_or ended.old number 0)
+        → (r ≡ false) ↔ HasOneLeft (N.play p) (N.state p net.now) q x) }
 {
     let before = count_at(ended, number);
     let known = net.awaits(number, before as usize)?;
@@ -85,8 +91,11 @@ fn parent_to_ask<N: Net>(
     ended: &mut [u32],
     number: u32,
 ) -> Result<Option<u32>, NoMemory>
-    ensures { IfOk result (λ r. (p : N.Source) (q : Place) (n : ℕ) → N.IsSound p net.now → slice_get (N.order net.now) number ≡ Some q → ended_at (N.play p) (get (N.state p net.now).procs q) ≡ true
-        → slice_get parents.now number ≡ Some n → can_at (N.play p) (N.state p net.now) (N.order net.now) n ≡ true → r ≡ Some n) }
+    ensures { IfOk result (λ r. (p : N.Source) (q : Place) (n : ℕ)
+        → N.IsSound p net.now → slice_get (N.order net.now) number ≡ Some q
+        → ended_at (N.play p) (get (N.state p net.now).procs q) ≡ true
+        → slice_get parents.now number ≡ Some n → can_at (N.play p) (N.state p net.now) (N.order net.now) n ≡ true
+        → r ≡ Some n) }
 {
     if !net.has_ended(number) {
         return Ok(None);
@@ -139,11 +148,15 @@ pub(crate) fn candidates<N: Net>(
     ensures history { N.history net.new ≡ N.history net.old }
     ensures state { OnOk result ((p : N.Source) → N.state p net.new ≡ N.state p net.old) }
     ensures sound { OnOk result ((p : N.Source) → N.IsSound p net.old → N.IsSound p net.new) }
-    ensures readers { OnOk result ((c : declared_channel.ChanName) → waiting_reader (N.channels net.new) c ≡ waiting_reader (N.channels net.old) c) }
+    ensures readers { OnOk result ((c : declared_channel.ChanName)
+        → waiting_reader (N.channels net.new) c ≡ waiting_reader (N.channels net.old) c) }
     ensures sorted { IfOk result (λ v. IsNonDecreasing v.items) }
     ensures woken { IfOk result (λ v. (n : ℕ) → Contains (woken_of (N.channels net.old)) n → Contains v.items n) }
-    ensures parent { IfOk result (λ v. (p : N.Source) (q : Place) (n : ℕ) → N.IsSound p net.old → slice_get (N.order net.old) number ≡ Some q → ended_at (N.play p) (get (N.state p net.old).procs q) ≡ true
-        → slice_get parents.now number ≡ Some n → can_at (N.play p) (N.state p net.old) (N.order net.old) n ≡ true → Contains v.items n) }
+    ensures parent { IfOk result (λ v. (p : N.Source) (q : Place) (n : ℕ)
+        → N.IsSound p net.old → slice_get (N.order net.old) number ≡ Some q
+        → ended_at (N.play p) (get (N.state p net.old).procs q) ≡ true
+        → slice_get parents.now number ≡ Some n → can_at (N.play p) (N.state p net.old) (N.order net.old) n ≡ true
+        → Contains v.items n) }
     ensures new { IfOk result (λ v. (n : ℕ) → before ≤ n → n < length (N.order net.old) → Contains v.items n) }
 {
     let mut numbers = take_woken(net, spare)?;
@@ -164,15 +177,21 @@ pub(crate) fn settle<N: Net>(
 ) -> Result<(), NoMemory>
     requires owned { IsOwned (language (N.play program.now)) (N.state program.now net.old) }
     requires sound { N.IsSound program.now net.old }
-    ensures queue { OnOk result (able.new.numbers.items ≡ able.old.numbers.items ++ cond (can_at (N.play program.now) (N.state program.now net.old) (N.order net.old) number) (number ∷ []) []) }
+    ensures queue { OnOk result (able.new.numbers.items
+        ≡ able.old.numbers.items
+        ++ cond (can_at (N.play program.now) (N.state program.now net.old) (N.order net.old) number) (number ∷ []) []) }
     ensures kept { OnErr result (able.new.numbers.items ≡ able.old.numbers.items) }
-    ensures marks { OnOk result ((count : ℕ) → AreMarked count able.old.marks.items able.old.numbers.items → AreMarked count able.new.marks.items able.new.numbers.items) }
+    ensures marks { OnOk result ((count : ℕ) → AreMarked count able.old.marks.items able.old.numbers.items
+        → AreMarked count able.new.marks.items able.new.numbers.items) }
     ensures order { OnOk result (N.order net.new ≡ N.order net.old) }
     ensures history { N.history net.new ≡ N.history net.old }
     ensures state { OnOk result (N.state program.now net.new ≡ N.state program.now net.old) }
     ensures sound { OnOk result (N.IsSound program.now net.new) }
     ensures waking { OnOk result (WakesAll (N.channels net.old) (N.channels net.new)) }
-    ensures noted { OnOk result ((q : Place) (x : (N.play program.now).Proc) → slice_get (N.order net.old) number ≡ Some q → get (N.state program.now net.old).procs q ≡ Some x → is_some (step (N.play program.now) (N.state program.now net.old) q) ≡ false → IsNoted (N.play program.now) (N.channels net.new) number x) }
+    ensures noted { OnOk result ((q : Place) (x : (N.play program.now).Proc)
+        → slice_get (N.order net.old) number ≡ Some q → get (N.state program.now net.old).procs q ≡ Some x
+        → is_some (step (N.play program.now) (N.state program.now net.old) q) ≡ false
+        → IsNoted (N.play program.now) (N.channels net.new) number x) }
 {
     if net.can_step(program, number)? {
         return able.put(number);
@@ -192,15 +211,21 @@ pub(crate) fn settle_own<N: Net>(
     requires sound { N.IsSound program.now net.old }
     requires once { EachOnce able.old.numbers.items }
     requires there { Among own able.old.numbers.items }
-    ensures queue { OnOk result (able.new.numbers.items ≡ others_in own able.old.numbers.items ++ cond (can_at (N.play program.now) (N.state program.now net.old) (N.order net.old) own) (own ∷ []) []) }
+    ensures queue { OnOk result (able.new.numbers.items
+        ≡ others_in own able.old.numbers.items
+        ++ cond (can_at (N.play program.now) (N.state program.now net.old) (N.order net.old) own) (own ∷ []) []) }
     ensures kept { OnErr result (able.new.numbers.items ≡ able.old.numbers.items) }
-    ensures marks { OnOk result ((count : ℕ) → AreMarked count able.old.marks.items able.old.numbers.items → AreMarked count able.new.marks.items able.new.numbers.items) }
+    ensures marks { OnOk result ((count : ℕ) → AreMarked count able.old.marks.items able.old.numbers.items
+        → AreMarked count able.new.marks.items able.new.numbers.items) }
     ensures order { OnOk result (N.order net.new ≡ N.order net.old) }
     ensures history { N.history net.new ≡ N.history net.old }
     ensures state { OnOk result (N.state program.now net.new ≡ N.state program.now net.old) }
     ensures sound { OnOk result (N.IsSound program.now net.new) }
     ensures waking { OnOk result (WakesAll (N.channels net.old) (N.channels net.new)) }
-    ensures noted { OnOk result ((q : Place) (x : (N.play program.now).Proc) → slice_get (N.order net.old) own ≡ Some q → get (N.state program.now net.old).procs q ≡ Some x → is_some (step (N.play program.now) (N.state program.now net.old) q) ≡ false → IsNoted (N.play program.now) (N.channels net.new) own x) }
+    ensures noted { OnOk result ((q : Place) (x : (N.play program.now).Proc)
+        → slice_get (N.order net.old) own ≡ Some q → get (N.state program.now net.old).procs q ≡ Some x
+        → is_some (step (N.play program.now) (N.state program.now net.old) q) ≡ false
+        → IsNoted (N.play program.now) (N.channels net.new) own x) }
 {
     if net.can_step(program, own)? {
         able.requeue(own);
@@ -221,15 +246,23 @@ fn ask<N: Net>(
 ) -> Result<(), NoMemory>
     requires owned { IsOwned (language (N.play program.now)) (N.state program.now net.old) }
     requires sound { N.IsSound program.now net.old }
-    ensures queue { OnOk result (able.new.numbers.items ≡ able.old.numbers.items ++ cond ((not (number == own) && not (slice_index_or able.old.marks.items number false)) && can_at (N.play program.now) (N.state program.now net.old) (N.order net.old) number) (number ∷ []) []) }
+    ensures queue { OnOk result (able.new.numbers.items
+        ≡ able.old.numbers.items
+        ++ cond ((not (number == own) && not (slice_index_or able.old.marks.items number false))
+        && can_at (N.play program.now) (N.state program.now net.old) (N.order net.old) number) (number ∷ []) []) }
     ensures kept { OnErr result (able.new.numbers.items ≡ able.old.numbers.items) }
-    ensures marks { OnOk result ((count : ℕ) → AreMarked count able.old.marks.items able.old.numbers.items → AreMarked count able.new.marks.items able.new.numbers.items) }
+    ensures marks { OnOk result ((count : ℕ) → AreMarked count able.old.marks.items able.old.numbers.items
+        → AreMarked count able.new.marks.items able.new.numbers.items) }
     ensures order { OnOk result (N.order net.new ≡ N.order net.old) }
     ensures history { N.history net.new ≡ N.history net.old }
     ensures state { OnOk result (N.state program.now net.new ≡ N.state program.now net.old) }
     ensures sound { OnOk result (N.IsSound program.now net.new) }
     ensures waking { OnOk result (WakesAll (N.channels net.old) (N.channels net.new)) }
-    ensures noted { OnOk result (number ≢ own → slice_index_or able.old.marks.items number false ≡ false → (q : Place) (x : (N.play program.now).Proc) → slice_get (N.order net.old) number ≡ Some q → get (N.state program.now net.old).procs q ≡ Some x → is_some (step (N.play program.now) (N.state program.now net.old) q) ≡ false → IsNoted (N.play program.now) (N.channels net.new) number x) }
+    ensures noted { OnOk result (number ≢ own → slice_index_or able.old.marks.items number false ≡ false
+        → (q : Place) (x : (N.play program.now).Proc) → slice_get (N.order net.old) number ≡ Some q
+        → get (N.state program.now net.old).procs q ≡ Some x
+        → is_some (step (N.play program.now) (N.state program.now net.old) q) ≡ false
+        → IsNoted (N.play program.now) (N.channels net.new) number x) }
 {
     if number == own {
         return Ok(());
@@ -240,8 +273,8 @@ fn ask<N: Net>(
     settle(net, program, able, number)
 }
 
-/// The candidates that became able go behind the others, in the order of starting, and those that wait are noted. The one that made
-/// the steps isn't asked.
+/// The candidates that became able go behind the others, in the order of starting, and those that wait are noted. The
+/// one that made the steps isn't asked.
 pub(crate) fn settle_all<N: Net>(
     net: &mut N,
     program: &N::Source,
@@ -253,8 +286,14 @@ pub(crate) fn settle_all<N: Net>(
     requires sound { N.IsSound program.now net.old }
     requires sorted { IsNonDecreasing candidates.now }
     requires marked { AreMarked (length (N.order net.old)) able.old.marks.items able.old.numbers.items }
-    ensures queue { OnOk result (((n : ℕ) → newly (can_at (N.play program.now) (N.state program.now net.old) (N.order net.old)) own able.old.numbers.items n ≡ true → Contains candidates.now n)
-        → able.new.numbers.items ≡ able.old.numbers.items ++ filter (newly (can_at (N.play program.now) (N.state program.now net.old) (N.order net.old)) own able.old.numbers.items) (range_with_len 0 (length (N.order net.old)))) }
+    ensures queue { OnOk result (((n : ℕ)
+        → newly (can_at (N.play program.now) (N.state program.now net.old) (N.order net.old)) own able.old.numbers.items
+        n ≡ true → Contains candidates.now n)
+        → able.new.numbers.items
+        ≡ able.old.numbers.items
+        ++ filter
+        (newly (can_at (N.play program.now) (N.state program.now net.old) (N.order net.old)) own able.old.numbers.items)
+        (range_with_len 0 (length (N.order net.old)))) }
     ensures front { KeepsFront able.old.numbers.items able.new.numbers.items }
     ensures once { OnOk result (EachOnce able.old.numbers.items → EachOnce able.new.numbers.items) }
     ensures marks { OnOk result (AreMarked (length (N.order net.old)) able.new.marks.items able.new.numbers.items) }
@@ -262,9 +301,12 @@ pub(crate) fn settle_all<N: Net>(
     ensures history { N.history net.new ≡ N.history net.old }
     ensures state { OnOk result (N.state program.now net.new ≡ N.state program.now net.old) }
     ensures sound { OnOk result (N.IsSound program.now net.new) }
-    ensures noted { OnOk result (((n : ℕ) → n ≢ own → Among n able.old.numbers.items → can_at (N.play program.now) (N.state program.now net.old) (N.order net.old) n ≡ true)
-        → AreNotedBut (N.play program.now) (N.state program.now net.old) (N.channels net.old) (N.order net.old) (OwnOrLeft own candidates.now 0)
-        → AreNotedBut (N.play program.now) (N.state program.now net.old) (N.channels net.new) (N.order net.old) (OwnOrLeft own candidates.now (length candidates.now))) }
+    ensures noted { OnOk result (((n : ℕ) → n ≢ own → Among n able.old.numbers.items
+        → can_at (N.play program.now) (N.state program.now net.old) (N.order net.old) n ≡ true)
+        → AreNotedBut (N.play program.now) (N.state program.now net.old) (N.channels net.old) (N.order net.old)
+        (OwnOrLeft own candidates.now 0)
+        → AreNotedBut (N.play program.now) (N.state program.now net.old) (N.channels net.new) (N.order net.old)
+        (OwnOrLeft own candidates.now (length candidates.now))) }
 {
     'candidates: for number in candidates {
         ask(net, program, able, own, *number)?;

@@ -60,7 +60,8 @@ pub fn push_lines(
     path: &Path,
     lines: &[Seq<u8>],
 ) -> Result<(), NoMemory>
-    ensures { OnOk result (all.new.items ≡ all.old.items ++ map (λ line. record { path = path.now; bytes = line }) lines.now) }
+    ensures { OnOk result
+        (all.new.items ≡ all.old.items ++ map (λ line. record { path = path.now; bytes = line }) lines.now) }
 {
     'lines: for line in lines {
         push_line(alloc, all, path, line)?;
@@ -78,14 +79,16 @@ pub fn join_of(child: Option<Path>) -> Option<At>
     }
 }
 
-/// Gives an outport its holder. Of two holders of an outport the first counts. After want of memory nothing has changed.
+/// Gives an outport its holder. Of two holders of an outport the first counts. After want of memory nothing has
+/// changed.
 pub fn put_outport(
     alloc: Global,
     all: &mut Map<Outport, Path>,
     path: &Path,
     outport: Outport,
 ) -> Result<(), NoMemory>
-    ensures holder { OnOk result (map_of outport_cmp all.new ≡ with_holder (map_of outport_cmp all.old) outport path.now) }
+    ensures holder { OnOk result
+        (map_of outport_cmp all.new ≡ with_holder (map_of outport_cmp all.old) outport path.now) }
     ensures err { OnErr result (all.new ≡ all.old) }
 {
     if all.contains_key(&outport) {

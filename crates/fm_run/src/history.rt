@@ -46,7 +46,8 @@ impl Model for History {
 
 // Where the last chunk is empty, the one before it becomes the last.
 fn take_back(whole: &mut Vec<Vec<Turn>>, last: &mut Vec<Turn>)
-    ensures same { flat_map (λ v. v.items) whole.new.items ++ last.new.items ≡ flat_map (λ v. v.items) whole.old.items ++ last.old.items }
+    ensures same { flat_map (λ v. v.items) whole.new.items ++ last.new.items
+        ≡ flat_map (λ v. v.items) whole.old.items ++ last.old.items }
     ensures filled { last.new.items ≡ [] → whole.new.items ≡ [] }
 {
     'chunks: while last.is_empty() {
@@ -73,8 +74,10 @@ fn put(
     last: &mut Vec<Turn>,
     turn: Turn,
 ) -> Result<(), NoMemory>
-    ensures ok { OnOk result (flat_map (λ v. v.items) whole.new.items ++ last.new.items ≡ (flat_map (λ v. v.items) whole.old.items ++ last.old.items) ++ turn ∷ []) }
-    ensures err { OnErr result (flat_map (λ v. v.items) whole.new.items ++ last.new.items ≡ flat_map (λ v. v.items) whole.old.items ++ last.old.items) }
+    ensures ok { OnOk result (flat_map (λ v. v.items) whole.new.items ++ last.new.items
+        ≡ (flat_map (λ v. v.items) whole.old.items ++ last.old.items) ++ turn ∷ []) }
+    ensures err { OnErr result (flat_map (λ v. v.items) whole.new.items ++ last.new.items
+        ≡ flat_map (λ v. v.items) whole.old.items ++ last.old.items) }
 {
     if last.len() < CHUNK {
         last.push(turn)?;
@@ -148,9 +151,12 @@ fn lengthen_last(
     last: &mut Vec<Turn>,
     steps: u32,
 ) -> Result<(), NoMemory>
-    ensures ok { OnOk result (flat_map (λ v. v.items) whole.new.items ++ last.new.items ≡ lengthened steps (flat_map (λ v. v.items) whole.old.items ++ last.old.items)) }
-    ensures err { OnErr result (flat_map (λ v. v.items) whole.new.items ++ last.new.items ≡ flat_map (λ v. v.items) whole.old.items ++ last.old.items) }
-    ensures count { length (flat_map (λ v. v.items) whole.new.items ++ last.new.items) ≡ length (flat_map (λ v. v.items) whole.old.items ++ last.old.items) }
+    ensures ok { OnOk result (flat_map (λ v. v.items) whole.new.items ++ last.new.items
+        ≡ lengthened steps (flat_map (λ v. v.items) whole.old.items ++ last.old.items)) }
+    ensures err { OnErr result (flat_map (λ v. v.items) whole.new.items ++ last.new.items
+        ≡ flat_map (λ v. v.items) whole.old.items ++ last.old.items) }
+    ensures count { length (flat_map (λ v. v.items) whole.new.items ++ last.new.items)
+        ≡ length (flat_map (λ v. v.items) whole.old.items ++ last.old.items) }
 {
     take_back(whole, last);
     let count = last.len();
@@ -165,8 +171,11 @@ fn lengthen_last(
 
 // Forgets the last entry, if there is one.
 fn forget_last(whole: &mut Vec<Vec<Turn>>, last: &mut Vec<Turn>)
-    ensures one { (front : List Turn) (t : Turn) → flat_map (λ v. v.items) whole.old.items ++ last.old.items ≡ front ++ t ∷ [] → flat_map (λ v. v.items) whole.new.items ++ last.new.items ≡ front }
-    ensures count { length (flat_map (λ v. v.items) whole.new.items ++ last.new.items) ≡ length (flat_map (λ v. v.items) whole.old.items ++ last.old.items) - 1 }
+    ensures one { (front : List Turn) (t : Turn)
+        → flat_map (λ v. v.items) whole.old.items ++ last.old.items ≡ front ++ t ∷ []
+        → flat_map (λ v. v.items) whole.new.items ++ last.new.items ≡ front }
+    ensures count { length (flat_map (λ v. v.items) whole.new.items ++ last.new.items)
+        ≡ length (flat_map (λ v. v.items) whole.old.items ++ last.old.items) - 1 }
 {
     take_back(whole, last);
     last.pop();
@@ -213,7 +222,8 @@ impl History {
 
     /// Forgets the entry behind so many, where there is one more than these.
     pub fn forget_behind(&mut self, count: usize)
-        ensures one { (front : List Turn) (t : Turn) → self.old ≡ front ++ t ∷ [] → length front ≡ count → self.new ≡ front }
+        ensures one { (front : List Turn) (t : Turn) → self.old ≡ front ++ t ∷ []
+            → length front ≡ count → self.new ≡ front }
         ensures none { length self.old ≤ count → self.new ≡ self.old }
     {
         if self.len <= count {

@@ -92,9 +92,12 @@ pub trait Net: Drop {
         requires sound { IsSound program.now self.old }
         requires able { can_at (play program.now) (state program.now self.old) (order self.old) number ≡ true }
         ensures sound { OnOk result (IsSound program.now self.new) }
-        ensures order { IfOk result (λ r. order self.new ≡ order self.old ++ child_places (slice_index_or (order self.old) number []) r.block 1 r.started) }
-        ensures piece { IfOk result (λ r. IsPiece (play program.now) slice kind.spare (state program.now self.old) (slice_index_or (order self.old) number []) r (state program.now self.new)) }
-        ensures history { IfOk result (λ r. history self.new ≡ with_piece kind.joins (history self.old) number r.steps) }
+        ensures order { IfOk result (λ r. order self.new
+            ≡ order self.old ++ child_places (slice_index_or (order self.old) number []) r.block 1 r.started) }
+        ensures piece { IfOk result (λ r. IsPiece (play program.now) slice kind.spare (state program.now self.old)
+            (slice_index_or (order self.old) number []) r (state program.now self.new)) }
+        ensures history { IfOk result
+            (λ r. history self.new ≡ with_piece kind.joins (history self.old) number r.steps) }
         ensures stays { OnErr result (history self.new ≡ history self.old) }
         ensures waking { OnOk result (WakesAll (channels self.old) (channels self.new)) };
 
@@ -102,7 +105,8 @@ pub trait Net: Drop {
     fn can_step(&self, program: &Self::Source, number: u32) -> Result<bool, NoMemory>
         requires owned { IsOwned (language (play program.now)) (state program.now self.now) }
         requires sound { IsSound program.now self.now }
-        ensures { IfOk result (λ r. r ≡ can_at (play program.now) (state program.now self.now) (order self.now) number) };
+        ensures { IfOk result
+            (λ r. r ≡ can_at (play program.now) (state program.now self.now) (order self.now) number) };
 
     /// Notes the process of a number, which can't step, at the channel at which it waits, if it waits at one.
     fn note(&mut self, program: &Self::Source, number: u32) -> Result<(), NoMemory>
@@ -113,14 +117,17 @@ pub trait Net: Drop {
         ensures history { history self.new ≡ history self.old }
         ensures state { OnOk result (state program.now self.new ≡ state program.now self.old) }
         ensures sound { OnOk result (IsSound program.now self.new) }
-        ensures noted { OnOk result ((q : Place) (x : (play program.now).Proc) → slice_get (order self.old) number ≡ Some q → get (state program.now self.old).procs q ≡ Some x → IsNoted (play program.now) (channels self.new) number x) }
+        ensures noted { OnOk result ((q : Place) (x : (play program.now).Proc)
+            → slice_get (order self.old) number ≡ Some q → get (state program.now self.old).procs q ≡ Some x
+            → IsNoted (play program.now) (channels self.new) number x) }
         ensures waking { OnOk result (WakesAll (channels self.old) (channels self.new)) };
 
     /// The number of one who was woken, which is taken out.
     fn next_woken(&mut self) -> Option<u32>
         ensures woken { woken_of (channels self.old) ≡ woken_of (channels self.new) ++ option_to_list result }
         ensures none { IfNone result (woken_of (channels self.old) ≡ []) }
-        ensures readers { (c : declared_channel.ChanName) → waiting_reader (channels self.new) c ≡ waiting_reader (channels self.old) c }
+        ensures readers { (c : declared_channel.ChanName)
+            → waiting_reader (channels self.new) c ≡ waiting_reader (channels self.old) c }
         ensures order { order self.new ≡ order self.old }
         ensures history { history self.new ≡ history self.old }
         ensures state { (p : Self.Source) → state p self.new ≡ state p self.old }
@@ -128,14 +135,21 @@ pub trait Net: Drop {
 
     /// Whether the process of a number has ended.
     fn has_ended(&self, number: u32) -> bool
-        ensures { (p : Self.Source) (q : Place) → IsSound p self.now → slice_get (order self.now) number ≡ Some q → result ≡ ended_at (play p) (get (state p self.now).procs q) };
+        ensures { (p : Self.Source) (q : Place) → IsSound p self.now
+            → slice_get (order self.now) number ≡ Some q
+            → result ≡ ended_at (play p) (get (state p self.now).procs q) };
 
     /// What is known of the children that the process of a number waits for, where so many of them, from the
     /// first on, are known to have ended: how many have, up to one that hasn't, and whether one hasn't. One that
     /// can step waits for nobody.
     fn awaits(&self, number: u32, before: usize) -> Result<Awaited, NoMemory>
-        ensures children { IfOk result (λ r. (p : Self.Source) (q : Place) (x : (play p).Proc) → IsSound p self.now → slice_get (order self.now) number ≡ Some q → get (state p self.now).procs q ≡ Some x → AreKnown (play p) (state p self.now) q x before → IsAwaited (play p) (state p self.now) q x r) }
-        ensures able { IfOk result (λ r. (p : Self.Source) → IsSound p self.now → can_at (play p) (state p self.now) (order self.now) number ≡ true → r.waits ≡ false) };
+        ensures children { IfOk result (λ r. (p : Self.Source) (q : Place) (x : (play p).Proc)
+            → IsSound p self.now → slice_get (order self.now) number ≡ Some q
+            → get (state p self.now).procs q ≡ Some x → AreKnown (play p) (state p self.now) q x before
+            → IsAwaited (play p) (state p self.now) q x r) }
+        ensures able { IfOk result (λ r. (p : Self.Source) → IsSound p self.now
+            → can_at (play p) (state p self.now) (order self.now) number ≡ true
+            → r.waits ≡ false) };
 
     /// What the run shows when it has ended at this cost in turns.
     fn outcome(&self, alloc: Global, program: &Self::Source, used: u64) -> Result<Outcome, NoMemory>

@@ -37,7 +37,8 @@ pub(crate) fn chosen(able: &VecDeque<u32>, choice: Option<u64>) -> Option<u32>
 
 fn mark(marks: &mut Vec<bool>, number: u32)
     ensures length { length marks.new.items ≡ length marks.old.items }
-    ensures marked { (n : ℕ) → n < length marks.old.items → slice_index_or marks.new.items n false ≡ (slice_index_or marks.old.items n false || number == n) }
+    ensures marked { (n : ℕ) → n < length marks.old.items
+        → slice_index_or marks.new.items n false ≡ (slice_index_or marks.old.items n false || number == n) }
 {
     let place = number as usize;
     if place < marks.len() {
@@ -47,7 +48,8 @@ fn mark(marks: &mut Vec<bool>, number: u32)
 
 fn unmark(marks: &mut Vec<bool>, number: u32)
     ensures length { length marks.new.items ≡ length marks.old.items }
-    ensures marked { (n : ℕ) → n < length marks.old.items → slice_index_or marks.new.items n false ≡ (slice_index_or marks.old.items n false && not (number == n)) }
+    ensures marked { (n : ℕ) → n < length marks.old.items
+        → slice_index_or marks.new.items n false ≡ (slice_index_or marks.old.items n false && not (number == n)) }
 {
     let place = number as usize;
     if place < marks.len() {
@@ -122,7 +124,8 @@ impl Queue {
     pub fn put(&mut self, number: u32) -> Result<(), NoMemory>
         ensures numbers { OnOk result (self.new.numbers.items ≡ self.old.numbers.items ++ number ∷ []) }
         ensures kept { OnErr result (self.new.numbers.items ≡ self.old.numbers.items) }
-        ensures marks { OnOk result ((count : ℕ) → AreMarked count self.old.marks.items self.old.numbers.items → AreMarked count self.new.marks.items self.new.numbers.items) }
+        ensures marks { OnOk result ((count : ℕ) → AreMarked count self.old.marks.items self.old.numbers.items
+            → AreMarked count self.new.marks.items self.new.numbers.items) }
     {
         self.numbers.push_back(number)?;
         mark(&mut self.marks, number);
@@ -133,7 +136,8 @@ impl Queue {
     pub fn leave(&mut self, number: u32)
         requires { EachOnce self.old.numbers.items }
         ensures numbers { self.new.numbers.items ≡ others_in number self.old.numbers.items }
-        ensures marks { (count : ℕ) → AreMarked count self.old.marks.items self.old.numbers.items → AreMarked count self.new.marks.items self.new.numbers.items }
+        ensures marks { (count : ℕ) → AreMarked count self.old.marks.items self.old.numbers.items
+            → AreMarked count self.new.marks.items self.new.numbers.items }
     {
         unmark(&mut self.marks, number);
         match place_of(&self.numbers, number) {
@@ -150,7 +154,8 @@ impl Queue {
         requires once { EachOnce self.old.numbers.items }
         requires there { Among number self.old.numbers.items }
         ensures numbers { self.new.numbers.items ≡ others_in number self.old.numbers.items ++ number ∷ [] }
-        ensures marks { (count : ℕ) → AreMarked count self.old.marks.items self.old.numbers.items → AreMarked count self.new.marks.items self.new.numbers.items }
+        ensures marks { (count : ℕ) → AreMarked count self.old.marks.items self.old.numbers.items
+            → AreMarked count self.new.marks.items self.new.numbers.items }
     {
         match place_of(&self.numbers, number) {
             Some(place) => {
@@ -172,7 +177,10 @@ impl Queue {
     /// There are so many processes, and who is new isn't in the queue. After want of memory nothing has changed.
     pub fn grow(&mut self, count: usize) -> Result<(), NoMemory>
         ensures numbers { self.new.numbers.items ≡ self.old.numbers.items }
-        ensures marks { OnOk result ((before : ℕ) → before ≤ count → ((n : ℕ) → Among n self.old.numbers.items → n < before) → AreMarked before self.old.marks.items self.old.numbers.items → AreMarked count self.new.marks.items self.new.numbers.items) }
+        ensures marks { OnOk result ((before : ℕ) → before ≤ count
+            → ((n : ℕ) → Among n self.old.numbers.items → n < before)
+            → AreMarked before self.old.marks.items self.old.numbers.items
+            → AreMarked count self.new.marks.items self.new.numbers.items) }
         ensures stays { OnErr result (self.new.marks.items ≡ self.old.marks.items) }
     {
         self.marks.resize(count, false)?;

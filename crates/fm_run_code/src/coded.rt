@@ -15,7 +15,8 @@ use fm_mean::Outcome;
 use fm_procs::CodeProcs;
 use std::alloc::Global;
 
-/// A kind of source that runs as stack code: each process of what is run corresponds to one of stack code, which does and needs the same.
+/// A kind of source that runs as stack code: each process of what is run corresponds to one of stack code, which does
+/// and needs the same.
 pub trait Coded {
     /// Of what it is the code, such as a program or an image.
     type Source;
@@ -31,7 +32,8 @@ pub trait Coded {
 
     /// The processes of stack code before the first piece: main alone.
     fn first_stacks(alloc: Global, source: &Self::Source) -> Result<CodeProcs, NoMemory>
-        ensures stands { IfOk result (λ s. StandsFor (Corresponds source.now) (IsLive source.now) (state_of s) (first (play source.now))) }
+        ensures stands { IfOk result
+            (λ s. StandsFor (Corresponds source.now) (IsLive source.now) (state_of s) (first (play source.now))) }
         ensures order { IfOk result (λ s. order_of s.entries ≡ [] ∷ []) }
         ensures kept { IfOk result (λ s. AreKept s.entries) };
 
@@ -44,7 +46,9 @@ pub trait Coded {
     ) -> Result<Outcome, NoMemory>
         requires kept { AreKept stacks.now.entries }
         requires main { place_at stacks.now.entries.rows 0 ≡ Some [] }
-        ensures { IfOk result (λ o. (s : State (play source.now).Proc) → StandsFor (Corresponds source.now) (IsLive source.now) (state_of stacks.now) s → o ≡ outcome_of (play source.now) used s) };
+        ensures { IfOk result (λ o. (s : State (play source.now).Proc)
+            → StandsFor (Corresponds source.now) (IsLive source.now) (state_of stacks.now) s
+            → o ≡ outcome_of (play source.now) used s) };
 
     /// What is run does and needs what stack code does.
     ghost is_coded: { (p : Self.Source) → IsCoded (play p) (Corresponds p) (IsLive p) };

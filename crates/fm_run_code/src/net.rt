@@ -42,9 +42,13 @@ impl<S: Coded> Net for CodeNet<S> {
 
     ghost history = { λ net. net.history };
 
-    ghost IsSound = { λ source net. IsSound (S.play source) (S.Corresponds source) (S.IsLive source) net.stacks net.history };
+    ghost IsSound = { λ source net.
+        IsSound (S.play source) (S.Corresponds source) (S.IsLive source) net.stacks net.history };
 
-    ghost lawful = { λ source net sound. (S.is_coded source).lawful (played (S.play source) net.history (order_of net.stacks.entries)) sound.stands.live };
+    ghost lawful = { λ source net sound.
+        (S.is_coded source).lawful
+        (played (S.play source) net.history (order_of net.stacks.entries))
+        sound.stands.live };
 
     ghost channels_are = { λ source net sound. sound.stands.chans };
 

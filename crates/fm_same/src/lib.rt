@@ -1,4 +1,5 @@
-//! Whether two values are the same: lists, bodies of stack code, checked programs. Each answer is exact, and takes no memory.
+//! Whether two values are the same: lists, bodies of stack code, checked programs. Each answer is exact, and takes no
+//! memory.
 #![tactic(auto)]
 
 ghost use Rattle.std.specs.Prelude.{Bool};

@@ -6,8 +6,8 @@ ghost use Rattle.fm_steal.specs.Deals.{Rises};
 
 use crate::hand::{Owner, Reach, Token};
 
-/// What the owner of a lane has: it puts items in, and takes the first one out. Its type says that the tickets of what it
-/// took rise.
+/// What the owner of a lane has: it puts items in, and takes the first one out. Its type says that the tickets of what
+/// it took rise.
 #[derive(Drop)]
 pub struct Lane<T> {
     pub(crate) worker: Owner<T>,

@@ -64,8 +64,8 @@ fn thief<T>(worker: &mut Owner<T>) -> Result<Thief<T>, AllocError>
 }
 
 impl<T> Lane<T> {
-    /// Puts the item in, and answers its ticket. It comes back exactly where the lane has taken as many items as it can.
-    /// Takes no memory.
+    /// Puts the item in, and answers its ticket. It comes back exactly where the lane has taken as many items as it
+    /// can. Takes no memory.
     pub fn put(&mut self, item: T) -> Result<u64, T>
         ensures put { MatchResult result (IsPut self.old self.new item) (IsRefused self.old self.new item) }
         ensures same { SameLane self.old self.new × (got_list self.new ≡ got_list self.old) }
@@ -94,8 +94,8 @@ impl<T> Lane<T> {
         self.worker.pop_as::<Popped>()
     }
 
-    /// Ends the lane with all its thieves, and gives what is left. What the owner took, what its thieves took and what is
-    /// left is together what was put, each item once; and the tickets of each rise. At want of memory all come back.
+    /// Ends the lane with all its thieves, and gives what is left. What the owner took, what its thieves took and what
+    /// is left is together what was put, each item once; and the tickets of each rise. At want of memory all come back.
     pub fn close(
         self,
         alloc: Global,

@@ -13,8 +13,8 @@ use std::sync::Wait;
 // How many pieces a worker takes in one turn of the lock.
 const MOST_AT_ONCE: u32 = 8;
 
-// Takes pieces into the worker's lane, until the desk gives out no other one, or the lane refuses one, which comes back. Where `light` says
-// so, the table makes those pieces by itself that aren't worth giving out.
+// Takes pieces into the worker's lane, until the desk gives out no other one, or the lane refuses one, which comes
+// back. Where `light` says so, the table makes those pieces by itself that aren't worth giving out.
 fn fill<T: SharedTable>(
     alloc: Global,
     worker: &mut Worker<T::Piece>,
@@ -40,8 +40,8 @@ fn fill<T: SharedTable>(
     Next::Goes
 }
 
-// What a worker with an empty lane does next, by what it finds at the desk: it takes pieces of the table, and computes the first one; where
-// the table has none ready, it steals.
+// What a worker with an empty lane does next, by what it finds at the desk: it takes pieces of the table, and computes
+// the first one; where the table has none ready, it steals.
 fn found<T: SharedTable, R: Wait>(
     rt: &R,
     alloc: Global,
@@ -69,8 +69,8 @@ fn found<T: SharedTable, R: Wait>(
     }
 }
 
-// The next piece, when there is one. None where the worker is to stop. A worker whose lane is empty steals while the desk is free for others;
-// and at the desk it steals once more before it waits.
+// The next piece, when there is one. None where the worker is to stop. A worker whose lane is empty steals while the
+// desk is free for others; and at the desk it steals once more before it waits.
 fn next<T: SharedTable, R: Wait>(
     rt: &R,
     alloc: Global,
@@ -86,8 +86,8 @@ fn next<T: SharedTable, R: Wait>(
     }
 }
 
-// The next piece for a worker with an empty lane, at the desk. Who leaves with a piece wakes one that waits, who may find another piece and
-// wakes the next one then; who stops wakes all.
+// The next piece for a worker with an empty lane, at the desk. Who leaves with a piece wakes one that waits, who may
+// find another piece and wakes the next one then; who stops wakes all.
 fn next_at<'b, T: SharedTable, R: Wait>(
     rt: &R,
     alloc: Global,

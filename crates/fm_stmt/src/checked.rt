@@ -52,7 +52,8 @@ fn known(alloc: Global, tokens: Vec<Token>) -> Result<Vec<Token>, NoMemory>
 
 // The tokens of a text as they are read, and whether a number is over the greatest one.
 fn cut(alloc: Global, text: &[u8]) -> Result<(Vec<Token>, bool), ParseFail>
-    ensures { MatchResult result (λ r. HasCut text.now r.0.items r.1) (λ e. e ≡ ParseFail.Bad → (ts : List Token) → ¬ IsTokens text.now ts) }
+    ensures { MatchResult result (λ r. HasCut text.now r.0.items r.1)
+        (λ e. e ≡ ParseFail.Bad → (ts : List Token) → ¬ IsTokens text.now ts) }
 {
     let tokens = tokens(alloc, text)?;
     let big = has_big(&tokens);
@@ -61,7 +62,8 @@ fn cut(alloc: Global, text: &[u8]) -> Result<(Vec<Token>, bool), ParseFail>
 
 // The tree of a text, and whether a number is over the greatest one.
 fn tree(alloc: Global, text: &[u8]) -> Result<(Stmt, bool), ParseFail>
-    ensures { MatchResult result (λ r. IsRead text.now r.0 r.1) (λ e. e ≡ ParseFail.Bad → (s : Stmt) → ¬ IsTreeOf text.now s) }
+    ensures { MatchResult result (λ r. IsRead text.now r.0 r.1)
+        (λ e. e ≡ ParseFail.Bad → (s : Stmt) → ¬ IsTreeOf text.now s) }
 {
     let (tokens, big) = match cut(alloc, text) {
         Ok(found) => found,
@@ -88,7 +90,8 @@ fn rule_of(big: bool, statement: &Stmt) -> Option<Rule>
 
 // The value, unless a rule is broken at the line.
 fn unless<T: Drop>(line: Line, rule: Option<Rule>, value: T) -> Result<T, CheckFail>
-    ensures { MatchOption rule (result ≡ Ok value) (λ r. result ≡ Err (CheckFail.Refused (record { line = line; rule = r }))) }
+    ensures { MatchOption rule (result ≡ Ok value)
+        (λ r. result ≡ Err (CheckFail.Refused (record { line = line; rule = r }))) }
 {
     match rule {
         Some(rule) => Err(CheckFail::Refused(Refusal { line, rule })),

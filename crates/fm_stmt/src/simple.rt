@@ -86,7 +86,8 @@ fn two_assigned(
     second: Word,
     tokens: &[Token],
 ) -> Result<((Var, Var), &[Token]), ParseFail>
-    ensures { Gives (λ p. (p.0, p.1.now)) result ((pair (assigned first var_part) (behind Mark.Comma (assigned second var_part))).read tokens.now) }
+    ensures { Gives (λ p. (p.0, p.1.now)) result
+        ((pair (assigned first var_part) (behind Mark.Comma (assigned second var_part))).read tokens.now) }
 {
     let (one, rest) = assigned::<VarForm>(alloc, first, tokens)?;
     let (other, rest) = next_assigned(alloc, second, rest)?;

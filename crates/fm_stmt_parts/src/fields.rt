@@ -26,7 +26,8 @@ fn name_behind(alloc: Global, text: &[u8]) -> Result<Option<Name>, ParseFail>
 }
 
 fn behind_text<'a>(keyword: &[u8], text: &'a [u8]) -> Option<&'a [u8]>
-    ensures { MatchOption result (behind_text keyword.now text.now ≡ None) (λ rest. behind_text keyword.now text.now ≡ Some rest.now) }
+    ensures { MatchOption result (behind_text keyword.now text.now ≡ None)
+        (λ rest. behind_text keyword.now text.now ≡ Some rest.now) }
 {
     text.strip_prefix(keyword)
 }
@@ -134,7 +135,8 @@ fn grow(
     mut fields: Vec<Field>,
     tokens: &[Token],
 ) -> Result<(Vec<Field>, &[Token]), ParseFail>
-    ensures { Gives (λ p. (p.0.items, p.1.now)) result (after_items fields.items (more_read (field_read (fields_read depth)) tokens.now)) }
+    ensures { Gives (λ p. (p.0.items, p.1.now)) result
+        (after_items fields.items (more_read (field_read (fields_read depth)) tokens.now)) }
 {
     let mut rest = tokens;
     'fields: for _ in 0..tokens.len() {
@@ -176,7 +178,8 @@ fn listed_fields(
     depth: usize,
     tokens: &[Token],
 ) -> Result<(PortType, &[Token]), ParseFail>
-    ensures { Gives (λ p. (p.0, p.1.now)) result (over_read fields_of (listed_read (field_read (fields_read depth))) tokens.now) }
+    ensures { Gives (λ p. (p.0, p.1.now)) result
+        (over_read fields_of (listed_read (field_read (fields_read depth))) tokens.now) }
 {
     if goes_on(tokens) {
         let (fields, rest) = some_fields(alloc, depth, tokens)?;

@@ -123,7 +123,8 @@ pub fn optional_listed<F: Form>(
     alloc: Global,
     tokens: &[Token],
 ) -> Result<(Option<Seq<F::Item>>, &[Token]), ParseFail>
-    ensures { Gives (λ p. (p.0, p.1.now)) result (optional_behind_read Mark.Open (before_read (listed_read F.reads) Mark.Close) tokens.now) }
+    ensures { Gives (λ p. (p.0, p.1.now)) result
+        (optional_behind_read Mark.Open (before_read (listed_read F.reads) Mark.Close) tokens.now) }
 {
     if !starts_with(Mark::Open, tokens) {
         return Ok((None, tokens));

@@ -136,7 +136,8 @@ pub fn assigned<F: Form>(
     word: Word,
     tokens: &[Token],
 ) -> Result<(F::Item, &[Token]), ParseFail>
-    ensures { Gives (λ p. (p.0, p.1.now)) result (behind_read (Mark.Word word) (behind_read Mark.Equals F.reads) tokens.now) }
+    ensures { Gives (λ p. (p.0, p.1.now)) result
+        (behind_read (Mark.Word word) (behind_read Mark.Equals F.reads) tokens.now) }
 {
     let rest = a_mark(Mark::Word(word), tokens)?;
     let rest = a_mark(Mark::Equals, rest)?;
@@ -204,7 +205,8 @@ fn a_limit_and_step(
     alloc: Global,
     tokens: &[Token],
 ) -> Result<((Expr, Option<Expr>), &[Token]), ParseFail>
-    ensures { Gives (λ p. (p.0, p.1.now)) result (pair_read (behind_read Mark.Comma expr_read) (optional_behind_read Mark.Comma expr_read) tokens.now) }
+    ensures { Gives (λ p. (p.0, p.1.now)) result
+        (pair_read (behind_read Mark.Comma expr_read) (optional_behind_read Mark.Comma expr_read) tokens.now) }
 {
     let (limit, rest) = expr_behind(alloc, Mark::Comma, tokens)?;
     let (step, rest) = optional_behind::<ExprForm>(alloc, Mark::Comma, rest)?;

@@ -116,7 +116,8 @@ pub fn an_optional_token(mark: Mark, tokens: &[Token]) -> (bool, &[Token])
 
 /// What stands behind the word and an equals sign.
 pub fn assigned_behind(word: Word, tokens: &[Token]) -> Option<&[Token]>
-    ensures { MatchOption result (assigned_at word tokens.now ≡ None) (λ rest. assigned_at word tokens.now ≡ Some rest.now) }
+    ensures { MatchOption result (assigned_at word tokens.now ≡ None)
+        (λ rest. assigned_at word tokens.now ≡ Some rest.now) }
 {
     match behind_mark(Mark::Word(word), tokens) {
         Some(rest) => behind_mark(Mark::Equals, rest),

@@ -13,8 +13,8 @@ pub enum Constant {
 /// A variable of a unit.
 pub struct Variable {
     pub name: Name,
-    /// The type of the variable, or of one element. In the type of a port no field has a name, and the bounds of an array
-    /// are its number of elements alone; so equal types are equal values.
+    /// The type of the variable, or of one element. In the type of a port no field has a name, and the bounds of an
+    /// array are its number of elements alone; so equal types are equal values.
     pub kind: Kind,
     /// The lower and the upper bound of each dimension, none where it is no array.
     pub bounds: Seq<(i64, i64)>,

@@ -12,11 +12,12 @@ pub(crate) const HOME_SLICE: u32 = 1_000;
 // How many steps a slice at home has at most, for others wait meanwhile.
 const LONGEST_SLICE: u32 = 16_384;
 
-// How many statements a process gets at home before its worker looks for another one: as many as a piece outside has at most.
+// How many statements a process gets at home before its worker looks for another one: as many as a piece outside has at
+// most.
 const STAY: u32 = 1_000_000;
 
-/// A heavy process that isn't given out, since copies of its body would take much memory: one worker plays it in place, slice by slice,
-/// and lets others in between. At most one process of a table stays at home.
+/// A heavy process that isn't given out, since copies of its body would take much memory: one worker plays it in place,
+/// slice by slice, and lets others in between. At most one process of a table stays at home.
 #[derive(Clone, Copy)]
 pub(crate) struct Home {
     /// The worker that plays it.

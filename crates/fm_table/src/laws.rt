@@ -8,8 +8,8 @@ ghost use Rattle.fm_run.specs.Programs.{Follows, IsRun, after_entries, first_sta
 ghost use Rattle.fm_run.specs.declared.run.Run as declared_run;
 ghost use Rattle.fm_run_law.specs.Fair.{IsFair};
 
-/// A schedule in which each piece goes to the first of those that can step is fair: each process that can step comes before as many
-/// entries as there are processes.
+/// A schedule in which each piece goes to the first of those that can step is fair: each process that can step comes
+/// before as many entries as there are processes.
 pub fn first_come_is_fair()
     ensures { (program : Program) (slice : ℕ) (history : List Turn) → Follows program slice [] history →
         IsFair (play_of program) history (after_entries program (first_stand program) history).places }
@@ -17,6 +17,7 @@ pub fn first_come_is_fair()
 
 /// So is that of a run in which nobody chooses.
 pub fn run_is_fair()
-    ensures { (program : Program) (slice turns : ℕ) (run : declared_run.Run) → IsRun program turns run → Follows program slice [] run.history.items →
-        IsFair (play_of program) run.history.items (places_of run.paths.items) }
+    ensures { (program : Program) (slice turns : ℕ) (run : declared_run.Run)
+        → IsRun program turns run → Follows program slice [] run.history.items
+        → IsFair (play_of program) run.history.items (places_of run.paths.items) }
 {}

@@ -32,7 +32,8 @@ pub(crate) enum Way<'a> {
     Given(&'a Done),
 }
 
-/// Puts the paths of processes behind those that are there, which are the first of them. After want of memory some may lack still.
+/// Puts the paths of processes behind those that are there, which are the first of them. After want of memory some may
+/// lack still.
 pub(crate) fn put_paths(paths: &mut Vec<Arc<Path>>, all: &[Arc<Path>]) -> Result<(), NoMemory>
     requires { (more : List Place) × (places_of all.now ≡ places_of paths.old.items ++ more) }
     ensures ok { OnOk result (places_of paths.new.items ≡ places_of all.now) }
@@ -57,8 +58,8 @@ fn is_own(net: &Compiled, number: u32, done: &Done) -> bool
     }
 }
 
-// Makes the piece of a process that can step by what came of a slice. That this was made of what stands in memory follows from what
-// a table keeps; so it costs nothing to look once more, and to answer it as want of memory.
+// Makes the piece of a process that can step by what came of a slice. That this was made of what stands in memory
+// follows from what a table keeps; so it costs nothing to look once more, and to answer it as want of memory.
 fn give(
     alloc: Global,
     program: &Program,
@@ -91,9 +92,14 @@ pub(crate) fn make_steps(
     requires some { IsAsked way }
     requires live { IsLive program.now player.old }
     ensures live { OnOk result (IsLive program.now player.new) }
-    ensures none { result ≡ Ok 0 → (player.new ≡ player.old) × (can_at program.now (stand_in program.now player.old).state (stand_in program.now player.old).places number ≡ false) }
+    ensures none { result ≡ Ok 0
+        → (player.new ≡ player.old)
+        × (can_at program.now (stand_in program.now player.old).state (stand_in program.now player.old).places number
+        ≡ false) }
     ensures made { IfOk result (λ steps. 1 ≤ steps → HasMade program.now (turn_of number steps) player.old player.new) }
-    ensures so { IfOk result (λ steps. 1 ≤ steps → MakesSo way.entry program.now (stand_in program.now player.old) (stand_in program.now player.new) number steps) }
+    ensures so { IfOk result (λ steps. 1 ≤ steps
+        → MakesSo way.entry program.now (stand_in program.now player.old) (stand_in program.now player.new) number
+        steps) }
     ensures stays { OnErr result (MayHaveEntry player.old.net.history player.new.net.history) }
     ensures front { OnErr result (KeepsFront player.old.able.numbers.items player.new.able.numbers.items) }
 {
@@ -121,7 +127,8 @@ pub(crate) fn outcome_in(
 
 /// Lets the processes go, and what stands behind so many entries, and numbers in the queue.
 pub(crate) fn let_go(alloc: Global, player: &mut Player<Compiled>, entries: usize, queued: usize)
-    ensures history { (front : List Entry) → length front ≡ entries → MayHaveEntry front player.old.net.history → player.new.net.history ≡ front }
+    ensures history { (front : List Entry) → length front ≡ entries
+        → MayHaveEntry front player.old.net.history → player.new.net.history ≡ front }
     ensures queue { player.new.able.numbers.items ≡ take queued player.old.able.numbers.items }
 {
     player.net.history.forget_behind(entries);

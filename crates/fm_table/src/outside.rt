@@ -71,9 +71,14 @@ pub(crate) fn put_back(queue: &mut Queue, out: &mut Vec<Taken>, number: u32)
     requires once { EachOnce (numbers_out (outs_of out.old.items)) }
     requires queued { EachOnce queue.old.numbers.items }
     requires able { (n : ℕ) → Among n (numbers_out (outs_of out.old.items)) → Among n queue.old.numbers.items }
-    ensures out { outs_of out.new.items ≡ cond (is_out (outs_of out.old.items) number) (without number (outs_of out.old.items)) (outs_of out.old.items) }
-    ensures queue { queue.new.numbers.items ≡ cond (is_out (outs_of out.old.items) number) (others_in number queue.old.numbers.items ++ number ∷ []) queue.old.numbers.items }
-    ensures marks { (count : ℕ) → AreMarked count queue.old.marks.items queue.old.numbers.items → AreMarked count queue.new.marks.items queue.new.numbers.items }
+    ensures out { outs_of out.new.items
+        ≡ cond (is_out (outs_of out.old.items) number) (without number (outs_of out.old.items))
+        (outs_of out.old.items) }
+    ensures queue { queue.new.numbers.items
+        ≡ cond (is_out (outs_of out.old.items) number) (others_in number queue.old.numbers.items ++ number ∷ [])
+        queue.old.numbers.items }
+    ensures marks { (count : ℕ) → AreMarked count queue.old.marks.items queue.old.numbers.items
+        → AreMarked count queue.new.marks.items queue.new.numbers.items }
 {
     if is_out(out.as_slice(), number) {
         queue.requeue(number);
@@ -87,7 +92,8 @@ fn requeue_all(queue: &mut Queue, out: &[Taken])
     requires queued { EachOnce queue.old.numbers.items }
     requires able { (n : ℕ) → Among n (numbers_out (outs_of out.now)) → Among n queue.old.numbers.items }
     ensures queue { queue.new.numbers.items ≡ behind (numbers_out (outs_of out.now)) queue.old.numbers.items }
-    ensures marks { (count : ℕ) → AreMarked count queue.old.marks.items queue.old.numbers.items → AreMarked count queue.new.marks.items queue.new.numbers.items }
+    ensures marks { (count : ℕ) → AreMarked count queue.old.marks.items queue.old.numbers.items
+        → AreMarked count queue.new.marks.items queue.new.numbers.items }
 {
     'out: for place in 0..out.len() {
         queue.requeue(out[place].number);
@@ -103,7 +109,8 @@ pub(crate) fn call_back(queue: &mut Queue, out: &mut Vec<Taken>)
     ensures once { EachOnce queue.new.numbers.items }
     ensures same { (n : ℕ) → Among n queue.old.numbers.items ↔ Among n queue.new.numbers.items }
     ensures out { out.new.items ≡ [] }
-    ensures marks { (count : ℕ) → AreMarked count queue.old.marks.items queue.old.numbers.items → AreMarked count queue.new.marks.items queue.new.numbers.items }
+    ensures marks { (count : ℕ) → AreMarked count queue.old.marks.items queue.old.numbers.items
+        → AreMarked count queue.new.marks.items queue.new.numbers.items }
 {
     out.sort_unstable_by_key(|taken| taken.number);
     requeue_all(queue, out.as_slice());

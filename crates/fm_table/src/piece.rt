@@ -45,12 +45,13 @@ impl Piece {
 // What a heavy process gets at once, in slices, where it is played beside others.
 const HEAVY_SLICES: u32 = 128;
 
-// How many statements a process gets at least for each word of its frame. With 8 its copies and comparisons took some 5 in 100 of its
-// time, without what fresh pages cost.
+// How many statements a process gets at least for each word of its frame. With 8 its copies and comparisons took some 5
+// in 100 of its time, without what fresh pages cost.
 const STEPS_FOR_A_WORD: u32 = 64;
 
-/// The most statements of the piece of a process whose frame has so many words: as many as the setup says; or more where it is heavy,
-/// or its body is large, so that handing it out, copying it and comparing it takes little of its time.
+/// The most statements of the piece of a process whose frame has so many words: as many as the setup says; or more
+/// where it is heavy, or its body is large, so that handing it out, copying it and comparing it takes little of its
+/// time.
 pub(crate) fn slice_for(slice: u32, words: usize, heavy: bool) -> u32
     requires some { 1 ≤ slice }
     requires small { slice ≤ 1000000 }

@@ -24,8 +24,8 @@ fn is_whole(done: u32, steps: u32) -> bool
     done == steps
 }
 
-// Plays an entry of a schedule that was kept. Such an entry has its steps, so that one without them is answered as want of memory
-// costs nothing.
+// Plays an entry of a schedule that was kept. Such an entry has its steps, so that one without them is answered as want
+// of memory costs nothing.
 fn play_entry(
     alloc: Global,
     program: &Program,

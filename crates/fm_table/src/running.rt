@@ -54,9 +54,9 @@ fn run_of(alloc: Global, table: Table) -> Result<Run, NoMemory>
     })
 }
 
-/// Plays a program from its first state until no process can step, or until its turns are spent. Piece `i` goes to the process at
-/// place `choices[i]`, modulo their number, among those that can step, and to the first one when the choices are used up. The schedule
-/// has at most one entry more than the turns.
+/// Plays a program from its first state until no process can step, or until its turns are spent. Piece `i` goes to the
+/// process at place `choices[i]`, modulo their number, among those that can step, and to the first one when the choices
+/// are used up. The schedule has at most one entry more than the turns.
 pub fn run_table(
     alloc: Global,
     program: Arc<Program>,
@@ -76,8 +76,8 @@ pub fn run_table(
     run_of(alloc, table)
 }
 
-/// Plays a table on, whose pieces nobody makes outside, until no process can step or its turns are spent: each piece goes to the first
-/// process that is ready.
+/// Plays a table on, whose pieces nobody makes outside, until no process can step or its turns are spent: each piece
+/// goes to the first process that is ready.
 pub fn run_on(alloc: Global, begun: Table) -> Result<Run, NoMemory>
     requires { begun.out ≡ [] }
     ensures { IfOk result (λ r. IsRun begun.program begun.setup.turns r) }

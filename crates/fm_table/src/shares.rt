@@ -19,18 +19,20 @@ use std::alloc::Global;
 use std::collections::VecDeque;
 use std::mem::replace;
 
-/// What of the queue the plan gives each worker. It is kept from the first time on that it is asked for, so that who asks need not
-/// look at others. Where there is one node or one worker, all belong to the first worker, and nothing is kept.
+/// What of the queue the plan gives each worker. It is kept from the first time on that it is asked for, so that who
+/// asks need not look at others. Where there is one node or one worker, all belong to the first worker, and nothing is
+/// kept.
 #[derive(Drop)]
 pub(crate) struct Shares {
     /// How many nodes the machine of main has.
     pub nodes: u32,
-    /// For each worker those of the queue that the plan maps to it, as they stand there; none where they are to be made anew.
+    /// For each worker those of the queue that the plan maps to it, as they stand there; none where they are to be made
+    /// anew.
     pub lists: Option<Vec<Queue>>,
 }
 
-// The worker that the plan maps a process to that can step. Such a process has a body, so that one without it is answered as want of
-// memory costs nothing.
+// The worker that the plan maps a process to that can step. Such a process has a body, so that one without it is
+// answered as want of memory costs nothing.
 fn worker_of_process(
     player: &Player<Compiled>,
     nodes: u32,
@@ -39,7 +41,8 @@ fn worker_of_process(
 ) -> Result<u32, NoMemory>
     requires live { IsLiveOn nodes player.now }
     requires able { Among number player.now.able.numbers.items }
-    ensures worker { IfOk result (λ w. (p : Program) → IsLive p player.now → nodes ≡ main_nodes p → w ≡ worker_at p setup.now (stand_in p player.now) number) }
+    ensures worker { IfOk result (λ w. (p : Program) → IsLive p player.now
+        → nodes ≡ main_nodes p → w ≡ worker_at p setup.now (stand_in p player.now) number) }
     ensures below { IfOk result (λ w. w < setup.now.workers) }
 {
     match player.net.body_of(number) {
@@ -62,7 +65,9 @@ fn no_shares(alloc: Global, workers: u32) -> Result<Vec<Queue>, NoMemory>
 // One more comes to a worker.
 fn put_share(lists: &mut Vec<Queue>, worker: u32, number: u32) -> Result<(), NoMemory>
     requires { worker < length lists.old.items }
-    ensures { OnOk result (shares_of lists.new.items ≡ slice_set (shares_of lists.old.items) worker (slice_index_or (shares_of lists.old.items) worker [] ++ number ∷ [])) }
+    ensures { OnOk result (shares_of lists.new.items
+        ≡ slice_set (shares_of lists.old.items) worker
+        (slice_index_or (shares_of lists.old.items) worker [] ++ number ∷ [])) }
 {
     lists[worker as usize].put(number)
 }
@@ -71,7 +76,9 @@ fn put_share(lists: &mut Vec<Queue>, worker: u32, number: u32) -> Result<(), NoM
 fn leave_share(lists: &mut Vec<Queue>, worker: u32, number: u32)
     requires there { worker < length lists.old.items }
     requires once { EachOnce (slice_index_or (shares_of lists.old.items) worker []) }
-    ensures { shares_of lists.new.items ≡ slice_set (shares_of lists.old.items) worker (others_in number (slice_index_or (shares_of lists.old.items) worker [])) }
+    ensures { shares_of lists.new.items
+        ≡ slice_set (shares_of lists.old.items) worker
+        (others_in number (slice_index_or (shares_of lists.old.items) worker [])) }
 {
     lists[worker as usize].leave(number);
 }
@@ -87,8 +94,11 @@ fn share_out(
     requires live { IsLiveOn nodes player.now }
     requires many { length (shares_of lists.old.items) ≡ setup.now.workers }
     ensures many { OnOk result (length (shares_of lists.new.items) ≡ setup.now.workers) }
-    ensures shared { OnOk result ((p : Program) → IsLive p player.now → nodes ≡ main_nodes p → (w : ℕ) → w < setup.now.workers
-        → slice_index_or (shares_of lists.new.items) w [] ≡ slice_index_or (shares_of lists.old.items) w [] ++ mapped p setup.now (stand_in p player.now) w (drop from player.now.able.numbers.items)) }
+    ensures shared { OnOk result ((p : Program) → IsLive p player.now
+        → nodes ≡ main_nodes p → (w : ℕ) → w < setup.now.workers
+        → slice_index_or (shares_of lists.new.items) w []
+        ≡ slice_index_or (shares_of lists.old.items) w []
+        ++ mapped p setup.now (stand_in p player.now) w (drop from player.now.able.numbers.items)) }
 {
     let queue = &player.able.numbers;
     'queue: for place in from..queue.len() {
@@ -101,7 +111,8 @@ fn share_out(
 
 // The first one of a worker that is ready, or else the first one that is.
 fn first_ready(own: &VecDeque<u32>, queue: &VecDeque<u32>, out: &[Taken]) -> Option<u32>
-    ensures { result ≡ first_of (ready_in (outs_of out.now) own.now.items) (ready_in (outs_of out.now) queue.now.items) }
+    ensures { result
+        ≡ first_of (ready_in (outs_of out.now) own.now.items) (ready_in (outs_of out.now) queue.now.items) }
 {
     match choose_ready(own, out, 0) {
         Some(number) => Some(number),
@@ -110,9 +121,11 @@ fn first_ready(own: &VecDeque<u32>, queue: &VecDeque<u32>, out: &[Taken]) -> Opt
 }
 
 impl Shares {
-    /// Before the first piece nothing is kept. Main has a body, so that one without it is answered as want of memory costs nothing.
+    /// Before the first piece nothing is kept. Main has a body, so that one without it is answered as want of memory
+    /// costs nothing.
     pub fn first(player: &Player<Compiled>) -> Result<Shares, NoMemory>
-        ensures nodes { (p : Program) → IsLive p player.now → player.now.net.history ≡ [] → IfOk result (λ s. s.nodes ≡ main_nodes p) }
+        ensures nodes { (p : Program) → IsLive p player.now → player.now.net.history ≡ []
+            → IfOk result (λ s. s.nodes ≡ main_nodes p) }
         ensures none { IfOk result (λ s. s.lists ≡ None) }
     {
         match player.net.body_of(0) {
@@ -141,8 +154,10 @@ impl Shares {
 
     /// What the workers have without a process that is about to make an entry, where it is known; it isn't any more.
     pub fn leave(&mut self, standing: &Standing, setup: &Setup, number: u32) -> Option<Vec<Queue>>
-        requires kept { (p : Program) × IsStanding p standing.now × HasShares p setup.now (stand_kept p standing.now) self.old }
-        ensures left { (p : Program) → IsStanding p standing.now → HasShares p setup.now (stand_kept p standing.now) self.old
+        requires kept { (p : Program) × IsStanding p standing.now
+            × HasShares p setup.now (stand_kept p standing.now) self.old }
+        ensures left { (p : Program) → IsStanding p standing.now
+            → HasShares p setup.now (stand_kept p standing.now) self.old
             → IfSome result (λ lists. HaveLeft p setup.now (stand_kept p standing.now) number (shares_of lists.items)) }
         ensures many { IfSome result (λ lists. length (shares_of lists.items) ≡ setup.now.workers) }
         ensures nodes { self.new.nodes ≡ self.old.nodes }
@@ -172,8 +187,10 @@ impl Shares {
         requires live { IsLiveOn self.old.nodes player.now }
         requires many { IfSome left (λ lists. length (shares_of lists.items) ≡ setup.now.workers) }
         requires none { self.old.lists ≡ None }
-        ensures settled { (p : Program) (a : Stand) (n : ℕ) → IsLive p player.now → self.old.nodes ≡ main_nodes p → IfSome left (λ lists. HaveLeft p setup.now a n (shares_of lists.items))
-            → AreBehind p setup.now a (stand_in p player.now) n from → HasShares p setup.now (stand_in p player.now) self.new }
+        ensures settled { (p : Program) (a : Stand) (n : ℕ) → IsLive p player.now
+            → self.old.nodes ≡ main_nodes p → IfSome left (λ lists. HaveLeft p setup.now a n (shares_of lists.items))
+            → AreBehind p setup.now a (stand_in p player.now) n from
+            → HasShares p setup.now (stand_in p player.now) self.new }
     {
         let Some(mut lists) = left else {
             return;
@@ -192,7 +209,8 @@ impl Shares {
         setup: &Setup,
     ) -> Result<(), NoMemory>
         requires live { IsLiveOn self.old.nodes player.now }
-        ensures kept { (p : Program) → IsLive p player.now → HasShares p setup.now (stand_in p player.now) self.old → HasShares p setup.now (stand_in p player.now) self.new }
+        ensures kept { (p : Program) → IsLive p player.now → HasShares p setup.now (stand_in p player.now) self.old
+            → HasShares p setup.now (stand_in p player.now) self.new }
         ensures there { OnOk result (is_some self.new.lists ≡ true) }
     {
         if self.lists.is_some() {
@@ -207,8 +225,11 @@ impl Shares {
     /// Who is taken for a worker.
     pub fn choose(&self, worker: u32, queue: &VecDeque<u32>, out: &[Taken]) -> Option<u32>
         requires there { is_some self.now.lists ≡ true }
-        ensures { (p : Program) (setup : Setup) (a : Stand) → HasShares p setup a self.now → queue.now.items ≡ a.able → worker < setup.workers
-            → result ≡ first_of (mapped p setup a worker (ready_in (outs_of out.now) queue.now.items)) (ready_in (outs_of out.now) queue.now.items) }
+        ensures { (p : Program) (setup : Setup) (a : Stand) → HasShares p setup a self.now
+            → queue.now.items ≡ a.able → worker < setup.workers
+            → result
+            ≡ first_of (mapped p setup a worker (ready_in (outs_of out.now) queue.now.items))
+            (ready_in (outs_of out.now) queue.now.items) }
     {
         match &self.lists {
             Some(lists) => match lists.get(worker as usize) {

@@ -19,15 +19,16 @@ use fm_run::{History, Net, Player, Queue};
 use std::alloc::Global;
 use std::sync::Arc;
 
-/// Where a kept schedule leads. The processes are a cache of it: where memory was wanting they are let go, and the schedule is played
-/// again when they are needed. The rest is told also then.
+/// Where a kept schedule leads. The processes are a cache of it: where memory was wanting they are let go, and the
+/// schedule is played again when they are needed. The rest is told also then.
 #[derive(Drop)]
 pub(crate) struct Standing {
     /// The processes, while `is_live`; the schedule, and those that can step.
     pub player: Player<Compiled>,
     /// Whether the processes are there.
     pub is_live: bool,
-    /// The paths of the processes, in the order of starting: of all where the processes aren't there, and else of the first of them.
+    /// The paths of the processes, in the order of starting: of all where the processes aren't there, and else of the
+    /// first of them.
     pub paths: Vec<Arc<Path>>,
     /// What the schedule costs.
     pub used: u64,
@@ -74,7 +75,8 @@ impl Standing {
         self.make_again(alloc, program)
     }
 
-    // Makes the processes again, which were let go. That is rare, and stands apart so that nothing is laid out for it where they are there.
+    // Makes the processes again, which were let go. That is rare, and stands apart so that nothing is laid out for it
+    // where they are there.
     #[cold]
     #[inline(never)]
     fn make_again(&mut self, alloc: Global, program: &Program) -> Result<(), NoMemory>
@@ -102,8 +104,8 @@ impl Standing {
         Ok(())
     }
 
-    /// Makes steps of the process of a number, as they are asked for, which are an entry: how many. None where it can't step; then
-    /// nothing changes.
+    /// Makes steps of the process of a number, as they are asked for, which are an entry: how many. None where it can't
+    /// step; then nothing changes.
     ///
     /// # Errors
     /// `NoMemory` is want of memory, and changes nothing of where the schedule leads.
@@ -118,9 +120,15 @@ impl Standing {
         requires standing { IsStanding program.now self.old }
         ensures standing { IsStanding program.now self.new }
         ensures live { OnOk result (self.new.is_live ≡ true) }
-        ensures none { result ≡ Ok 0 → IsAsItWas self.old self.new × (can_at program.now (stand_kept program.now self.old).state (stand_kept program.now self.old).places number ≡ false) }
-        ensures made { IfOk result (λ steps. 1 ≤ steps → HasEntered program.now (turn_of number steps) self.old self.new) }
-        ensures so { IfOk result (λ steps. 1 ≤ steps → MakesSo way.entry program.now (stand_kept program.now self.old) (stand_kept program.now self.new) number steps) }
+        ensures none { result ≡ Ok 0
+            → IsAsItWas self.old self.new
+            × (can_at program.now (stand_kept program.now self.old).state (stand_kept program.now self.old).places
+            number ≡ false) }
+        ensures made { IfOk result
+            (λ steps. 1 ≤ steps → HasEntered program.now (turn_of number steps) self.old self.new) }
+        ensures so { IfOk result (λ steps. 1 ≤ steps
+            → MakesSo way.entry program.now (stand_kept program.now self.old) (stand_kept program.now self.new) number
+            steps) }
         ensures stays { OnErr result (IsAsItWas self.old self.new) }
     {
         self.revive(alloc, program)?;
@@ -175,7 +183,9 @@ impl Standing {
     /// What a run shows that ended here.
     pub fn outcome(&self, alloc: Global, program: &Program) -> Result<Outcome, NoMemory>
         requires { IsStanding program.now self.now }
-        ensures { IfOk result (λ o. o ≡ outcome_of program.now (cost_by program.now self.now.player.net.history) (stand_kept program.now self.now).state) }
+        ensures { IfOk result (λ o. o
+            ≡ outcome_of program.now (cost_by program.now self.now.player.net.history)
+            (stand_kept program.now self.now).state) }
     {
         if self.is_live {
             return outcome_in(alloc, program, &self.player);

@@ -33,8 +33,8 @@ use std::alloc::Global;
 use std::marker::Model;
 use std::sync::Arc;
 
-/// The table of a run: its program and setup, the schedule that was kept, in which order those that can step are served, and whose pieces
-/// are made outside. Contracts see these; where the schedule leads is a function of it.
+/// The table of a run: its program and setup, the schedule that was kept, in which order those that can step are
+/// served, and whose pieces are made outside. Contracts see these; where the schedule leads is a function of it.
 pub struct Table {
     program: Arc<Program>,
     setup: Setup,
@@ -122,8 +122,9 @@ impl Table {
         })
     }
 
-    /// What is so of every table: the schedule is one of the program, and leads to the stand that is told; it costs more than the
-    /// turns by its last entry at most; those that can step are told, each once, and those that are out are among them.
+    /// What is so of every table: the schedule is one of the program, and leads to the stand that is told; it costs
+    /// more than the turns by its last entry at most; those that can step are told, each once, and those that are out
+    /// are among them.
     pub fn promise(&self)
         ensures { IsKept self.now }
     {
@@ -157,11 +158,13 @@ impl Table {
         is_over(self.standing.used, self.setup.turns)
     }
 
-    /// Makes a piece of the process at a place among those that are ready, modulo their number, and looks who can step then. Where
-    /// no piece can be made, for the turns are spent or nobody is ready, it answers false, and nothing changes.
+    /// Makes a piece of the process at a place among those that are ready, modulo their number, and looks who can step
+    /// then. Where no piece can be made, for the turns are spent or nobody is ready, it answers false, and nothing
+    /// changes.
     ///
-    /// Those that can step stand in a queue: the one that made its piece leaves its place; others that have become able come behind,
-    /// in the order of starting, and behind them the one itself, where it can step still. Those of them are ready that aren't out.
+    /// Those that can step stand in a queue: the one that made its piece leaves its place; others that have become able
+    /// come behind, in the order of starting, and behind them the one itself, where it can step still. Those of them
+    /// are ready that aren't out.
     ///
     /// # Errors
     /// `NoMemory` is want of memory, and changes nothing.
@@ -187,9 +190,9 @@ impl Table {
         }
     }
 
-    /// Makes the steps of an entry, one behind the other. None where all were made; else so many, behind which the process has no
-    /// step more, or where there is no process of this number. What was made is an entry of the schedule, where it is a step or more;
-    /// the process isn't out then.
+    /// Makes the steps of an entry, one behind the other. None where all were made; else so many, behind which the
+    /// process has no step more, or where there is no process of this number. What was made is an entry of the
+    /// schedule, where it is a step or more; the process isn't out then.
     ///
     /// # Errors
     /// `NoMemory` is want of memory, and changes nothing.
@@ -206,8 +209,8 @@ impl Table {
         Ok(missing(done, entry.steps))
     }
 
-    // Who is taken for a worker: the first one that is ready and that the plan maps to it, or else the first one that is ready. Where
-    // the plan maps all to the first worker, or none to this one, that is the first one.
+    // Who is taken for a worker: the first one that is ready and that the plan maps to it, or else the first one that
+    // is ready. Where the plan maps all to the first worker, or none to this one, that is the first one.
     fn choose_for(&mut self, alloc: Global, worker: u32) -> Result<Option<u32>, NoMemory>
         ensures chosen { IfOk result (λ r. r ≡ taken_for worker self.old) }
         ensures same { self.new ≡ self.old }
@@ -222,14 +225,15 @@ impl Table {
         Ok(self.shares.choose(worker, queue, self.out.as_slice()))
     }
 
-    /// Takes a process out for a worker, so that its piece can be made outside, from a copy of it: the first one that is ready and that
-    /// the plan maps to this worker, or else the first one that is ready. None where no piece can be made, for the turns are spent or
-    /// nobody is ready; then nothing changes.
+    /// Takes a process out for a worker, so that its piece can be made outside, from a copy of it: the first one that
+    /// is ready and that the plan maps to this worker, or else the first one that is ready. None where no piece can be
+    /// made, for the turns are spent or nobody is ready; then nothing changes.
     ///
     /// # Errors
     /// `NoMemory` is want of memory, and changes nothing.
     pub fn take(&mut self, alloc: Global, worker: u32) -> Result<Option<Piece>, NoMemory>
-        ensures taken { IfOk result (λ r. IfSome r (λ p. TakesTo worker p.process (place_in p.path) p.start.value self.old self.new)) }
+        ensures taken { IfOk result
+            (λ r. IfSome r (λ p. TakesTo worker p.process (place_in p.path) p.start.value self.old self.new)) }
         ensures idle { IfOk result (λ r. r ≡ None → IsIdle self.old × (self.new ≡ self.old)) }
         ensures stays { OnErr result (self.new ≡ self.old) }
     {
@@ -271,10 +275,11 @@ impl Table {
         })
     }
 
-    /// Makes a piece in place for a worker, where nothing is gained outside: of the process that stays at home with it, or of the one that
-    /// would be taken for it, where this is light (its last piece didn't use up its slice, or it hasn't made one), no other worker could
-    /// play another process meanwhile, or its body is so large that it stays at home. False where that one goes out, or where no piece
-    /// can be made; then nothing changes. A slice at home is as long as the setup says, or longer.
+    /// Makes a piece in place for a worker, where nothing is gained outside: of the process that stays at home with it,
+    /// or of the one that would be taken for it, where this is light (its last piece didn't use up its slice, or it
+    /// hasn't made one), no other worker could play another process meanwhile, or its body is so large that it stays at
+    /// home. False where that one goes out, or where no piece can be made; then nothing changes. A slice at home is as
+    /// long as the setup says, or longer.
     ///
     /// # Errors
     /// `NoMemory` is want of memory, and changes nothing.
@@ -333,8 +338,8 @@ impl Table {
         }
     }
 
-    // Whether the piece of a process is worth being made outside: its last one used up its slice, and another worker could play another
-    // process meanwhile.
+    // Whether the piece of a process is worth being made outside: its last one used up its slice, and another worker
+    // could play another process meanwhile.
     fn goes_out(&self, number: u32) -> bool {
         let ready = self.standing.player.able.numbers.len();
         is_worth(self.setup.workers, ready, self.heavy.as_slice(), number)
@@ -354,8 +359,9 @@ impl Table {
         }
     }
 
-    // Whether the piece of a process is made in place: nothing is gained outside, and then nobody else stays at home; or it is at home; or
-    // it comes home to this worker, as nobody else is there, its body is large, and no light one waits.
+    // Whether the piece of a process is made in place: nothing is gained outside, and then nobody else stays at home;
+    // or it is at home; or it comes home to this worker, as nobody else is there, its body is large, and no light one
+    // waits.
     fn stays_inside(&mut self, worker: u32, number: u32) -> bool
         ensures { self.new ≡ self.old }
     {
@@ -382,9 +388,9 @@ impl Table {
         }
     }
 
-    /// Plays what came of a piece that was made outside, as one entry: its statements, and one step more where that concerns others and
-    /// the process can make it. What wasn't made of a process that is out, from the body with which it was taken, is a stranger; then
-    /// the process, if it is out, is ready again, behind the others.
+    /// Plays what came of a piece that was made outside, as one entry: its statements, and one step more where that
+    /// concerns others and the process can make it. What wasn't made of a process that is out, from the body with which
+    /// it was taken, is a stranger; then the process, if it is out, is ready again, behind the others.
     ///
     /// # Errors
     /// `NoMemory` is want of memory; it changes nothing, and what came of the piece is handed back.
@@ -418,12 +424,14 @@ impl Table {
         Ok(Given::Played)
     }
 
-    // Makes steps of the process of a number, as they are asked for, which are an entry more: how many. None where it can't step; then
-    // nothing changes. The process isn't out then.
+    // Makes steps of the process of a number, as they are asked for, which are an entry more: how many. None where it
+    // can't step; then nothing changes. The process isn't out then.
     fn enter(&mut self, alloc: Global, number: u32, way: Way) -> Result<u32, NoMemory>
         requires some { IsAsked way }
         requires going { cost_of self.old ≤ self.old.setup.turns }
-        ensures none { result ≡ Ok 0 → (self.new ≡ self.old) × (can_at self.old.program (stand_of self.old).state (stand_of self.old).places number ≡ false) }
+        ensures none { result ≡ Ok 0
+            → (self.new ≡ self.old)
+            × (can_at self.old.program (stand_of self.old).state (stand_of self.old).places number ≡ false) }
         ensures made { IfOk result (λ steps. 1 ≤ steps → EntersTo way.entry number steps self.old self.new) }
         ensures stays { OnErr result (self.new ≡ self.old) }
     {

@@ -22,8 +22,8 @@ pub(crate) struct Start {
     pub path: Arc<Path>,
 }
 
-/// What the piece of a process is made from that can step. Such a process has a body and a path, so that one without them is answered
-/// as want of memory costs nothing.
+/// What the piece of a process is made from that can step. Such a process has a body and a path, so that one without
+/// them is answered as want of memory costs nothing.
 pub(crate) fn start_of(alloc: Global, net: &Compiled, number: u32) -> Result<Start, NoMemory>
     ensures kept { IfOk result (λ s. s.kept.value ≡ s.start.value) }
     ensures body { IfOk result (λ s. IsBodyAt net.now.stacks number (Some s.start.value)) }

@@ -8,13 +8,14 @@ pub(crate) fn is_heavy(heavy: &[bool], number: u32) -> bool {
     }
 }
 
-/// Whether a piece of a process is worth being made outside: its last one used up its slice, and of so many workers another one
-/// could play another of so many that can step meanwhile.
+/// Whether a piece of a process is worth being made outside: its last one used up its slice, and of so many workers
+/// another one could play another of so many that can step meanwhile.
 pub(crate) fn is_worth(workers: u32, ready: usize, heavy: &[bool], number: u32) -> bool {
     1 < workers && 1 < ready && is_heavy(heavy, number)
 }
 
-/// Marks whether a piece used up its slice. A mark for which there is no memory isn't kept: then the process is taken for a light one.
+/// Marks whether a piece used up its slice. A mark for which there is no memory isn't kept: then the process is taken
+/// for a light one.
 pub(crate) fn weigh(heavy: &mut Vec<bool>, number: u32, used_up: bool) {
     let place = number as usize;
     if place < heavy.len() {

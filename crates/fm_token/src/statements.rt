@@ -13,7 +13,8 @@ use std::alloc::Global;
 
 // Adds the cut of a text.
 fn push_cut(alloc: Global, out: &mut Vec<Token>, text: &[u8]) -> Result<(), ParseFail>
-    ensures { MatchResult result (λ _. behind_items out.old.items (cut_of text.now) ≡ Some out.new.items) (λ e. e ≡ ParseFail.Bad → cut_of text.now ≡ None) }
+    ensures { MatchResult result (λ _. behind_items out.old.items (cut_of text.now) ≡ Some out.new.items)
+        (λ e. e ≡ ParseFail.Bad → cut_of text.now ≡ None) }
 {
     let mut rest = text;
     'tokens: while !rest.is_empty() {
@@ -53,7 +54,8 @@ fn push_key(out: &mut Vec<Token>, class: Class) -> Result<(), ParseFail>
 
 // Adds the tokens of a text that is no logical IF.
 fn push_keyed(alloc: Global, out: &mut Vec<Token>, text: &[u8]) -> Result<(), ParseFail>
-    ensures { MatchResult result (λ _. behind_items out.old.items (keyed_tokens text.now) ≡ Some out.new.items) (λ e. e ≡ ParseFail.Bad → keyed_tokens text.now ≡ None) }
+    ensures { MatchResult result (λ _. behind_items out.old.items (keyed_tokens text.now) ≡ Some out.new.items)
+        (λ e. e ≡ ParseFail.Bad → keyed_tokens text.now ≡ None) }
 {
     let class = class(text);
     if is_nothing(class) {
@@ -65,7 +67,9 @@ fn push_keyed(alloc: Global, out: &mut Vec<Token>, text: &[u8]) -> Result<(), Pa
 
 // Adds the key of a logical IF and the cut of its test.
 fn push_test(alloc: Global, out: &mut Vec<Token>, condition: &[u8]) -> Result<(), ParseFail>
-    ensures { MatchResult result (λ _. behind_items (out.old.items ++ Token.Key Class.LogicalIf ∷ []) (cut_of (drop 2 condition.now)) ≡ Some out.new.items) (λ e. e ≡ ParseFail.Bad → cut_of (drop 2 condition.now) ≡ None) }
+    ensures { MatchResult result (λ _. behind_items (out.old.items ++ Token.Key Class.LogicalIf ∷ [])
+        (cut_of (drop 2 condition.now)) ≡ Some out.new.items)
+        (λ e. e ≡ ParseFail.Bad → cut_of (drop 2 condition.now) ≡ None) }
 {
     out.push(Token::Key(Class::LogicalIf))?;
     push_cut(alloc, out, behind(condition, 2))
@@ -73,7 +77,8 @@ fn push_test(alloc: Global, out: &mut Vec<Token>, condition: &[u8]) -> Result<()
 
 // Adds the tokens of a text: a logical IF after the other, and the statement in the last.
 fn push_tokens(alloc: Global, out: &mut Vec<Token>, text: &[u8]) -> Result<(), ParseFail>
-    ensures { MatchResult result (λ _. behind_items out.old.items (tokens_of text.now) ≡ Some out.new.items) (λ e. e ≡ ParseFail.Bad → tokens_of text.now ≡ None) }
+    ensures { MatchResult result (λ _. behind_items out.old.items (tokens_of text.now) ≡ Some out.new.items)
+        (λ e. e ≡ ParseFail.Bad → tokens_of text.now ≡ None) }
 {
     let mut rest = text;
     'ifs: while let Some(n) = logical_end(rest) {
@@ -89,7 +94,8 @@ fn push_tokens(alloc: Global, out: &mut Vec<Token>, text: &[u8]) -> Result<(), P
 /// The tokens of a statement's text, its keyword first; behind the test of a logical IF those of
 /// the statement in it. `ParseFail::Bad` where the text isn't made of tokens or no form has it.
 pub fn tokens(alloc: Global, text: &[u8]) -> Result<Vec<Token>, ParseFail>
-    ensures { MatchResult result (λ v. IsTokens text.now v.items) (λ e. e ≡ ParseFail.Bad → (ts : List Token) → ¬ IsTokens text.now ts) }
+    ensures { MatchResult result (λ v. IsTokens text.now v.items)
+        (λ e. e ≡ ParseFail.Bad → (ts : List Token) → ¬ IsTokens text.now ts) }
 {
     let mut out = Vec::new(alloc);
     match push_tokens(alloc, &mut out, text) {

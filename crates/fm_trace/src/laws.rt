@@ -17,16 +17,17 @@ pub fn one_answer()
         (line : ℕ) → ¬ IsFirstMalformed bytes line }
 {}
 
-/// A trace stands for one history: the trace of a history for that history. A trace of form 2 is the trace of the history
-/// that it stands for, so that what was read of a text of form 2 is written again to the same bytes. A trace of form 1 has
-/// a line for each entry of its history, so it too is the only one of that history; and what was read of it is written
-/// to a text of form 2, of the same turns, history and program.
+/// A trace stands for one history: the trace of a history for that history. A trace of form 2 is the trace of the
+/// history that it stands for, so that what was read of a text of form 2 is written again to the same bytes. A trace of
+/// form 1 has a line for each entry of its history, so it too is the only one of that history; and what was read of it
+/// is written to a text of form 2, of the same turns, history and program.
 pub fn one_history()
     ensures history { (turns : ℕ) (history : List Turn) (source : List ℕ) →
         history_of (trace_of_history turns history source) ≡ history }
     ensures form_2 { (t : declared.Trace) → IsTrace t → AreOf forms.Two None t.entries →
         trace_of_history t.turns (history_of t) t.source ≡ t }
     ensures form_1 { (t : declared.Trace) → AreOf forms.One None t.entries → map once (history_of t) ≡ t.entries }
-    ensures written { (t : declared.Trace) → IsTrace t →
-        IsTraceText (trace_text (trace_of_history t.turns (history_of t) t.source)) (trace_of_history t.turns (history_of t) t.source) }
+    ensures written { (t : declared.Trace) → IsTrace t
+        → IsTraceText (trace_text (trace_of_history t.turns (history_of t) t.source))
+        (trace_of_history t.turns (history_of t) t.source) }
 {}

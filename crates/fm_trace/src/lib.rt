@@ -15,13 +15,13 @@
 //!
 //! Two lines in succession are of different entries, and all lines together stand for at most 1,000,000,001 entries.
 //!
-//! Form 1 is read too. Its first line is `fmc trace 1`, its third `entries N`, and it has a line `NUMBER STEPS` for each
-//! entry, also where the one before is the same.
+//! Form 1 is read too. Its first line is `fmc trace 1`, its third `entries N`, and it has a line `NUMBER STEPS` for
+//! each entry, also where the one before is the same.
 //!
 //! Numbers are decimal without zeros in front, one blank stands between two, and each line up to `source` ends with a
 //! line feed alone. So a trace has one text in each form that has lines for its entries, and a text one trace. The
-//! program may be empty. Of bytes that are no trace's text, one line is the first that is malformed: the lines before it
-//! begin some trace's text, and with it they begin none.
+//! program may be empty. Of bytes that are no trace's text, one line is the first that is malformed: the lines before
+//! it begin some trace's text, and with it they begin none.
 #![tactic(auto)]
 
 mod fail;

@@ -68,7 +68,8 @@ fn push_end(out: &mut String) -> Result<(), NoMemory>
 
 /// The line of an entry that comes so many times.
 fn push_run(out: &mut String, turn: Turn, times: usize) -> Result<(), NoMemory>
-    ensures text { OnOk result (string_bytes out.new ≡ string_bytes out.old ++ entry_line (record { turn = turn; times = times })) }
+    ensures text { OnOk result
+        (string_bytes out.new ≡ string_bytes out.old ++ entry_line (record { turn = turn; times = times })) }
     ensures small { IsSmall turn }
 {
     let Turn { number, steps } = turn;
@@ -82,7 +83,8 @@ fn push_run(out: &mut String, turn: Turn, times: usize) -> Result<(), NoMemory>
 
 /// The lines of a history.
 fn push_runs(out: &mut String, history: &[Turn]) -> Result<(), NoMemory>
-    ensures text { OnOk result (string_bytes out.new ≡ string_bytes out.old ++ flat_map entry_line (runs_of history.now)) }
+    ensures text { OnOk result
+        (string_bytes out.new ≡ string_bytes out.old ++ flat_map entry_line (runs_of history.now)) }
     ensures small { OnOk result (AreSmall (runs_of history.now)) }
 {
     let mut rest = history;

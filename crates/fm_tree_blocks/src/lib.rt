@@ -1,4 +1,5 @@
-//! What blocks and mates are: laws on the marks of a unit's entries. Each function has an empty body: its contract is a law.
+//! What blocks and mates are: laws on the marks of a unit's entries. Each function has an empty body: its contract is a
+//! law.
 #![tactic(auto)]
 
 ghost use Rattle.fm_tree_blocks.specs.Laws.{BlocksNest, ClosersMatch, MatesCount, PathsAgree};

@@ -83,7 +83,8 @@ pub fn push_arguments<T, F: Spelled<T>>(
     parts: &Option<Seq<T>>,
     out: &mut Vec<Token>,
 ) -> Result<(), NoMemory>
-    ensures { OnOk result (out.new.items ≡ out.old.items ++ (optional_behind Token.Open (before (listed F.form) Token.Close)).spelled parts.now) }
+    ensures { OnOk result (out.new.items
+        ≡ out.old.items ++ (optional_behind Token.Open (before (listed F.form) Token.Close)).spelled parts.now) }
 {
     match parts {
         None => Ok(()),

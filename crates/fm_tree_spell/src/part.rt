@@ -221,7 +221,8 @@ fn push_range(
     last: &Expr,
     out: &mut Vec<Token>,
 ) -> Result<(), NoMemory>
-    ensures { OnOk result (out.new.items ≡ out.old.items ++ (parens (pair expr (behind Token.Colon expr))).spelled (first.now, last.now)) }
+    ensures { OnOk result (out.new.items
+        ≡ out.old.items ++ (parens (pair expr (behind Token.Colon expr))).spelled (first.now, last.now)) }
 {
     push_token(Token::Open, out)?;
     push_expr(alloc, first, out)?;
@@ -239,7 +240,8 @@ fn push_worded_range(
     out: &mut Vec<Token>,
 ) -> Result<(), NoMemory>
     ensures { OnOk result (out.new.items
-        ≡ out.old.items ++ (behind_word word.now (parens (pair expr (behind Token.Colon expr)))).spelled (first.now, last.now)) }
+        ≡ out.old.items
+        ++ (behind_word word.now (parens (pair expr (behind Token.Colon expr)))).spelled (first.now, last.now)) }
 {
     push_word(alloc, word, out)?;
     push_range(alloc, first, last, out)

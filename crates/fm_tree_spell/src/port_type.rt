@@ -58,7 +58,8 @@ fn push_fields(alloc: Global, port_type: &PortType, out: &mut Vec<Token>) -> Res
 #[cycle(fields)]
 fn push_field(alloc: Global, field: &Field, out: &mut Vec<Token>) -> Result<(), NoMemory>
     ensures { OnOk result (out.new.items
-        ≡ out.old.items ++ (kind_spelled (kind_of field.now.kind) field.now.name ++ (bracketed bound_form).spelled field.now.bounds)) }
+        ≡ out.old.items
+        ++ (kind_spelled (kind_of field.now.kind) field.now.name ++ (bracketed bound_form).spelled field.now.bounds)) }
 {
     push_kind(alloc, &field.kind, &field.name, out)?;
     push_bracketed::<Bound, BoundForm>(alloc, field.bounds.as_slice(), out)

@@ -87,7 +87,11 @@ fn push_two(
     out: &mut Vec<Token>,
 ) -> Result<(), NoMemory>
     ensures { OnOk result (out.new.items
-        ≡ out.old.items ++ (parens (pair (assigned first_word.now var_form) (behind Token.Comma (assigned second_word.now var_form)))).spelled (first.now, second.now)) }
+        ≡ out.old.items
+        ++ (parens (pair
+        (assigned first_word.now var_form)
+        (behind Token.Comma (assigned second_word.now var_form)))).spelled
+        (first.now, second.now)) }
 {
     push_token(Token::Open, out)?;
     push_assigned(alloc, first_word, first, out)?;
@@ -103,7 +107,8 @@ fn push_channel(
     outport: &Var,
     out: &mut Vec<Token>,
 ) -> Result<(), NoMemory>
-    ensures { OnOk result (out.new.items ≡ out.old.items ++ keyed Class.Channel channel_form (in_first, (inport.now, outport.now))) }
+    ensures { OnOk result
+        (out.new.items ≡ out.old.items ++ keyed Class.Channel channel_form (in_first, (inport.now, outport.now))) }
 {
     push_token(Token::Key(Class::Channel), out)?;
     if in_first {
@@ -151,7 +156,8 @@ fn push_receive(
     items: &[Var],
     out: &mut Vec<Token>,
 ) -> Result<(), NoMemory>
-    ensures { OnOk result (out.new.items ≡ out.old.items ++ keyed Class.Receive receive_form (((named, port.now), extras.now), items.now)) }
+    ensures { OnOk result (out.new.items
+        ≡ out.old.items ++ keyed Class.Receive receive_form (((named, port.now), extras.now), items.now)) }
 {
     push_token(Token::Key(Class::Receive), out)?;
     push_token(Token::Open, out)?;
@@ -182,7 +188,8 @@ fn push_probe(
     empty: &Var,
     out: &mut Vec<Token>,
 ) -> Result<(), NoMemory>
-    ensures { OnOk result (out.new.items ≡ out.old.items ++ keyed Class.Probe probe_form ((named, port.now), empty.now)) }
+    ensures { OnOk result
+        (out.new.items ≡ out.old.items ++ keyed Class.Probe probe_form ((named, port.now), empty.now)) }
 {
     push_token(Token::Key(Class::Probe), out)?;
     push_token(Token::Open, out)?;

@@ -137,7 +137,8 @@ fn push_logical_if(
     statement: &Simple,
     out: &mut Vec<Token>,
 ) -> Result<(), NoMemory>
-    ensures { OnOk result (out.new.items ≡ out.old.items ++ keyed Class.LogicalIf logical_if_form (condition.now, statement.now)) }
+    ensures { OnOk result
+        (out.new.items ≡ out.old.items ++ keyed Class.LogicalIf logical_if_form (condition.now, statement.now)) }
 {
     push_condition(alloc, Class::LogicalIf, condition, out)?;
     push_simple(alloc, statement, out)
@@ -173,7 +174,8 @@ fn push_process_call(
     part: &Option<CallPart>,
     out: &mut Vec<Token>,
 ) -> Result<(), NoMemory>
-    ensures { OnOk result (out.new.items ≡ out.old.items ++ keyed Class.ProcessCall process_call_form (process.now, part.now)) }
+    ensures { OnOk result
+        (out.new.items ≡ out.old.items ++ keyed Class.ProcessCall process_call_form (process.now, part.now)) }
 {
     push_token(Token::Key(Class::ProcessCall), out)?;
     push_name(alloc, process, out)?;

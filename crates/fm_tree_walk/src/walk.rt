@@ -128,7 +128,8 @@ fn visit_with<A: Applies, B: Applies, V: Visitor>(
     others: &[B],
     visitor: &mut V,
 ) -> Result<(), V::Error>
-    ensures { OnOk result (visitor.new ≡ visited V.after visitor.old (A.applied first.now ++ flat_map B.applied others.now)) }
+    ensures { OnOk result
+        (visitor.new ≡ visited V.after visitor.old (A.applied first.now ++ flat_map B.applied others.now)) }
 {
     first.accept(visitor)?;
     visit_all(others, visitor)
@@ -215,7 +216,8 @@ fn visit_receive<V: Visitor>(
     items: &[Var],
     visitor: &mut V,
 ) -> Result<(), V::Error>
-    ensures { OnOk result (visitor.new ≡ visited V.after visitor.old (in_var port.now ++ flat_map in_extra extras.now ++ flat_map in_var items.now)) }
+    ensures { OnOk result (visitor.new
+        ≡ visited V.after visitor.old (in_var port.now ++ flat_map in_extra extras.now ++ flat_map in_var items.now)) }
 {
     visit_with::<Var, Extra, V>(port, extras, visitor)?;
     visit_all::<Var, V>(items, visitor)
@@ -268,7 +270,8 @@ fn visit_logical_if<V: Visitor>(
     contained: &Simple,
     visitor: &mut V,
 ) -> Result<(), V::Error>
-    ensures { OnOk result (visitor.new ≡ visited V.after visitor.old (applied condition.now ++ in_simple contained.now)) }
+    ensures { OnOk result
+        (visitor.new ≡ visited V.after visitor.old (applied condition.now ++ in_simple contained.now)) }
 {
     visit_expr(condition, visitor)?;
     visit_simple(contained, visitor)

@@ -124,8 +124,8 @@ fn least_place(units: &[Unit], names: &[UnitNames], context: &Context) -> Option
     best
 }
 
-/// The least place at which a program breaks a rule on types, or none: of its units, of the names in them, and of what these
-/// mean.
+/// The least place at which a program breaks a rule on types, or none: of its units, of the names in them, and of what
+/// these mean.
 pub fn types(units: &Units, names: &Names, context: &Context) -> Option<Refusal>
     ensures { IsVerdict (Contains (broken_types units.now.units names.now.units context.now)) result }
 {

@@ -83,7 +83,8 @@ fn add_entry(
     stmt: Stmt,
     entries: &mut Vec<Entry>,
 ) -> Result<(), NoMemory>
-    ensures { OnOk result (entries.new.items ≡ entries.old.items ++ entry_by links stmt (reference_places (is_function_named titles.now) stmt) ∷ []) }
+    ensures { OnOk result (entries.new.items
+        ≡ entries.old.items ++ entry_by links stmt (reference_places (is_function_named titles.now) stmt) ∷ []) }
 {
     let refs = references(alloc, titles, &stmt);
     let (stmt, refs) = together(stmt, refs)?;
@@ -97,7 +98,8 @@ fn entries(
     marks: &[EntryMark],
     pieces: Vec<Stmt>,
 ) -> Result<Vec<Entry>, NoMemory>
-    ensures { IfOk result (λ v. v.items ≡ entries_with (is_function_named titles.now) marks.now 0 marks.now pieces.items) }
+    ensures { IfOk result
+        (λ v. v.items ≡ entries_with (is_function_named titles.now) marks.now 0 marks.now pieces.items) }
 {
     let body = Body::new(alloc, marks)?;
     let mut pieces = pieces;

@@ -13,8 +13,7 @@ use crate::linking::number;
 use fm_base::{NoMemory, Seq};
 use fm_rules::EntryLinks;
 use fm_tree::{Entry, EntryMark, Form, Unit, form_of, is_else, jump_label};
-use fm_unit_layout::ends_of;
-use fm_unit_structure::label_targets;
+use fm_unit_structure::{ends_of, label_targets};
 use std::alloc::Global;
 use std::collections::BTreeMap;
 
@@ -155,8 +154,8 @@ fn end_at(ends: &[Option<usize>], marks: &[EntryMark], k: usize) -> Option<usize
     ends[k]
 }
 
-/// Where each entry of a body leads to. The body is that of a unit that breaks no rule; of any other the answer is by the
-/// same definition, and of no use.
+/// Where each entry of a body leads to. The body is that of a unit that breaks no rule; of any other the answer is by
+/// the same definition, and of no use.
 pub fn links(alloc: Global, body: &[Entry]) -> Result<Seq<EntryLinks>, NoMemory>
     ensures { IfOk result (λ v. v ≡ links_of body.now) }
 {

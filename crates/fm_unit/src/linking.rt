@@ -8,7 +8,7 @@ ghost use Rattle.fm_unit.specs.Entries.{end_for};
 
 use fm_base::NoMemory;
 use fm_tree::{Bracket, EntryMark, Open, bracket_of, is_separator, stands_outside};
-use fm_unit_layout::{ends_of, innermost_of};
+use fm_unit_structure::{ends_of, innermost_of};
 use std::alloc::Global;
 
 /// The place of a block's opener.

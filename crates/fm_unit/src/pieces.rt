@@ -45,8 +45,10 @@ fn add_part(
     front: &mut Vec<Placed>,
     pieces: &mut Vec<Stmt>,
 ) -> Result<(), NoMemory>
-    ensures front { OnOk result (front.new.items ≡ (if in_body then front.old.items else front.old.items ++ placed ∷ [])) }
-    ensures pieces { OnOk result (pieces.new.items ≡ (if in_body then pieces.old.items ++ pieces_of placed.stmt else pieces.old.items)) }
+    ensures front { OnOk result
+        (front.new.items ≡ (if in_body then front.old.items else front.old.items ++ placed ∷ [])) }
+    ensures pieces { OnOk result
+        (pieces.new.items ≡ (if in_body then pieces.old.items ++ pieces_of placed.stmt else pieces.old.items)) }
 {
     if in_body {
         add_pieces(placed.into_stmt(), pieces)

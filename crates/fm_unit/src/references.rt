@@ -38,8 +38,8 @@ impl<'a> Visitor for Finding<'a> {
     }
 }
 
-/// The references of functions in a statement, in the order of evaluation: their places, from 0, among its names with a list
-/// in parentheses.
+/// The references of functions in a statement, in the order of evaluation: their places, from 0, among its names with a
+/// list in parentheses.
 pub(crate) fn references(
     alloc: Global,
     titles: &NameMap<Title>,

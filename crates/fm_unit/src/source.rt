@@ -17,8 +17,7 @@ use fm_base::{CheckFail, NoMemory, Refusal, Seq, least_law};
 use fm_finmap::NameMap;
 use fm_rules::Title;
 use fm_tree::{Placed, Unit, Units};
-use fm_unit_layout::lay_out;
-use fm_unit_structure::structure;
+use fm_unit_structure::{lay_out, structure};
 use std::alloc::Global;
 
 /// The units of these statements, and the least of the best so far and of what one of them breaks.
@@ -44,7 +43,8 @@ fn build(
 
 /// The units of a source that begin with no executable statement, and the least rule of structure that it breaks.
 fn judged(alloc: Global, statements: Vec<Placed>) -> Result<(Vec<Unit>, Option<Refusal>), NoMemory>
-    ensures units { IfOk result (λ r. r.0.items ≡ flat_map (built (is_function_named (titles_of (cut_of statements.items)))) (cut_of statements.items)) }
+    ensures units { IfOk result (λ r. r.0.items
+        ≡ flat_map (built (is_function_named (titles_of (cut_of statements.items)))) (cut_of statements.items)) }
     ensures best { IfOk result (λ r. r.1 ≡ least (broken_structure statements.items)) }
 {
     let source = statements.as_slice();
@@ -58,7 +58,8 @@ fn judged(alloc: Global, statements: Vec<Placed>) -> Result<(Vec<Unit>, Option<R
     Ok((all, best))
 }
 
-/// The units of a source, of its statements. Refused by the least rule of structure that is broken, or for want of memory.
+/// The units of a source, of its statements. Refused by the least rule of structure that is broken, or for want of
+/// memory.
 pub fn units(alloc: Global, statements: Vec<Placed>) -> Result<Units, CheckFail>
     ensures units { IfOk result (λ u. u.units ≡ units_of statements.items) }
     ensures clean { IfOk result (λ _. IsClean (Contains (broken_structure statements.items))) }

@@ -20,7 +20,8 @@ fn add_title(
     unit: &[Placed],
     titles: &mut NameMap<Title>,
 ) -> Result<(), NoMemory>
-    ensures { OnOk result (titles.new ≡ with_all titles.old (title_by (heading_name (first_of unit.now)) (title_told number (first_of unit.now)))) }
+    ensures { OnOk result (titles.new
+        ≡ with_all titles.old (title_by (heading_name (first_of unit.now)) (title_told number (first_of unit.now)))) }
 {
     match unit.first() {
         None => Ok(()),

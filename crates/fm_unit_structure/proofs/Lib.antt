@@ -1,3 +1,4 @@
 pub mod Firsts
 pub mod Jumps
 pub mod Walks
+pub mod Loops

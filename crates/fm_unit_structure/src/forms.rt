@@ -54,8 +54,8 @@ fn is_process_do(form: Form) -> bool
     matches!(form, Form::ProcessDo(None))
 }
 
-/// Whether a statement is out of place, by whether it is the unit's first one, whether an executable one comes before it, the
-/// form of the unit's first one, and the opener of the innermost open block.
+/// Whether a statement is out of place, by whether it is the unit's first one, whether an executable one comes before
+/// it, the form of the unit's first one, and the opener of the innermost open block.
 #[tactic(auto, unfolding(fm_rules::specs::StructureForms::misplaced))]
 pub(crate) fn misplaced(form: Form, first: bool, late: bool, heading: Form, opener: Form) -> bool
     ensures { result ≡ misplaced form first late heading opener }

@@ -77,7 +77,9 @@ pub(crate) fn first_places(
     only_executable: bool,
     entries: &[EntryMark],
 ) -> Result<BTreeMap<u32, usize>, NoMemory>
-    ensures { IfOk result (λ m. (q : ℕ) → get nat_cmp m q ≡ first_where (λ e. is_this_label (record { 0 = q }) (wanted_label only_executable e)) entries.now 0) }
+    ensures { IfOk result (λ m. (q : ℕ)
+        → get nat_cmp m q
+        ≡ first_where (λ e. is_this_label (record { 0 = q }) (wanted_label only_executable e)) entries.now 0) }
 {
     let mut places = BTreeMap::new(alloc);
     // From the back, so that the first place is what stays.

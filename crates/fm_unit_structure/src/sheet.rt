@@ -8,10 +8,10 @@ ghost use Rattle.fm_tree.specs.Labels.{first_executable, first_labelled, target}
 ghost use Rattle.fm_tree.specs.Units.{form_at};
 ghost use Rattle.fm_rules.specs.StructureLookups.{block_round, form_or_end, has_end, label_at, line_at, target_of};
 
+use crate::blocks::{ends_of, innermost_of};
 use crate::lookups::{first_executable, first_places, has_end};
 use fm_base::{Label, Line, NoMemory};
 use fm_tree::{EntryMark, Form, Open, stands_outside};
-use fm_unit_layout::{ends_of, innermost_of};
 use std::alloc::Global;
 use std::collections::BTreeMap;
 

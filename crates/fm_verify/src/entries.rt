@@ -78,7 +78,8 @@ pub fn loops_of(code: &[Instr]) -> u64
     most
 }
 
-/// Whether the statements begin one behind the other, the first with the code, and there are no more loops than statements.
+/// Whether the statements begin one behind the other, the first with the code, and there are no more loops than
+/// statements.
 pub(crate) fn is_entered(unit: &UnitImage) -> bool
     ensures { result ≡ is_entered unit.now }
 {

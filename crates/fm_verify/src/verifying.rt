@@ -64,7 +64,8 @@ fn first_bad(alloc: Global, image: &Image, known: &Known) -> Result<Option<usize
 /// Accepts an image that makes sense. Linear in the image, but that the words of variables are looked up by halves.
 ///
 /// # Errors
-/// `Bad` tells the least unit, from 1, that makes no sense, or 0 where the whole makes none; `NoMemory` is want of memory.
+/// `Bad` tells the least unit, from 1, that makes no sense, or 0 where the whole makes none; `NoMemory` is want of
+/// memory.
 pub fn verify(alloc: Global, image: Image) -> Result<Verified, VerifyFail>
     requires { length image.units < 2 ^ 32 }
     // What is accepted is the image, which makes sense; what is refused makes none, where it says.

@@ -170,7 +170,8 @@ fn push_operands(operands: &[Passed], held: &mut Kinds) -> Result<(), NoMemory>
 
 /// Takes the place of a port that stands alone on results.
 fn pop_port(cells: &Cells, held: &mut Kinds) -> Option<Span>
-    ensures { MatchOption result (over_port cells.now held.old ≡ false) (λ span. (over_port cells.now held.old ≡ true) × (held.old ≡ kinds.Word (Some span) ∷ held.new)) }
+    ensures { MatchOption result (over_port cells.now held.old ≡ false)
+        (λ span. (over_port cells.now held.old ≡ true) × (held.old ≡ kinds.Word (Some span) ∷ held.new)) }
 {
     let Some(span) = pop_place(held) else {
         return None;

@@ -49,7 +49,8 @@ fn calls_fit(
     called: Called,
     held: &mut Kinds,
 ) -> Result<bool, NoMemory>
-    ensures { IfOk result (λ fit. (fit ≡ calls_fit shapes.now shape.now callee (calls called) (operands_on held.old)) × (held.new ≡ (operands_on held.old).rest)) }
+    ensures { IfOk result (λ fit. (fit ≡ calls_fit shapes.now shape.now callee (calls called) (operands_on held.old))
+        × (held.new ≡ (operands_on held.old).rest)) }
 {
     let operands = take_operands(alloc, held)?;
     match shapes.unit(callee as usize) {
@@ -63,7 +64,8 @@ fn calls_fit(
 
 /// A store.
 fn store(cells: &Cells, word: u32, held: &mut Kinds) -> Option<usize>
-    ensures { (to : ℕ) → over (to ∷ []) result ≡ cond (are_words cells.now (single word)) (ends_word held.old (to ∷ [])) Ill }
+    ensures { (to : ℕ)
+        → over (to ∷ []) result ≡ cond (are_words cells.now (single word)) (ends_word held.old (to ∷ [])) Ill }
 {
     if are_words(cells, u64::from(word), 1) {
         finish_word(held)
@@ -74,7 +76,9 @@ fn store(cells: &Cells, word: u32, held: &mut Kinds) -> Option<usize>
 
 /// A store at a place.
 fn store_at(cells: &Cells, held: &mut Kinds) -> Option<usize>
-    ensures { (to : List ℕ) → over to result ≡ ending to (with_word held.old (λ s ks. with_place ks (λ t ks. given_where (are_words cells.now t) ks))) }
+    ensures { (to : List ℕ)
+        → over to result
+        ≡ ending to (with_word held.old (λ s ks. with_place ks (λ t ks. given_where (are_words cells.now t) ks))) }
 {
     pop_word(held)?;
     let span = pop_place(held)?;
@@ -94,7 +98,9 @@ fn finish_where(test: bool, held: &Kinds) -> Option<usize>
 
 /// A return with a value.
 fn return_value(cells: &Cells, heading: Heading, word: u32, held: &Kinds) -> Option<usize>
-    ensures { (to : List ℕ) → over to result ≡ over_where (is_function heading && (are_words cells.now (single word) && only_results held.now)) to }
+    ensures { (to : List ℕ)
+        → over to result
+        ≡ over_where (is_function heading && (are_words cells.now (single word) && only_results held.now)) to }
 {
     if is_function(heading) {
         finish_where(are_words(cells, u64::from(word), 1), held)
@@ -112,7 +118,8 @@ fn call(
     called: Called,
     held: &mut Kinds,
 ) -> Result<Option<usize>, NoMemory>
-    ensures { IfOk result (λ n. (to : List ℕ) → over to n ≡ over_where (calls_fit shapes.now shape.now callee (calls called) (operands_on held.old)) to) }
+    ensures { IfOk result (λ n. (to : List ℕ)
+        → over to n ≡ over_where (calls_fit shapes.now shape.now callee (calls called) (operands_on held.old)) to) }
 {
     if calls_fit(alloc, shapes, shape, callee, called, held)? {
         Ok(Some(0))
@@ -143,8 +150,8 @@ fn refer(
     }
 }
 
-/// Takes what an instruction takes that ends its statement; gives the number of results that it leaves, or none where it doesn't
-/// find what it takes.
+/// Takes what an instruction takes that ends its statement; gives the number of results that it leaves, or none where
+/// it doesn't find what it takes.
 pub(crate) fn end(
     alloc: Global,
     shapes: &Known,

@@ -1,8 +1,8 @@
-//! Whether the code of a unit has its kinds, told in one pass over it.
+//! Tests in one pass whether the code of a unit has its kinds.
 //!
-//! `kinded` keeps one list of kinds, that of the address at which it is, and of each address whether anything but results is on
-//! its list; then it looks whether each instruction goes where its results are awaited. `specs/Along` has the lists as the code
-//! itself tells them.
+//! `kinded` keeps one list of kinds, that of the address at which it is, and of each address whether anything but
+//! results is on its list; then it looks whether each instruction goes where its results are awaited. `specs/Along` has
+//! the lists as the code itself tells them.
 #![tactic(auto)]
 
 mod building;

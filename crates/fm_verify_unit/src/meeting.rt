@@ -126,7 +126,8 @@ fn merge(alloc: Global, cells: &Cells, held: &mut Kinds) -> Result<Option<usize>
 
 /// A channel for an inport and an outport.
 fn joins(inport: Sort, outport: Sort) -> Option<usize>
-    ensures { (to : List ℕ) → over to result ≡ if_in inport (λ type. over_where (same_sort outport (sorts.Out type)) to) }
+    ensures { (to : List ℕ)
+        → over to result ≡ if_in inport (λ type. over_where (same_sort outport (sorts.Out type)) to) }
 {
     let of = in_type(inport)?;
     over_where(same_sort(outport, Sort::Out(of)))
@@ -134,7 +135,9 @@ fn joins(inport: Sort, outport: Sort) -> Option<usize>
 
 /// A channel, whose inport lies deeper.
 fn channel(cells: &Cells, held: &mut Kinds) -> Option<usize>
-    ensures { (to : List ℕ) → over to result ≡ at_two cells.now held.old (λ i o. if_in i (λ type. over_where (same_sort o (sorts.Out type)) to)) }
+    ensures { (to : List ℕ)
+        → over to result
+        ≡ at_two cells.now held.old (λ i o. if_in i (λ type. over_where (same_sort o (sorts.Out type)) to)) }
 {
     let (deeper, upper) = pop_two(cells, held)?;
     joins(deeper, upper)
@@ -142,7 +145,9 @@ fn channel(cells: &Cells, held: &mut Kinds) -> Option<usize>
 
 /// A channel, whose outport lies deeper.
 fn channel_from(cells: &Cells, held: &mut Kinds) -> Option<usize>
-    ensures { (to : List ℕ) → over to result ≡ at_two cells.now held.old (λ o i. if_in i (λ type. over_where (same_sort o (sorts.Out type)) to)) }
+    ensures { (to : List ℕ)
+        → over to result
+        ≡ at_two cells.now held.old (λ o i. if_in i (λ type. over_where (same_sort o (sorts.Out type)) to)) }
 {
     let (deeper, upper) = pop_two(cells, held)?;
     joins(upper, deeper)
@@ -159,7 +164,8 @@ fn end_channel(cells: &Cells, held: &mut Kinds) -> Option<usize>
 
 /// A move of a port.
 fn move_port(cells: &Cells, held: &mut Kinds) -> Option<usize>
-    ensures { (to : List ℕ) → over to result ≡ at_two cells.now held.old (λ a b. over_where (same_sort a b && is_port_sort (Some a)) to) }
+    ensures { (to : List ℕ)
+        → over to result ≡ at_two cells.now held.old (λ a b. over_where (same_sort a b && is_port_sort (Some a)) to) }
 {
     let (deeper, upper) = pop_two(cells, held)?;
     over_where(same_sort(deeper, upper) && !is_word(deeper))
@@ -167,7 +173,8 @@ fn move_port(cells: &Cells, held: &mut Kinds) -> Option<usize>
 
 /// A probe.
 fn probe(cells: &Cells, held: &mut Kinds) -> Option<usize>
-    ensures { (to : List ℕ) → over to result ≡ at_two cells.now held.old (λ q e. if_in q (λ type. over_where (is_word e) to)) }
+    ensures { (to : List ℕ)
+        → over to result ≡ at_two cells.now held.old (λ q e. if_in q (λ type. over_where (is_word e) to)) }
 {
     let (deeper, upper) = pop_two(cells, held)?;
     in_type(deeper)?;
@@ -186,8 +193,8 @@ fn begin(at: usize, next: u32, held: &Kinds) -> Result<Option<usize>, NoMemory>
     }
 }
 
-/// Takes what an instruction takes that ends its statement; gives the number of results that it leaves, or none where it doesn't
-/// find what it takes.
+/// Takes what an instruction takes that ends its statement; gives the number of results that it leaves, or none where
+/// it doesn't find what it takes.
 pub(crate) fn meet(
     alloc: Global,
     shapes: &Known,

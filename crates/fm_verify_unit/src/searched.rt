@@ -122,7 +122,8 @@ fn formals_of(alloc: Global, cells: &[Cell]) -> Result<Seq<Option<Cell>>, NoMemo
     Ok(formals)
 }
 
-/// The variables of a unit, ready to be searched by their words, and by their places among the formals. Contracts see their list.
+/// The variables of a unit, ready to be searched by their words, and by their places among the formals. Contracts see
+/// their list.
 pub(crate) struct Cells {
     cells: Seq<Cell>,
     // whether their ends rise, so that they can be searched by halves

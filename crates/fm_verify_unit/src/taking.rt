@@ -40,7 +40,8 @@ pub(crate) fn pop_place(held: &mut Kinds) -> Option<Span>
 
 /// Takes so many words.
 pub(crate) fn pop_words(count: u32, held: &mut Kinds) -> Option<()>
-    ensures { MatchOption result (without_words count held.old ≡ None) (λ _. without_words count held.old ≡ Some held.new) }
+    ensures { MatchOption result (without_words count held.old ≡ None)
+        (λ _. without_words count held.old ≡ Some held.new) }
 {
     let mut left = count;
     'words: while 0 < left {
@@ -86,7 +87,8 @@ pub(crate) fn finish_loop(count: u32, held: &mut Kinds) -> Option<usize>
 
 /// Takes the operands, and gives them in their order.
 pub(crate) fn take_operands(alloc: Global, held: &mut Kinds) -> Result<Vec<Passed>, NoMemory>
-    ensures { IfOk result (λ os. os.items ≡ reverse (operands_on held.old).operands × held.new ≡ (operands_on held.old).rest) }
+    ensures { IfOk result
+        (λ os. os.items ≡ reverse (operands_on held.old).operands × held.new ≡ (operands_on held.old).rest) }
 {
     let mut taken = Vec::new(alloc);
     'operands: while let Some(operand) = held.pop_operand() {

@@ -231,8 +231,8 @@ fn all_fit(walked: &Marks, entries: &[Entry], code: &[Instr]) -> bool
     begin_empty(&walked.marks, entries) && all_land(&walked.marks, &walked.lefts, code)
 }
 
-/// Whether the code of a unit has its kinds: a list for each address, as the instructions take and give and go. Linear in the code,
-/// but that words are looked up in its variables by halves.
+/// Whether the code of a unit has its kinds: a list for each address, as the instructions take and give and go. Linear
+/// in the code, but that words are looked up in its variables by halves.
 ///
 /// # Errors
 /// `NoMemory` is want of memory.

@@ -55,7 +55,8 @@ fn ring(
     requires next { next.now ≡ next_places outcome.now }
     requires first { IsFirst outcome.now start }
     requires ring { IsSome (others_on_ring outcome.now (path_at outcome.now start)) }
-    ensures { IfOk result (λ ring. option_map (λ ps. path_at outcome.now start ∷ ps) (others_on_ring outcome.now (path_at outcome.now start)) ≡ Some ring) }
+    ensures { IfOk result (λ ring. option_map (λ ps. path_at outcome.now start ∷ ps)
+        (others_on_ring outcome.now (path_at outcome.now start)) ≡ Some ring) }
 {
     let waits = outcome.waits.as_slice();
     let mut ring = Seq::new(alloc);

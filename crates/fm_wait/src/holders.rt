@@ -34,7 +34,8 @@ fn least_holders<'a>(
     alloc: Global,
     holders: &'a [Holder],
 ) -> Result<Map<ChanName, &'a Holder>, NoMemory>
-    ensures { IfOk result (λ m. (c : ChanName) → option_map (λ h. h.now) (get (map_of channel_cmp m) c) ≡ least_holder c holders.entry.now) }
+    ensures { IfOk result (λ m. (c : ChanName)
+        → option_map (λ h. h.now) (get (map_of channel_cmp m) c) ≡ least_holder c holders.entry.now) }
 {
     let mut least = Map::new(alloc);
     // from the back, so that of two entries for one writer the first one stays
@@ -53,7 +54,8 @@ fn waited_for(
     least: &Map<ChanName, &Holder>,
     at: &At,
 ) -> Result<Option<Path>, NoMemory>
-    ensures { IfOk result (λ p. MatchAt at.now (λ c. p ≡ option_map (λ h. h.now.path) (get (map_of channel_cmp least.now) c)) (λ child. p ≡ Some child)) }
+    ensures { IfOk result (λ p. MatchAt at.now
+        (λ c. p ≡ option_map (λ h. h.now.path) (get (map_of channel_cmp least.now) c)) (λ child. p ≡ Some child)) }
 {
     match at {
         At::Receive(channel) => match least.get(channel) {

@@ -18,6 +18,7 @@ pub use waiting::waits;
 /// The listed lists are the cycles, and each is listed once: they stand strictly in order of the paths that they
 /// begin with.
 pub fn cycles_are_listed_once()
-    ensures exact { (outcome : Outcome) (paths : List Pairs) → Contains (cycles_of outcome) paths ↔ IsCycle outcome paths }
+    ensures exact { (outcome : Outcome) (paths : List Pairs)
+        → Contains (cycles_of outcome) paths ↔ IsCycle outcome paths }
     ensures ordered { (outcome : Outcome) → AreInOrder (cycles_of outcome) }
 {}

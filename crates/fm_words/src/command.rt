@@ -199,7 +199,8 @@ fn exec_with(settings: Settings) -> Option<Command>
 }
 
 fn alone(command: Command, words: &[&str]) -> Result<Command, WordsFail>
-    ensures { MatchResult result (λ c. alone command (map (λ w. w.now) words.now) ≡ Some c) (λ e. is_usage e ≡ is_none (alone command (map (λ w. w.now) words.now))) }
+    ensures { MatchResult result (λ c. alone command (map (λ w. w.now) words.now) ≡ Some c)
+        (λ e. is_usage e ≡ is_none (alone command (map (λ w. w.now) words.now))) }
 {
     if words.is_empty() {
         Ok(command)
@@ -269,7 +270,8 @@ fn exec_of(words: &[&str]) -> Option<Command>
 }
 
 fn run(alloc: Global, words: &[&str]) -> Result<Command, WordsFail>
-    ensures { MatchResult result (λ c. run_of (map (λ w. w.now) words.now) ≡ Some c) (λ e. is_usage e ≡ is_none (run_of (map (λ w. w.now) words.now))) }
+    ensures { MatchResult result (λ c. run_of (map (λ w. w.now) words.now) ≡ Some c)
+        (λ e. is_usage e ≡ is_none (run_of (map (λ w. w.now) words.now))) }
 {
     if run_of(words).is_none() {
         return Err(WordsFail::Usage);
@@ -281,7 +283,8 @@ fn run(alloc: Global, words: &[&str]) -> Result<Command, WordsFail>
 }
 
 fn trace(alloc: Global, words: &[&str]) -> Result<Command, WordsFail>
-    ensures { MatchResult result (λ c. trace_of (map (λ w. w.now) words.now) ≡ Some c) (λ e. is_usage e ≡ is_none (trace_of (map (λ w. w.now) words.now))) }
+    ensures { MatchResult result (λ c. trace_of (map (λ w. w.now) words.now) ≡ Some c)
+        (λ e. is_usage e ≡ is_none (trace_of (map (λ w. w.now) words.now))) }
 {
     if trace_of(words).is_none() {
         return Err(WordsFail::Usage);
@@ -293,7 +296,8 @@ fn trace(alloc: Global, words: &[&str]) -> Result<Command, WordsFail>
 }
 
 fn replay(alloc: Global, words: &[&str]) -> Result<Command, WordsFail>
-    ensures { MatchResult result (λ c. replay_of (map (λ w. w.now) words.now) ≡ Some c) (λ e. is_usage e ≡ is_none (replay_of (map (λ w. w.now) words.now))) }
+    ensures { MatchResult result (λ c. replay_of (map (λ w. w.now) words.now) ≡ Some c)
+        (λ e. is_usage e ≡ is_none (replay_of (map (λ w. w.now) words.now))) }
 {
     if replay_of(words).is_none() {
         return Err(WordsFail::Usage);
@@ -305,7 +309,8 @@ fn replay(alloc: Global, words: &[&str]) -> Result<Command, WordsFail>
 }
 
 fn exec(alloc: Global, words: &[&str]) -> Result<Command, WordsFail>
-    ensures { MatchResult result (λ c. exec_of (map (λ w. w.now) words.now) ≡ Some c) (λ e. is_usage e ≡ is_none (exec_of (map (λ w. w.now) words.now))) }
+    ensures { MatchResult result (λ c. exec_of (map (λ w. w.now) words.now) ≡ Some c)
+        (λ e. is_usage e ≡ is_none (exec_of (map (λ w. w.now) words.now))) }
 {
     if exec_of(words).is_none() {
         return Err(WordsFail::Usage);
@@ -317,7 +322,8 @@ fn exec(alloc: Global, words: &[&str]) -> Result<Command, WordsFail>
 }
 
 fn make(alloc: Global, words: &[&str]) -> Result<Command, WordsFail>
-    ensures { MatchResult result (λ c. make_of (map (λ w. w.now) words.now) ≡ Some c) (λ e. is_usage e ≡ is_none (make_of (map (λ w. w.now) words.now))) }
+    ensures { MatchResult result (λ c. make_of (map (λ w. w.now) words.now) ≡ Some c)
+        (λ e. is_usage e ≡ is_none (make_of (map (λ w. w.now) words.now))) }
 {
     if make_of(words).is_none() {
         return Err(WordsFail::Usage);
@@ -327,7 +333,8 @@ fn make(alloc: Global, words: &[&str]) -> Result<Command, WordsFail>
 }
 
 fn demo(alloc: Global, words: &[&str]) -> Result<Command, WordsFail>
-    ensures { MatchResult result (λ c. demo_of (map (λ w. w.now) words.now) ≡ Some c) (λ e. is_usage e ≡ is_none (demo_of (map (λ w. w.now) words.now))) }
+    ensures { MatchResult result (λ c. demo_of (map (λ w. w.now) words.now) ≡ Some c)
+        (λ e. is_usage e ≡ is_none (demo_of (map (λ w. w.now) words.now))) }
 {
     if demo_of(words).is_none() {
         return Err(WordsFail::Usage);
@@ -340,7 +347,8 @@ fn demo(alloc: Global, words: &[&str]) -> Result<Command, WordsFail>
 }
 
 fn nodes(alloc: Global, words: &[&str]) -> Result<Command, WordsFail>
-    ensures { MatchResult result (λ c. nodes_of (map (λ w. w.now) words.now) ≡ Some c) (λ e. is_usage e ≡ is_none (nodes_of (map (λ w. w.now) words.now))) }
+    ensures { MatchResult result (λ c. nodes_of (map (λ w. w.now) words.now) ≡ Some c)
+        (λ e. is_usage e ≡ is_none (nodes_of (map (λ w. w.now) words.now))) }
 {
     if nodes_of(words).is_none() {
         return Err(WordsFail::Usage);
@@ -356,7 +364,8 @@ fn nodes(alloc: Global, words: &[&str]) -> Result<Command, WordsFail>
 /// in the command set, and `NoMemory` never comes for words that aren't. Linear in the number of
 /// words.
 pub fn words(alloc: Global, words: &[&str]) -> Result<Command, WordsFail>
-    ensures { MatchResult result (λ c. command_of (map (λ w. w.now) words.now) ≡ Some c) (IsCause (map (λ w. w.now) words.now)) }
+    ensures { MatchResult result (λ c. command_of (map (λ w. w.now) words.now) ≡ Some c)
+        (IsCause (map (λ w. w.now) words.now)) }
 {
     let Some((first, behind)) = words.split_first() else {
         return Err(WordsFail::Usage);

@@ -131,7 +131,10 @@ fn setting_of(word: &str) -> Option<Setting>
 
 /// The option that begins with a word, and the words behind it.
 pub fn next_option<'a, 'b>(word: &str, behind: &'a [&'b str]) -> Option<(Setting, &'a [&'b str])>
-    ensures { MatchOption result (settings_of (word.now ∷ map (λ w. w.now) behind.now) ≡ None) (λ r. (settings_of (word.now ∷ map (λ w. w.now) behind.now) ≡ first_and_others (Some r.0) (settings_of (map (λ w. w.now) r.1.now))) × (length r.1.now ≤ length behind.now)) }
+    ensures { MatchOption result (settings_of (word.now ∷ map (λ w. w.now) behind.now) ≡ None)
+        (λ r. (settings_of (word.now ∷ map (λ w. w.now) behind.now)
+        ≡ first_and_others (Some r.0) (settings_of (map (λ w. w.now) r.1.now)))
+        × (length r.1.now ≤ length behind.now)) }
 {
     if let Some(name) = name_of(word) {
         let (value, behind) = behind.split_first()?;

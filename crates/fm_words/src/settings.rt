@@ -37,7 +37,8 @@ fn no_settings() -> Settings
 
 // With one more, or none where that option stands there already.
 fn settings_with(settings: Settings, next: Setting) -> Option<Settings>
-    ensures { MatchOption result ((ss : List Setting) → asked_with settings (next ∷ ss) ≡ None) (λ r. (ss : List Setting) → asked_with settings (next ∷ ss) ≡ asked_with r ss) }
+    ensures { MatchOption result ((ss : List Setting) → asked_with settings (next ∷ ss) ≡ None)
+        (λ r. (ss : List Setting) → asked_with settings (next ∷ ss) ≡ asked_with r ss) }
 {
     match next {
         Setting::Turns(number) => match settings.turns {

@@ -100,7 +100,8 @@ fn plan_in(matches: &ArgMatches<'_>, id: &str) -> Option<fm_base::Plan>
 
 fn settings_in(matches: &ArgMatches<'_>) -> Settings
     ensures turns { result.turns ≡ option_and_then number_of (first_value (found_of matches.now) (codes "turns")) }
-    ensures workers { result.workers ≡ option_and_then number_of (first_value (found_of matches.now) (codes "workers")) }
+    ensures workers { result.workers
+        ≡ option_and_then number_of (first_value (found_of matches.now) (codes "workers")) }
     ensures slice { result.slice ≡ option_and_then number_of (first_value (found_of matches.now) (codes "slice")) }
     ensures plan { result.plan ≡ option_and_then plan_of (first_value (found_of matches.now) (codes "plan")) }
     ensures vars { one_text (found_of matches.now) (codes "vars") ≡ Some (codes "true") → result.vars ≡ true }
@@ -115,7 +116,8 @@ fn settings_in(matches: &ArgMatches<'_>) -> Settings
     }
 }
 
-/// What the options of an accepted `run`, `trace` or `replay` ask for. `replay` takes fewer than the parser that they share.
+/// What the options of an accepted `run`, `trace` or `replay` ask for. `replay` takes fewer than the parser that they
+/// share.
 pub fn run_values(alloc: Global, words: &[&str]) -> Result<Settings, WordsFail>
     requires { is_some (options_of (map (λ w. w.now) words.now)) ≡ true }
     ensures values { IfOk result (λ s. options_of (map (λ w. w.now) words.now) ≡ Some s) }
@@ -138,8 +140,8 @@ pub fn make_values(alloc: Global, words: &[&str]) -> Result<u64, WordsFail>
     }
 }
 
-/// The number of an accepted `demo` or `nodes`, and what its options ask for. Each takes fewer than the parser that they
-/// share.
+/// The number of an accepted `demo` or `nodes`, and what its options ask for. Each takes fewer than the parser that
+/// they share.
 pub fn numbered_values(alloc: Global, words: &[&str]) -> Result<(u64, Settings), WordsFail>
     requires { is_some (numbered_of (map (λ w. w.now) words.now)) ≡ true }
     ensures values { IfOk result (λ r. numbered_of (map (λ w. w.now) words.now) ≡ Some r) }

@@ -1,9 +1,9 @@
 //! A table that gives pieces out, and takes back what they came to.
 
 ghost use Rattle.std.specs.Prelude.{◌≡◌, ◌≤◌, ℕ, Bool, Option, Result, List, length, false, IfOk, IfErr, OnErr};
-ghost use Rattle.fm_base.specs.declared.memory.NoMemory as declared_memory;
+ghost use Rattle.fm_base.specs.declared.memory.NoMemory as of_memory;
 ghost use Rattle.fm_base.specs.declared.schedule.Turn as declared_turn;
-ghost use Rattle.fm_workers.specs.declared.shared.Given as declared_given;
+ghost use Rattle.fm_workers.specs.declared.shared.Given as of_given;
 ghost use Rattle.fm_workers.specs.declared.shared.Phase as declared_phase;
 ghost use Rattle.fm_workers.specs.Histories.{HasGrown, IsGiven};
 
@@ -45,9 +45,9 @@ pub trait KeepsHistory {
 
 /// Processes whose pieces are computed outside.
 ///
-/// What a call does is told by a relation of the table's own, between the table before, the answer and the table after. It
-/// holds whatever the answer is, want of memory among them. So who passes a call on, and owes the same relation, has made
-/// that call once, and has neither lost nor made up an answer.
+/// What a call does is told by a relation of the table's own, between the table before, the answer and the table after.
+/// It holds whatever the answer is, want of memory among them. So who passes a call on, and owes the same relation, has
+/// made that call once, and has neither lost nor made up an answer.
 pub trait SharedTable: KeepsHistory {
     /// A process that is out, with all that its piece needs.
     type Piece: Drop + Send;
@@ -59,13 +59,13 @@ pub trait SharedTable: KeepsHistory {
     ghost process_of: { Self.Done → ℕ };
 
     /// What `take` does, for a worker.
-    ghost take_does: { ℕ → Self → Result (Option Self.Piece) declared_memory.NoMemory → Self → Type 0 };
+    ghost take_does: { ℕ → Self → Result (Option Self.Piece) of_memory.NoMemory → Self → Type 0 };
 
     /// What `give` does, with what a piece came to.
-    ghost give_does: { Self.Done → Self → Result declared_given.Given (Self.Done × declared_memory.NoMemory) → Self → Type 0 };
+    ghost give_does: { Self.Done → Self → Result of_given.Given (Self.Done × of_memory.NoMemory) → Self → Type 0 };
 
     /// What `turn_light` does, for a worker.
-    ghost turn_does: { ℕ → Self → Result Bool declared_memory.NoMemory → Self → Type 0 };
+    ghost turn_does: { ℕ → Self → Result Bool of_memory.NoMemory → Self → Type 0 };
 
     /// What `recall` does.
     ghost recall_does: { Self → Self → Type 0 };
@@ -84,7 +84,8 @@ pub trait SharedTable: KeepsHistory {
     /// Plays what a piece came to, or doesn't know it.
     fn give(&mut self, alloc: Global, done: Self::Done) -> Result<Given, (Self::Done, NoMemory)>
         ensures does { give_does done self.old result self.new }
-        ensures given { IfOk result (λ g. IsGiven g (process_of done) (Self.history_of self.old) (Self.history_of self.new)) }
+        ensures given { IfOk result
+            (λ g. IsGiven g (process_of done) (Self.history_of self.old) (Self.history_of self.new)) }
         ensures unchanged { OnErr result (Self.history_of self.new ≡ Self.history_of self.old) }
         ensures back { IfErr result (λ e. e.0 ≡ done) };
 
@@ -95,7 +96,8 @@ pub trait SharedTable: KeepsHistory {
         ensures none { IfOk result (λ r. r ≡ false → Self.history_of self.new ≡ Self.history_of self.old) }
         ensures unchanged { OnErr result (Self.history_of self.new ≡ Self.history_of self.old) };
 
-    /// Whether it goes on by itself with a process for this worker while another one is ready, so that others are to come in.
+    /// Whether it goes on by itself with a process for this worker while another one is ready, so that others are to
+    /// come in.
     fn offers(&self, _worker: u32) -> bool {
         false
     }

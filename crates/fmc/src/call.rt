@@ -1,5 +1,5 @@
-//! The words of a call, and its exit, whoever plays what is run: what the programs that differ in their workers alone have in
-//! common.
+//! The words of a call, and its exit, whoever plays what is run: what the programs that differ in their workers alone
+//! have in common.
 
 ghost use Rattle.std.specs.Prelude.{◌≡◌, ◌≢◌, [], map, false, string_bytes, IfErr, IfOk};
 ghost use Rattle.std.specs.IoError.{error_kind};
@@ -74,8 +74,9 @@ fn answered<S: Source, K: Sink, W: Workers<Table>>(
     }
 }
 
-/// The exit of a call with these words, which writes one text, and whose runs these workers play: what `fmc` answers for them, or
-/// that no memory was found for them. A fault is told only where the source or the sink failed in this call.
+/// The exit of a call with these words, which writes one text, and whose runs these workers play: what `fmc` answers
+/// for them, or that no memory was found for them. A fault is told only where the source or the sink failed in this
+/// call.
 pub fn exit_of_call<S: Source, K: Sink, W: Workers<Table>>(
     alloc: Global,
     words: io::Result<Vec<String>>,
@@ -89,7 +90,8 @@ pub fn exit_of_call<S: Source, K: Sink, W: Workers<Table>>(
         (S.faults source.new) (S.left source.old) (S.left source.new) (K.written sink.old) (K.written sink.new)) }
     ensures unread { IfOk words
         (λ ws. are_reading (command_of (map string_bytes ws.items)) ≡ false → source.new ≡ source.old) }
-    // Words that aren't UTF-8 are answered as no words, which are no command; where they couldn't be had, memory was wanting.
+    // Words that aren't UTF-8 are answered as no words, which are no command; where they couldn't be had, memory was
+    // wanting.
     ensures unspelt { IfErr words (λ e. AnswersCall [] result (S.faults source.old) (S.faults source.new)
         (S.left source.old) (S.left source.new) (K.written sink.old) (K.written sink.new)) }
     ensures lacking { IfErr words

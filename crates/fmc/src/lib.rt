@@ -1,6 +1,6 @@
-//! Checks and runs Fortran M programs. The call of the program is `fmc`, whose runs are played by workers of the caller's;
-//! `play_choices` runs a source under a schedule of the caller's. `words` and `exit_of_call` are what each program does that makes
-//! this call.
+//! Checks and runs Fortran M programs. The call of the program is `fmc`, whose runs are played by workers of the
+//! caller's; `play_choices` runs a source under a schedule of the caller's. `words` and `exit_of_call` are what each
+//! program does that makes this call.
 #![tactic(auto)]
 
 mod answer;

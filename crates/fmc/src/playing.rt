@@ -72,8 +72,9 @@ fn may_be_told(program: &Program, played: &Run) -> bool
     }
 }
 
-/// The run of a program that workers play, which goes on by turns where they stop. Where it is spent and the program isn't
-/// deterministic, it is given up, and the program is played from its first state by turns alone: so its schedule is fair.
+/// The run of a program that workers play, which goes on by turns where they stop. Where it is spent and the program
+/// isn't deterministic, it is given up, and the program is played from its first state by turns alone: so its schedule
+/// is fair.
 fn run_by_workers<W: Workers<Table>>(
     alloc: Global,
     program: Arc<Program>,
@@ -110,7 +111,8 @@ pub fn run_source<W: Workers<Table>>(
     Ok(run_by_workers(alloc, shared, setup, workers)?)
 }
 
-/// A run of the program of a source of these bytes, under these choices. Refused by the least rule that the source breaks.
+/// A run of the program of a source of these bytes, under these choices. Refused by the least rule that the source
+/// breaks.
 pub fn run_chosen(
     alloc: Global,
     bytes: &[u8],

@@ -75,8 +75,8 @@ fn lacks_step(alloc: Global, table: &mut Table, entry: Turn) -> Result<bool, NoM
     Ok(missing.is_some())
 }
 
-// Plays an entry as often as it comes, until it asks for a step that isn't there, or there are entries that cost more than the turns:
-// how many were made before the one that asks for such a step.
+// Plays an entry as often as it comes, until it asks for a step that isn't there, or there are entries that cost more
+// than the turns: how many were made before the one that asks for such a step.
 fn play_run(alloc: Global, table: &mut Table, run: Run) -> Result<Option<u32>, NoMemory>
     requires told { table.old ≡ told_after table.old.program table.old.setup table.old.history }
     requires steps { 1 ≤ run.turn.steps }
@@ -96,7 +96,8 @@ fn play_run(alloc: Global, table: &mut Table, run: Run) -> Result<Option<u32>, N
     Ok(None)
 }
 
-// Plays entries from the first until one asks for a step that isn't there, or they cost more than the turns: the place of that one.
+// Plays entries from the first until one asks for a step that isn't there, or they cost more than the turns: the place
+// of that one.
 fn play_entries(alloc: Global, table: &mut Table, runs: &[Run]) -> Result<Option<u64>, NoMemory>
     requires fresh { table.old ≡ first_told table.old.program table.old.setup }
     requires runs { All IsEntry runs.now }

@@ -191,9 +191,9 @@ pub fn fmc<S: Source, K: Sink, W: Workers<Table>>(
     // What the type of workers needs to start threads.
     requires { W.crosses }
 
-    // Exit, kept schedule and text are those of the bytes that the source had left; of some, where it doesn't tell which,
-    // as standard input; and of any, where nothing is read. The whole text was written and handed on, or a front of the
-    // text that would have been.
+    // Exit, kept schedule and text are those of the bytes that the source had left; of some, where it doesn't tell
+    // which, as standard input; and of any, where nothing is read. The whole text was written and handed on, or a front
+    // of the text that would have been.
     ensures answers { ForBytes (are_reading (command_in words.now)) (S.left source.old) (λ b.
         Answers (command_in words.now) b result.exit result.history.items (places_in result)
         (S.faults source.old) (S.faults source.new) (S.left source.new) (K.written sink.old) (K.written sink.new)) }
@@ -222,9 +222,9 @@ pub fn fmc<S: Source, K: Sink, W: Workers<Table>>(
 }
 
 /// Does with a source of these bytes what `run` does, under a schedule of the caller's: piece i, of at
-/// most 1,000 local steps with its event behind them, goes to number `choices[i]`, from 0 and modulo their count, of those
-/// that can step, in their order, and to the first one when the choices are used up. Gives the exit with
-/// the kept schedule, and the text.
+/// most 1,000 local steps with its event behind them, goes to number `choices[i]`, from 0 and modulo their count, of
+/// those that can step, in their order, and to the first one when the choices are used up. Gives the exit with the kept
+/// schedule, and the text.
 pub fn play_choices(
     alloc: Global,
     source: &[u8],
@@ -257,8 +257,8 @@ pub fn one_verdict()
     fm_front::one_verdict();
 }
 
-/// What `trace` writes of a run, where it has at most 100,000,000 bytes, is replayed to what `run` would say under the same
-/// schedule: the same exit and the same report.
+/// What `trace` writes of a run, where it has at most 100,000,000 bytes, is replayed to what `run` would say under the
+/// same schedule: the same exit and the same report.
 pub fn replay_tells_the_run()
     ensures { (setup : declared_setup.Setup) (vars : Bool) (source : List ℕ) (exit : declared_exit.Exit)
         (history : List Turn) (places : List Place) (text : List ℕ)
@@ -268,8 +268,8 @@ pub fn replay_tells_the_run()
         × Says (command.Replay vars) text exit [] [] told }
 {}
 
-/// Where `flow` writes `no deadlock` of a source, no run of it ends with main waiting, under whatever schedule: not `run`, nor
-/// `trace`, nor a schedule of the caller's, nor `replay` of a trace of it, whoever wrote that.
+/// Where `flow` writes `no deadlock` of a source, no run of it ends with main waiting, under whatever schedule: not
+/// `run`, nor `trace`, nor a schedule of the caller's, nor `replay` of a trace of it, whoever wrote that.
 pub fn flow_excludes_deadlock()
     ensures runs { (source : List ℕ) (before : List Turn) (starts : List Place)
         → Says command.Flow source Exit.Done before starts (codes "no deadlock\n")

@@ -1,5 +1,5 @@
-//! What `compile` writes: whole object texts of small programs, which are read again and make sense, and the refusals that
-//! `check` has.
+//! What `compile` writes: whole object texts of small programs, which are read again and make sense, and the refusals
+//! that `check` has.
 
 use crate::answers::answer;
 use fm_object::read;

@@ -1,4 +1,5 @@
-//! What `exec` writes: of the objects that `compile` writes what `run` writes of their sources, and of other bytes why they don't run.
+//! What `exec` writes: of the objects that `compile` writes what `run` writes of their sources, and of other bytes why
+//! they don't run.
 
 use crate::answers::answer;
 use crate::{examples, language, programs};
@@ -91,8 +92,8 @@ fn objects_of_no_source(rt: HostRuntime) -> Result<(), Fail> {
     Ok(())
 }
 
-/// Whether the object of a source is executed to the exit and the text to which one worker runs the source, or isn't written where
-/// it breaks a rule.
+/// Whether the object of a source is executed to the exit and the text to which one worker runs the source, or isn't
+/// written where it breaks a rule.
 fn is_same(alloc: Global, source: &[u8]) -> Result<bool, Fail> {
     let (compiled, object) = answer(alloc, &["compile"], source)?;
     let (ran, report) = answer(alloc, &["run", "--vars", "--workers=1"], source)?;

@@ -85,7 +85,8 @@ fn a_call_fails(rt: HostRuntime) -> Result<(), Fail> {
     Ok(())
 }
 
-// What is answered to the least program where bytes go one by one, this read fails and this write, and the sink has this room.
+// What is answered to the least program where bytes go one by one, this read fails and this write, and the sink has
+// this room.
 fn one_by_one(alloc: Global, read: u64, write: u64, room: usize) -> Result<(Ran, Vec<u8>), Fail> {
     let bytes = Vec::from_slice(alloc, LEAST)?;
     let mut source = MemSource::new(bytes, 1, Vec::from_slice(alloc, &[read])?);

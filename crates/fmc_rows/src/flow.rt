@@ -1,5 +1,5 @@
-//! Programs that can't deadlock, and what `flow` says of those that may: of each of its sentences programs that break it, and one
-//! close to it that doesn't.
+//! Programs that can't deadlock, and what `flow` says of those that may: of each of its sentences programs that break
+//! it, and one close to it that doesn't.
 
 use crate::answers::answer;
 use crate::schedules::first_deadlock;

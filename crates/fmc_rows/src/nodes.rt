@@ -1,4 +1,5 @@
-//! Programs on hosts: what `nodes` writes, in which order the steps come, and that whatever happens there is one outcome.
+//! Programs on hosts: what `nodes` writes, in which order the steps come, and that whatever happens there is one
+//! outcome.
 
 use crate::answers::answer;
 use crate::plain::{MERGER, PORT, WORDS};
@@ -70,8 +71,8 @@ const LONG: &[u8] = b"      PROGRAM LONG
 /// The numbers of networks.
 const NUMBERS: [&str; 6] = ["0", "1", "2", "3", "4", "5"];
 
-/// Of the generated program 7, over the network of each of these numbers, the sum of the steps in the order that another
-/// program found by these rounds.
+/// Of the generated program 7, over the network of each of these numbers, the sum of the steps in the order that
+/// another program found by these rounds.
 const SUMS: [u64; 6] = [
     128_640_413_045_702_282,
     11_300_907_806_423_026_480,
@@ -108,8 +109,8 @@ fn nodes_write_reports(rt: HostRuntime) -> Result<(), Fail> {
     Ok(())
 }
 
-/// The number over whose network a program comes to another text or exit than `run`, if there is one. A program that isn't plain
-/// comes to its line over each of them.
+/// The number over whose network a program comes to another text or exit than `run`, if there is one. A program that
+/// isn't plain comes to its line over each of them.
 fn first_other(alloc: Global, source: &[u8]) -> Result<Option<&'static str>, Fail> {
     let (ran, text) = answer(alloc, &["run", "--vars"], source)?;
     for number in NUMBERS {

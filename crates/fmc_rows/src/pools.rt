@@ -1,5 +1,5 @@
-//! Runs that threads play, under a lock, with lanes and with seats: two children of one block at once, and the same answers
-//! as by turns.
+//! Runs that threads play, under a lock, with lanes and with seats: two children of one block at once, and the same
+//! answers as by turns.
 
 ghost use Rattle.std.specs.Thread.{IsSync};
 
@@ -160,8 +160,8 @@ fn two_at_once(rt: HostRuntime) -> Result<(), Fail> {
     Ok(())
 }
 
-// Both children are ready at one turn of the lock, so one worker takes both into its lane. The gate holds it at the first,
-// and the other worker steals the second.
+// Both children are ready at one turn of the lock, so one worker takes both into its lane. The gate holds it at the
+// first, and the other worker steals the second.
 #[test]
 fn a_child_is_stolen(rt: HostRuntime) -> Result<(), Fail> {
     let alloc = rt.alloc();

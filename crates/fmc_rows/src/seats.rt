@@ -1,4 +1,5 @@
-//! Two seats of a hub over the table of a run, in one thread: who finds the turn taken is refused, and what is played stays.
+//! Two seats of a hub over the table of a run, in one thread: who finds the turn taken is refused, and what is played
+//! stays.
 
 use crate::workers::least_table;
 use fm_hub::Hub;

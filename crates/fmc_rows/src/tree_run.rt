@@ -21,7 +21,8 @@ fn ending_text(alloc: Global, ending: &Ending, turns: u64, vars: bool) -> Result
     }
 }
 
-/// The text that the runner over trees writes for a source: its report, or that it was spent. Refused as `fmc run` refuses.
+/// The text that the runner over trees writes for a source: its report, or that it was spent. Refused as `fmc run`
+/// refuses.
 pub(crate) fn tree_text(
     alloc: Global,
     source: &[u8],

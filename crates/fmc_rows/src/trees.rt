@@ -1,4 +1,4 @@
-//! The runner over trees as a second opinion: it writes what `fmc run` writes.
+//! The runner over trees writes what `fmc run` writes.
 
 ghost use Rattle.std.specs.Prelude.{◌≤◌};
 
@@ -32,8 +32,8 @@ fn is_end(exit: Exit) -> bool {
     }
 }
 
-/// Whether `fmc run` and the runner over trees write one text for a source, in pieces of so many steps at most, which the
-/// word tells.
+/// Whether `fmc run` and the runner over trees write one text for a source, in pieces of so many steps at most, which
+/// the word tells.
 fn is_same(alloc: Global, source: &[u8], word: &str, slice: u32) -> Result<bool, Fail>
     requires { 1 ≤ slice }
 {

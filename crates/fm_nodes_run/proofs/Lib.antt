@@ -1,4 +1,0 @@
-mod Costs
-mod Keeping
-mod Made
-mod Runs
