@@ -12,7 +12,7 @@ use Rattle.fm_object.specs.declared.image.UnitImage.{UnitImage}
 use Rattle.fm_image_typed.specs.Codes.{code_of, unit_of}
 use Rattle.fm_image_typed.specs.Typed.{nodes}
 use Rattle.fm_image_law.specs.Image.{body_by, body_in, first, main_from}
-use Rattle.fm_outcome_code.specs.First.{begun_in, first_process_of, process_of}
+use Rattle.fm_shown.specs.First.{begun_in, first_process_of, process_of}
 
 same_nodes : (es : List ℕ) → nodes es ≡ nodes_of es
 same_nodes [] = refl

@@ -2,7 +2,7 @@
 use Rattle.std.proofs.Common.{◌≡◌, ℕ, zero, suc, ◌≤◌, ℤ, List, refl, arith}
 use Rattle.fm_mean.specs.declared.outcome.Shown.TheVariants as shown
 use Rattle.fm_proc_language.specs.Slots.{Slots}
-use Rattle.fm_outcome_code.specs.Outcome.{channels_in}
+use Rattle.fm_shown.specs.Outcome.{channels_in}
 use Rattle.fm_execute_image.specs.Outcome.{words_shown}
 
 pub ports_from : (kind : ℕ) (s : Slots) (ws : List ℤ) → 2 ≤ kind → words_shown kind s ws ≡ shown.Ports (channels_in s ws)

@@ -16,7 +16,7 @@ use Rattle.fm_object.specs.declared.image.Image.{Image}
 use Rattle.fm_object.specs.declared.image.UnitImage.{UnitImage}
 use Rattle.fm_proc_language.specs.Slots.{Slots}
 use Rattle.fm_proc_language.specs.Processes.{CodeProc}
-use Rattle.fm_outcome_code.specs.Outcome.{channels_in, outcome_with, own_frame}
+use Rattle.fm_shown.specs.Outcome.{channels_in, outcome_with, own_frame}
 
 -- words of this kind, as an image numbers kinds: 0 integers, 1 truths, else ports
 abbrev pub words_shown : (kind : ℕ) → Slots → List ℤ → Shown

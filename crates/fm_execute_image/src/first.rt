@@ -8,8 +8,8 @@ ghost use Rattle.fm_image_law.specs.Image.{first, main_from};
 use crate::making::code;
 use fm_base::NoMemory;
 use fm_object::{Image, UnitImage};
-use fm_outcome_code::first_stacks as stacks_of;
 use fm_procs::CodeProcs;
+use fm_shown::first_stacks as stacks_of;
 use std::alloc::Global;
 
 /// The number of the PROGRAM, or that behind all units where there is none.

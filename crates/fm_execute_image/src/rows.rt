@@ -11,10 +11,10 @@ use fm_code::{Body, Frame};
 use fm_finmap::NameMap;
 use fm_mean::{Shown, ShownVariable};
 use fm_object::{Cell, Image};
-use fm_outcome_code::{channels, own_frame, part, truths};
 use fm_proc_events::Process;
 use fm_proc_slots::Slots;
 use fm_run::variables_in_order;
+use fm_shown::{channels, own_frame, part, truths};
 use std::alloc::Global;
 
 // What words of this kind show.

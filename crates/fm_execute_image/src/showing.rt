@@ -10,8 +10,8 @@ use crate::rows::variables;
 use fm_base::NoMemory;
 use fm_mean::Outcome;
 use fm_object::Image;
-use fm_outcome_code::{outcome_with, process_of};
 use fm_procs::CodeProcs;
+use fm_shown::{outcome_with, process_of};
 use std::alloc::Global;
 
 /// What a run of the image shows when it has ended at this cost in turns: output, faults and waits in path order, the

@@ -30,8 +30,8 @@ use Rattle.fm_compile_law.proofs.Images.{all_coded, as_many}
 use Rattle.fm_image_typed.specs.Typed.{nodes}
 use Rattle.fm_image_law.specs.Image as law
 use Rattle.fm_image_law.specs.Image.{main_from}
-use Rattle.fm_outcome_code.specs.Shown as own
-use Rattle.fm_outcome_code.specs.First.{process_of}
+use Rattle.fm_proc_simulation.specs.Shown as own
+use Rattle.fm_shown.specs.First.{process_of}
 
 same_nodes : (es : List ℕ) → nodes es ≡ nodes_of es
 same_nodes [] = refl

@@ -12,11 +12,11 @@ use Rattle.fm_object.proofs.MalformedLaws.{one_object_text}
 use Rattle.fm_image.specs.ImageOf.{image_of}
 use Rattle.fm_gen.specs.Programs.{code_of}
 use Rattle.fm_proc_language.specs.Processes.{CodeProc}
-use Rattle.fm_outcome_code.specs.Corresponds.{Corresponds, IsLive}
-use Rattle.fm_outcome_code.proofs.Alike.{machines_alike}
-use Rattle.fm_outcome_code.proofs.Asking.{local_alike}
-use Rattle.fm_outcome_code.proofs.FirstState.{first_stands}
-use Rattle.fm_outcome_code.proofs.Shows.{shows_alike}
+use Rattle.fm_proc_simulation.specs.Corresponds.{Corresponds, IsLive}
+use Rattle.fm_proc_simulation.proofs.Alike.{machines_alike}
+use Rattle.fm_proc_simulation.proofs.Asking.{local_alike}
+use Rattle.fm_proc_simulation.proofs.FirstState.{first_stands}
+use Rattle.fm_proc_simulation.proofs.Shows.{shows_alike}
 use Rattle.fm_run.specs.Plays.{Play, first}
 use Rattle.fm_run.specs.Programs.{play_of}
 use Rattle.fm_run.proofs.Programs.{law_of}

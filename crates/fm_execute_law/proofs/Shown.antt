@@ -9,8 +9,8 @@ use Rattle.fm_image.specs.ImageOf.{image_of}
 use Rattle.fm_gen.specs.Programs.{code_of}
 use Rattle.fm_proc_language.specs.Slots.{Slots}
 use Rattle.fm_proc_language.specs.Processes.{CodeProc}
-use Rattle.fm_outcome_code.specs.Outcome.{outcome_with, own_frame}
-use Rattle.fm_outcome_code.specs.Shown as own
+use Rattle.fm_shown.specs.Outcome.{outcome_with, own_frame}
+use Rattle.fm_proc_simulation.specs.Shown as own
 use Rattle.fm_execute_image.specs.Outcome as image
 use Rattle.fm_execute_law.proofs.Variables.{shows_program}
 

@@ -8,7 +8,7 @@ use Rattle.fm_rules.specs.declared.program.Program.{Program}
 use Rattle.fm_proc_language.specs.Processes.{CodeProc}
 use Rattle.fm_proc_language.specs.Slots.{Slots}
 use Rattle.fm_procs.specs.Readings.{order_of, procs_of}
-use Rattle.fm_outcome_code.specs.Corresponds.{BodyAlike, BodyStands, Corresponds}
+use Rattle.fm_proc_simulation.specs.Corresponds.{BodyAlike, BodyStands, Corresponds}
 use Rattle.fm_run_code.specs.Given.{IsBodyAt}
 use Rattle.fm_run.specs.Programs.{Stand}
 use Rattle.fm_run.specs.declared.player.Player.{Player}

@@ -28,7 +28,7 @@ use Rattle.fm_mean.specs.Steps.{ask_for, first_proc, language, step}
 use Rattle.fm_mean.proofs.Lawful.{lawful}
 use Rattle.fm_mean.proofs.Laws.{owned_along}
 use Rattle.fm_mean.proofs.Machines.{machines_along}
-use Rattle.fm_outcome_code.specs.Corresponds.{BodyStands}
+use Rattle.fm_proc_simulation.specs.Corresponds.{BodyStands}
 use Rattle.fm_proc_language.specs.Slots.{Slots}
 use Rattle.fm_run.specs.Orders.{Among, EachOnce, is_new, others_in}
 use Rattle.fm_run.specs.Programs.{AreAble, IsEntry, IsPlayedBy, Stand, can_at, can_in, play_of, ready_after}

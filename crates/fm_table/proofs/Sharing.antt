@@ -18,7 +18,7 @@ use Rattle.fm_mean.specs.Steps.{first_proc}
 use Rattle.fm_proc_language.specs.Processes.{CodeProc}
 use Rattle.fm_procs.specs.Readings.{procs_of}
 use Rattle.fm_run_code.specs.Given.{IsBodyAt}
-use Rattle.fm_outcome_code.specs.Corresponds.{BodyAlike, Corresponds}
+use Rattle.fm_proc_simulation.specs.Corresponds.{BodyAlike, Corresponds}
 use Rattle.fm_run.specs.Orders.{Among, EachOnce, others_in}
 use Rattle.fm_run.specs.Programs.{Stand}
 use Rattle.fm_run.specs.declared.orders.Queue.{Queue}

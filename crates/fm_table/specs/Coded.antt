@@ -3,10 +3,10 @@
 use Rattle.std.proofs.Common.{◌∙◌}
 use Rattle.fm_rules.specs.declared.program.Program.{Program}
 use Rattle.fm_mean.specs.Steps.{ask}
-use Rattle.fm_outcome_code.specs.Corresponds.{Corresponds, IsLive}
-use Rattle.fm_outcome_code.proofs.Alike.{correspondence, machines_alike}
-use Rattle.fm_outcome_code.proofs.Asking.{local_alike, needs_alike}
-use Rattle.fm_outcome_code.proofs.Awaiting.{same_children}
+use Rattle.fm_proc_simulation.specs.Corresponds.{Corresponds, IsLive}
+use Rattle.fm_proc_simulation.proofs.Alike.{correspondence, machines_alike}
+use Rattle.fm_proc_simulation.proofs.Asking.{local_alike, needs_alike}
+use Rattle.fm_proc_simulation.proofs.Awaiting.{same_children}
 use Rattle.fm_run.specs.Programs.{play_of}
 use Rattle.fm_run.proofs.Programs.{law_of, need_is}
 use Rattle.fm_run_code.specs.Coded.{IsCoded}

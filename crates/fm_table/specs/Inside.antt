@@ -19,8 +19,8 @@ use Rattle.fm_run.specs.declared.player.Player.{Player}
 use Rattle.fm_run_code.specs.Played.{played}
 use Rattle.fm_run_code.specs.Sound as nets
 use Rattle.fm_run_code.specs.declared.net.CodeNet.{CodeNet}
-use Rattle.fm_outcome_code.specs.Corresponds as meaning
-use Rattle.fm_outcome_code.specs.Corresponds.{Corresponds}
+use Rattle.fm_proc_simulation.specs.Corresponds as meaning
+use Rattle.fm_proc_simulation.specs.Corresponds.{Corresponds}
 use Rattle.fm_table.specs.Planned.{mapped}
 use Rattle.fm_table.specs.Told.{HaveStarts, Out, Told, cost_by, cost_of, has_some, numbers_out, stand_of, stand_with, with_entry}
 use Rattle.fm_table.specs.declared.outside.Taken.{Taken}

@@ -16,7 +16,7 @@ use Rattle.fm_run.specs.declared.run.Ending.{Ending}
 use Rattle.fm_run.specs.declared.run.Ending.TheVariants as ending
 use Rattle.fm_run.specs.Orders.{Among, EachOnce, is_among}
 use Rattle.fm_run.specs.Programs.{AreAble, IsFrontWithin, IsPlayedBy, Stand, after_entries, after_entry, first_stand}
-use Rattle.fm_outcome_code.specs.Corresponds.{BodyStands}
+use Rattle.fm_proc_simulation.specs.Corresponds.{BodyStands}
 use Rattle.fm_run_code.specs.Played.{choices_in}
 use Rattle.fm_proc_language.specs.Slots.{Slots}
 use Rattle.fm_workers.specs.declared.shared.Phase.{Phase}

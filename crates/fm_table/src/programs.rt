@@ -1,12 +1,12 @@
 //! Programs, as a kind of source of what runs as stack code.
 
-ghost use Rattle.fm_outcome_code.specs.Corresponds.{Corresponds, IsLive};
+ghost use Rattle.fm_proc_simulation.specs.Corresponds.{Corresponds, IsLive};
 ghost use Rattle.fm_run.specs.Programs.{play_of};
 ghost use Rattle.fm_table.specs.Coded.{program_coded};
 
 use fm_base::NoMemory;
 use fm_mean::Outcome;
-use fm_outcome_code::{outcome, program_stacks};
+use fm_proc_simulation::{outcome, program_stacks};
 use fm_procs::CodeProcs;
 use fm_rules::Program;
 use fm_run_code::{CodeNet, Coded};

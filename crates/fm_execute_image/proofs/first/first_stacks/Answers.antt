@@ -3,7 +3,7 @@ use Rattle.std.proofs.lemmas.Result.{IfOk-weaker}
 use Rattle.fm_net.specs.Owned.{main_alone}
 use Rattle.fm_object.specs.declared.image.UnitImage.{UnitImage}
 use Rattle.fm_image_law.specs.Image.{main_from}
-use Rattle.fm_outcome_code.specs.First.{first_process_of}
+use Rattle.fm_shown.specs.First.{first_process_of}
 use Rattle.fm_execute_image.proofs.Begun.{first_made}
 use Rattle.fm_execute_image.proofs.first.first_stacks.Goals as goal
 

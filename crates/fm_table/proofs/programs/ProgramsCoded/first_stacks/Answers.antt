@@ -3,8 +3,8 @@ use Rattle.std.proofs.lemmas.Result.{IfOk-weaker}
 use Rattle.fm_net.specs.Correspondence.{StandsFor}
 use Rattle.fm_net.specs.Machine.{State}
 use Rattle.fm_proc_language.specs.Processes.{CodeProc}
-use Rattle.fm_outcome_code.specs.Corresponds.{Corresponds, IsLive}
-use Rattle.fm_outcome_code.proofs.FirstState.{first_stands}
+use Rattle.fm_proc_simulation.specs.Corresponds.{Corresponds, IsLive}
+use Rattle.fm_proc_simulation.proofs.FirstState.{first_stands}
 use Rattle.fm_run.specs.Plays.{first}
 use Rattle.fm_run.specs.Programs.{play_of}
 use Rattle.fm_table.proofs.programs.ProgramsCoded.first_stacks.Goals as goal

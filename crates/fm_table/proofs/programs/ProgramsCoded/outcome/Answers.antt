@@ -1,7 +1,7 @@
 use Rattle.std.proofs.Common.{◌∙◌}
 use Rattle.std.proofs.lemmas.Result.{IfOk-weaker}
 use Rattle.fm_procs.specs.Readings.{state_of}
-use Rattle.fm_outcome_code.proofs.Shows.{shows_alike}
+use Rattle.fm_proc_simulation.proofs.Shows.{shows_alike}
 use Rattle.fm_table.proofs.programs.ProgramsCoded.outcome.Goals as goal
 
 pub returns : goal.returns

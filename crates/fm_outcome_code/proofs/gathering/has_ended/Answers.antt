@@ -1,4 +1,0 @@
-use Rattle.fm_outcome_code.proofs.gathering.has_ended.Goals as goal
-
-pub returns : goal.returns
-returns c = λ q at. c.has_ended.ensures tt q at

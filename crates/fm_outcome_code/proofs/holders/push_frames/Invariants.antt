@@ -1,8 +1,0 @@
-use Rattle.std.proofs.Common.{◌≡◌, ◌++◌, drop}
-use Rattle.std.specs.Prelude.{reverse}
-use Rattle.std.specs.List.{flat_map}
-use Rattle.fm_outcome_code.specs.Holding.{words_held}
-use Rattle.fm_outcome_code.proofs.holders.push_frames.Given as goal
-
-abbrev pub invariant-frames : goal.invariant-frames
-invariant-frames l = l.words ≡ l.fn.words ++ flat_map (words_held l.code) (reverse (drop l.k l.frames))

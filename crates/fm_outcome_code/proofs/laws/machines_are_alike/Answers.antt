@@ -1,5 +1,0 @@
-use Rattle.fm_outcome_code.proofs.Alike.{correspondence, machines_alike}
-use Rattle.fm_outcome_code.proofs.laws.machines_are_alike.Goals as goal
-
-pub returns : goal.returns
-returns c = record { corresponds = correspondence; alike = machines_alike }

@@ -1,0 +1,5 @@
+mod Outermost
+mod Awaited
+mod Listed
+mod Holding
+mod Needed
