@@ -5,3 +5,4 @@ pub mod NewChannels
 pub mod Faults
 pub mod Rooms
 pub mod OperandLimits
+pub mod Discards

@@ -3,3 +3,4 @@ pub mod Told
 pub mod Performs
 pub mod Events
 pub mod Makes
+pub mod Discards

@@ -22,5 +22,5 @@ pub use probing::probe;
 pub use process::{Kid, Phase, Process};
 pub use receiving::receive;
 pub use sending::send;
-pub use shedding::{shed, vacate};
+pub use shedding::{discard_words, shed, vacate};
 pub use units::{formals_at, loops_at, ports_at};

@@ -1,14 +1,17 @@
 //! Ports are let go.
 
-ghost use Rattle.std.specs.Prelude.{◌≡◌, ◌+◌, ◌≤◌, ◌++◌, length, option_to_list, vec_capacity, vec_len};
+ghost use Rattle.std.specs.Prelude.{◌≡◌, ◌+◌, ◌≤◌, ◌++◌, [], ◌∷◌, length, option_to_list, vec_capacity, vec_len};
 ghost use Rattle.fm_base.specs.Channels.{all_shed};
+ghost use Rattle.fm_code.specs.Passing.{live};
 ghost use Rattle.fm_proc_language.specs.Slots.{all_left, in_slot, left, vacated};
 ghost use Rattle.fm_chan.specs.Bodies.{chans_of};
 ghost use Rattle.fm_chan.specs.Woken.{WakesAll};
 ghost use Rattle.fm_proc_slots.specs.Rooms.{HasRoom, LeavesRoom, slots_in};
+ghost use Rattle.fm_proc_events.specs.Discards.{all_discarded};
 
 use fm_chan::{Channels, Port};
-use fm_proc_slots::OpenSlots;
+use fm_code::is_port;
+use fm_proc_slots::{OpenSlots, Slots};
 use std::collections::VecDeque;
 
 /// A port leaves its slot.
@@ -51,5 +54,31 @@ pub fn shed(channels: &mut Channels, ports: Vec<Port>)
     let mut rest = VecDeque::from_vec(ports);
     'ports: while let Some(port) = rest.pop_front() {
         channels.discard(port);
+    }
+}
+
+/// The port at a port word leaves its slot, which isn't noted as free, and is discarded.
+fn discard_word(slots: &mut Slots, word: i64, channels: &mut Channels)
+    ensures gone { (slots.new, chans_of channels.new)
+        ≡ all_discarded slots.old (chans_of channels.old) (live (word ∷ [])) }
+    ensures waking { WakesAll channels.old channels.new }
+{
+    if is_port(word) {
+        match slots.drain(word) {
+            Some(port) => channels.discard(port),
+            None => {}
+        }
+    }
+}
+
+/// The ports at these port words leave their slots, which aren't noted as free, and are discarded, one after the other.
+/// Takes no memory.
+pub fn discard_words(slots: &mut Slots, words: &[i64], channels: &mut Channels)
+    ensures gone { (slots.new, chans_of channels.new)
+        ≡ all_discarded slots.old (chans_of channels.old) (live words.now) }
+    ensures waking { WakesAll channels.old channels.new }
+{
+    'words: for word in words {
+        discard_word(slots, *word, channels);
     }
 }

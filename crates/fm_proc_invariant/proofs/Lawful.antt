@@ -23,12 +23,12 @@ use Rattle.fm_code_preserves.specs.Endings.{AsksFine, Begins}
 use Rattle.fm_code_preserves.specs.Weights.{body_ports}
 use Rattle.fm_code_preserves.proofs.Keeps.{asks_fine, below_same, frame_in, frames_in, frame_parts, mine_parts, standing_at, starts_in}
 use Rattle.fm_code_preserves.proofs.Masks.{weight-append}
-use Rattle.fm_proc_language.specs.Slots.{all_left, no_slots, vacated}
+use Rattle.fm_proc_language.specs.Slots.{all_drained, no_slots, vacated}
 use Rattle.fm_proc_language.specs.Frames.{Joined}
 use Rattle.fm_proc_language.specs.Processes.{CodeProc, Ended, Faulted, Joining, Kid, Phase, Running, asks, asks_by, began, children_of, code_language, ended, ended_frame, has_ended, holding, is_ended, joined, joining_by, joins_by, kid_of, kids_back, running_by, runs_by}
 use Rattle.fm_proc_invariant.specs.Moves.{Moves}
 use Rattle.fm_proc_invariant.specs.Held.{HeldMoves, UsedBy, with_others}
-use Rattle.fm_proc_invariant.proofs.Slots.{all_leave, moves_like, stays_so, then_moves}
+use Rattle.fm_proc_invariant.proofs.Slots.{all_drain, moves_like, stays_so, then_moves}
 use Rattle.fm_proc_invariant.proofs.Exchange.{others_weigh}
 use Rattle.fm_proc_invariant.specs.Good.{BodyIsGood, HasGoodBody, IsGood, KidFits}
 use Rattle.fm_proc_invariant.proofs.Steps.{emptied_holds, good_body, holds_weighs, quiet_step}
@@ -134,15 +134,15 @@ module _ (ss : Shapes) (y : CodeProc) (b : Body) (phase_is : y.phase ≡ Running
   abbrev closed : Body
   closed = record b { frame = last_frame.0; below = [] }
 
-  leaves : Moves y.slots (body_ports b) (all_left y.slots last_frame.1) (body_ports closed) [] (vacated y.slots last_frame.1)
-  leaves = all_leave y.slots last_frame.1 (body_ports b) (body_ports closed)
+  leaves : Moves y.slots (body_ports b) (all_drained y.slots last_frame.1) (body_ports closed) [] (vacated y.slots last_frame.1)
+  leaves = all_drain y.slots last_frame.1 (body_ports b) (body_ports closed)
       (λ g. omega (arith, so.weighs g, weight-append g (frame_in b.code m) (frames_in b.code b.below), weight-append g (frame_in b.code last_frame.0) [])) good.used
 
   pub end_step : IsGoodStep code_language (IsGood ss) y Nothing (λ c r. ended y b)
   end_step =
       quiet_step ss y Nothing (λ c r. ended y b) tt tt
       (λ c r. record { block = refl; next_block = refl; next_channel = refl; starts = refl; cost = omega arith })
-      (λ c r all served. good_body ss (ended y b).self Ended (all_left y.slots last_frame.1) closed refl refl refl (record { laid = stands.code; words = so.words; fits = refl; used = leaves.used good.used }))
+      (λ c r all served. good_body ss (ended y b).self Ended (all_drained y.slots last_frame.1) closed refl refl refl (record { laid = stands.code; words = so.words; fits = refl; used = leaves.used good.used }))
       (λ c r all served may x. omega (
         arith,
         leaves.same good.used x,

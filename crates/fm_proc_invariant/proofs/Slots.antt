@@ -10,7 +10,8 @@ use Rattle.fm_net.proofs.Counts.{count-append, count-cons, count-nil}
 use Rattle.fm_code_preserves.specs.Weights.{IsParted, masked, weight}
 use Rattle.fm_code_preserves.proofs.Masks.{weight-append}
 use Rattle.fm_proc_language.specs.Slots as slots
-use Rattle.fm_proc_language.specs.Slots.{all_left, in_slot, left, no_port, port_in, put, put_by, vacated}
+use Rattle.fm_proc_language.specs.Slots.{all_drained, all_left, drained, in_slot, left, no_port, port_in, put, put_by, vacated}
+use Rattle.fm_proc_language.proofs.Drained.{drained_ports, still_free}
 use Rattle.fm_proc_invariant.specs.Moves.{AreOnce, IsOther, IsSlots, IsUsed, Moves, port_weight, port_words, same_word, use_in, use_of}
 
 -- ---- lists
@@ -284,6 +285,36 @@ all_leave s (d ∷ ds) ws us parted used =
     let rest = all_leave (left s d) ds (ds ++ us) us (λ g. weight-append g ds us) (one.used used) in
     let out : option_to_list (in_slot s d) ≡ h.port ∷ [] = ap option_to_list (slot_is s d h) in
     moves_like (then_moves one rest) (λ z. refl) (λ z. ap (λ (l : List PortValue). count z (l ++ vacated (left s d) ds)) out)
+
+-- ---- slots to which no other port comes
+
+use_same : (s t : slots.Slots) (w : ℤ) → s.ports ≡ t.ports → use_of s w ≡ use_of t w
+use_same s t (pos zero) e = refl
+use_same s t (pos (suc k)) e = ap (λ (l : List (Option PortValue)). use_in (slice_get l k)) e
+use_same s t (negsuc n) e = refl
+
+named_same : (s t : slots.Slots) (w : ℤ) → s.ports ≡ t.ports → port_in s w ≡ port_in t w
+named_same s t w e = ap (λ (l : List (Option PortValue)). unwrap_or (unwrap_or (slice_get l (slots.before w)) None) no_port) e
+
+drained_slots : (s : slots.Slots) (ds : List ℤ) → IsSlots s → IsSlots (all_drained s ds)
+drained_slots s [] is = is
+drained_slots s (d ∷ ds) is = drained_slots (drained s d) ds (record { empty = still_free s.ports (slots.before d) s.free is.empty; once = is.once })
+
+-- words that are let go at the end
+pub all_drain : (s : slots.Slots) (ds ws us : List ℤ) → IsParted ws ds us → IsUsed s ws → Moves s ws (all_drained s ds) us [] (vacated s ds)
+all_drain s ds ws us parted used =
+    let m = all_leave s ds ws us parted used in
+    let after = all_drained s ds in
+    let like = all_left s ds in
+    let same = drained_ports ds s in
+    record {
+      used = λ used. record { slots = drained_slots s ds used.slots; once = λ w. omega (arith, (m.used used).once w, use_same after like w same) };
+      same = λ used z. omega (
+        arith,
+        m.same used z,
+        weight_same (port_weight after z) (port_weight like z) us (λ v there. ap (λ (p : PortValue). one p z) (named_same after like v same)),
+      );
+    }
 
 -- ---- words of a frame
 

@@ -30,7 +30,7 @@ ghost use Rattle.fm_code_preserves.specs.Weights.{IsParted, weight};
 ghost use Rattle.fm_net.specs.Lawful.{IsLawfulLanguage};
 ghost use Rattle.fm_net.specs.Correspondence.{AreAlike};
 ghost use Rattle.fm_net_invariant.specs.Good.{IsBare, IsLawfulWhere, good_language};
-ghost use Rattle.fm_proc_language.specs.Slots.{Slots, all_left, all_put, no_slots, vacated};
+ghost use Rattle.fm_proc_language.specs.Slots.{Slots, all_drained, all_left, all_put, no_slots, vacated};
 ghost use Rattle.fm_proc_language.specs.Frames.{Held, Joined, all_exchanged, all_given, all_stored, kept, message_from};
 ghost use Rattle.fm_proc_language.specs.Processes.{limits_of, with_status};
 ghost use Rattle.fm_proc_language.specs.Processes.{code_language};
@@ -43,6 +43,8 @@ ghost use Rattle.fm_proc_invariant.specs.Good.{IsGood};
 pub fn slots_account()
     ensures leave { (s : Slots) (drops words rest : List ℤ) → IsParted words drops rest
         → IsUsed s words → Moves s words (all_left s drops) rest [] (vacated s drops) }
+    ensures drain { (s : Slots) (drops words rest : List ℤ) → IsParted words drops rest
+        → IsUsed s words → Moves s words (all_drained s drops) rest [] (vacated s drops) }
     ensures come { (ports : List (Option PortValue)) (s : Slots) (words : List ℤ) → IsUsed s words
         → Moves s words (all_put s ports).1 (live (all_put s ports).0 ++ words) (filter_map (λ p. p) ports) [] }
     ensures none { IsUsed no_slots [] }

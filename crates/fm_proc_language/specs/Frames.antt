@@ -1,6 +1,6 @@
 -- What comes into the words of a frame and out of them, with ports in their slots.
 -- Source: this profile; ANSI X3.9-1978, sections 15.5 to 15.9, and the Fortran M report for what is copied, sent and received.
-use Rattle.std.specs.Prelude.{ℕ, zero, suc, ℤ, ◌==◌, Bool, not, ◌&&◌, cond, Option, Some, None, List, [], ◌∷◌, ◌++◌, take, option_to_list, slice_set}
+use Rattle.std.specs.Prelude.{ℕ, zero, suc, ℤ, ◌==◌, Bool, not, ◌&&◌, cond, Option, Some, None, List, [], ◌∷◌, ◌++◌, length, take, option_to_list, slice_set}
 use Rattle.std.specs.List.{list_any}
 use Rattle.fm_base.specs.declared.port.PortValue.{PortValue}
 use Rattle.fm_base.specs.Channels.{Item, Words, Ports, Message, item_ports, message_ports}
@@ -130,8 +130,11 @@ all_given j (b ∷ bs) = all_given (one_given j b) bs
 abbrev pub is_kept : List Formal → Span → Bool
 is_kept fs s = list_any (λ f. f.port && not f.input && (f.span.first == s.first)) fs
 
+-- the words with NULL at each place of a span that they have
+abbrev pub nulled : List ℤ → Span → List ℤ
+nulled ws s = spliced ws s.first (nulls (length (span_of ws s)))
+
 -- the words with NULL in place of ports that aren't kept, and the slots of these
 abbrev pub kept : List Formal → List Span → List ℤ → List ℤ × List ℤ
 kept fs [] ws = (ws, [])
-kept fs (s ∷ ss) ws = cond (is_kept fs s) (kept fs ss ws)
-    ((kept fs ss (spliced ws s.first (nulls s.count))).0, live (span_of ws s) ++ (kept fs ss (spliced ws s.first (nulls s.count))).1)
+kept fs (s ∷ ss) ws = cond (is_kept fs s) (kept fs ss ws) ((kept fs ss (nulled ws s)).0, live (span_of ws s) ++ (kept fs ss (nulled ws s)).1)

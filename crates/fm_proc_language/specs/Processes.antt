@@ -25,7 +25,7 @@ use Rattle.fm_code.specs.declared.code.Formal.{Formal}
 use Rattle.fm_code.specs.Passing.{back_words}
 use Rattle.fm_code.specs.Statements as code
 use Rattle.fm_code.specs.Statements.{CodeUnit, unit_at, ports_of, line_of, at_statement, new_frame, action_of, start_ports, left_ports}
-use Rattle.fm_proc_language.specs.Slots.{Slots, no_slots, in_slot, port_in, all_left, vacated}
+use Rattle.fm_proc_language.specs.Slots.{Slots, no_slots, in_slot, port_in, all_left, all_drained, vacated}
 use Rattle.fm_proc_language.specs.Frames.{Held, message_from, all_stored, port_words, all_placed, moved_over, Joined, all_given, kept}
 
 -- a child that is to be joined: its unit, and what it gives back
@@ -234,10 +234,11 @@ ended_frame b m [] =
     (record m { words = k.0; results = []; starts = [] }, k.1 ++ start_ports b m.starts)
 ended_frame b m (n ∷ ns) = ((ended_frame b n ns).0, frame_words b m ++ (ended_frame b n ns).1)
 
+-- no port comes to its slots any more
 abbrev pub ended : CodeProc → Body → Onward CodeProc
 ended y b =
     let e = ended_frame b b.frame b.below in
-    onward y (record y { phase = Ended; body = Some (record b { frame = e.0; below = [] }); slots = all_left y.slots e.1 }) [] (vacated y.slots e.1) 1
+    onward y (record y { phase = Ended; body = Some (record b { frame = e.0; below = [] }); slots = all_drained y.slots e.1 }) [] (vacated y.slots e.1) 1
 
 -- Asking.
 

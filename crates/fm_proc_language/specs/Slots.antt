@@ -50,6 +50,14 @@ abbrev pub all_left : Slots → List ℤ → Slots
 all_left s [] = s
 all_left s (z ∷ zs) = all_left (left s z) zs
 
+-- a port leaves its slot, which no other port comes to any more
+abbrev pub drained : Slots → ℤ → Slots
+drained s z = record s { ports = slice_set s.ports (before z) None }
+
+abbrev pub all_drained : Slots → List ℤ → Slots
+all_drained s [] = s
+all_drained s (z ∷ zs) = all_drained (drained s z) zs
+
 -- the ports that stand in these slots, which are left one after the other
 abbrev pub vacated : Slots → List ℤ → List PortValue
 vacated s [] = []

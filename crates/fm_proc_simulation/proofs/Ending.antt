@@ -31,7 +31,7 @@ use Rattle.fm_gen_relation.specs.Standing.{Slots, values_in}
 use Rattle.fm_gen_relation.specs.Formals.{ports_of}
 use Rattle.fm_gen_relation.specs.Frames.{Statements, ResultsFit, FrameStands, BelowStand, results_then}
 use Rattle.fm_gen_relation.proofs.Held.{started_alike}
-use Rattle.fm_proc_language.specs.Slots.{port_in, all_left}
+use Rattle.fm_proc_language.specs.Slots.{port_in, all_drained}
 use Rattle.fm_proc_language.specs.Frames as frames
 use Rattle.fm_proc_language.specs.Processes as code
 use Rattle.fm_proc_language.specs.Processes.{CodeProc, frame_words, body_words, ended_frame, runs_by}
@@ -39,7 +39,7 @@ use Rattle.fm_proc_simulation.specs.SlotWords.{IsHeld, IsOther, AreOnce}
 use Rattle.fm_proc_simulation.proofs.Kept.{AreNumbered, code_left, meant_left, kept_alike}
 use Rattle.fm_proc_simulation.proofs.PortLists.{IsParted, all_mine, all_first, all_second, other_first, other_second, other_both, once_first, once_between}
 use Rattle.fm_proc_simulation.proofs.Same.{TellsPorts, frame_agrees, frame_held, frame_same}
-use Rattle.fm_proc_simulation.proofs.Slots.{all_left_others, vacated_held}
+use Rattle.fm_proc_simulation.proofs.Slots.{all_drained_others, vacated_held}
 use Rattle.fm_gen.specs.Entries.{statement_address}
 use Rattle.fm_gen.specs.Units.{unit_of_code}
 use Rattle.fm_proc_simulation.specs.Corresponds.{Corresponds, PhaseStands, first_variables}
@@ -231,7 +231,7 @@ module _ (p : Program) (types : Types) (y : CodeProc) (x : Proc) (b : Body) (h :
   end_stands =
       let e = ends in
       let words = frame_words b last.0 in
-      let left = all_left_others y.slots last.1 words h.slots (both_all (IsHeld y.slots) last.1 words parts_held.0 parts_held.1) parts_once in
+      let left = all_drained_others y.slots last.1 words h.slots (both_all (IsHeld y.slots) last.1 words parts_held.0 parts_held.1) parts_once in
       record {
         phase = tt;
         lines = h.lines;
@@ -245,11 +245,11 @@ module _ (p : Program) (types : Types) (y : CodeProc) (x : Proc) (b : Body) (h :
           loaded = h.stands.loaded;
           machine = h.stands.machine;
           node = h.stands.node;
-          first = frame_same p (port_in y.slots) (port_in (all_left y.slots last.1)) (λ u. last.0.address) e.last last.0 e.stands
-              (frame_agrees p (port_in y.slots) (port_in (all_left y.slots last.1)) b (tells p (port_in y.slots) b (formals_numbered p) (code_here p types y x b h)) last.0 left.2);
+          first = frame_same p (port_in y.slots) (port_in (all_drained y.slots last.1)) (λ u. last.0.address) e.last last.0 e.stands
+              (frame_agrees p (port_in y.slots) (port_in (all_drained y.slots last.1)) b (tells p (port_in y.slots) b (formals_numbered p) (code_here p types y x b h)) last.0 left.2);
           others = tt;
           ends = tt;
-          held = both_all (IsHeld (all_left y.slots last.1)) words [] left.1 tt;
+          held = both_all (IsHeld (all_drained y.slots last.1)) words [] left.1 tt;
         };
       }
 

@@ -94,8 +94,12 @@ module _ (slots : Slots) (fs : List Formal) where
     abbrev more_values : List ℤ → List Item
     more_values zs = item zs ∷ values_in slots vs zs
 
+    -- the words of the variable
+    abbrev mine : List ℤ
+    mine = take v.words (drop v.first ws)
+
     abbrev without : List ℤ
-    without = spliced ws v.first (nulls v.words)
+    without = spliced ws v.first (nulls (length mine))
 
     abbrev more_meant : Bool → List Item × List PortValue
     more_meant b = cond b (item ws ∷ (meant_kept vs ws).0, (meant_kept vs ws).1) (null_item (item ws) ∷ (meant_kept vs ws).0, item_ports (item ws) ++ (meant_kept vs ws).1)
@@ -153,70 +157,67 @@ module _ (slots : Slots) (fs : List Formal) where
               (all_theirs (live zs) (code_kept vs ws).1 (live (behind (code_kept vs ws).0)) (live (behind ws)) rest.parted);
         }
 
-    nulls_count : length (nulls v.words) ≡ v.words
-    nulls_count = length-replicate v.words (pos 0)
+    nulls_count : length (nulls (length mine)) ≡ v.words
+    nulls_count = length-replicate (length mine) (pos 0) ∙ span_length ws v.first v.words (omega (arith, at, within))
 
-    nulls_within : v.first + length (nulls v.words) ≤ length ws
+    nulls_within : v.first + length (nulls (length mine)) ≤ length ws
     nulls_within = omega (arith, at, within, nulls_count)
 
     same_behind : SameBehind (n + v.words) ws without
-    same_behind j le = over_behind ws v.first (nulls v.words) j nulls_within (omega (arith, at, le, nulls_count))
+    same_behind j le = over_behind ws v.first (nulls (length mine)) j nulls_within (omega (arith, at, le, nulls_count))
 
-    port_leaves : is_word q ≡ false → length (take v.words (drop v.first ws)) ≡ v.words → StandKept (n + v.words) vs without → AreKept slots n more_values (span_of v ∷ ports_of vs) ws (more_meant false) (more_code false)
-    port_leaves port full rest =
-        let zs : List ℤ = take v.words (drop v.first ws) in
+    port_leaves : is_word q ≡ false → StandKept (n + v.words) vs without → AreKept slots n more_values (span_of v ∷ ports_of vs) ws (more_meant false) (more_code false)
+    port_leaves port rest =
+        let zs : List ℤ = mine in
         let last : List ℤ = (code_kept vs without).0 in
         let values : values_in slots vs without ≡ values_in slots vs ws = values_behind slots (n + v.words) vs ws without laid same_behind in
-        let null : take v.words (drop v.first last) ≡ nulls v.words =
-        same_item without last rest.before ∙ ap (λ k. take k (drop v.first without)) (sym nulls_count) ∙ over_there ws v.first (nulls v.words) nulls_within in
-        let item_is : item last ≡ null_item (item ws) = ap (item_by slots q) (null ∙ ap nulls (sym full)) ∙ item_null slots q zs port in
+        let null : take v.words (drop v.first last) ≡ nulls (length zs) =
+        same_item without last rest.before ∙ ap (λ k. take k (drop v.first without)) (sym nulls_count) ∙ over_there ws v.first (nulls (length zs)) nulls_within in
+        let item_is : item last ≡ null_item (item ws) = ap (item_by slots q) null ∙ item_null slots q zs port in
         record {
           stay = λ i. sym item_is i ∷ (ap (λ xs. (mean.kept vs xs).0) (sym values) ∙ rest.stay) i;
           drops = map-append slots (live zs) (code_kept vs without).1
               ∙ ap (λ l. l ++ map slots (code_kept vs without).1) (item_live slots q zs port)
               ∙ ap (λ l. item_ports (item ws) ++ l) (rest.drops ∙ ap (λ xs. (mean.kept vs xs).1) values);
-          count = rest.count ∙ spliced_length ws v.first (nulls v.words) nulls_within;
-          before = λ j m le. rest.before j m (omega (arith, le)) ∙ over_before ws v.first (nulls v.words) j m nulls_within (omega (arith, le, at));
+          count = rest.count ∙ spliced_length ws v.first (nulls (length zs)) nulls_within;
+          before = λ j m le. rest.before j m (omega (arith, le)) ∙ over_before ws v.first (nulls (length zs)) j m nulls_within (omega (arith, le, at));
           parted = same_parted (live zs ++ (code_kept vs without).1) (live (behind last)) (live zs ++ live (behind without)) (ports_in (span_of v ∷ ports_of vs) last) (ports_in (span_of v ∷ ports_of vs) ws)
-              (ap (λ l. l ++ live (behind last)) (sym (live_nulls v.words)) ∙ sym (filter-append is_port (nulls v.words) (behind last)) ∙ ap (λ l. live (l ++ behind last)) (sym null))
+              (ap (λ l. l ++ live (behind last)) (sym (live_nulls (length zs))) ∙ sym (filter-append is_port (nulls (length zs)) (behind last)) ∙ ap (λ l. live (l ++ behind last)) (sym null))
               (ap (λ l. live zs ++ live l) (spans_behind (n + v.words) vs ws without laid same_behind) ∙ sym (filter-append is_port zs (behind ws)))
               (all_mine (live zs) (code_kept vs without).1 (live (behind last)) (live (behind without)) rest.parted);
         }
 
-    port_kept : (a b : Bool) → a ≡ b → is_word q ≡ false → length (take v.words (drop v.first ws)) ≡ v.words → StandKept (n + v.words) vs ws → StandKept (n + v.words) vs without
-        → AreKept slots n more_values (span_of v ∷ ports_of vs) ws (more_meant b) (more_code a)
-    port_kept true true e port full here there = port_stays here
-    port_kept true false e port full here there = absurd (cc)
-    port_kept false true e port full here there = absurd (cc)
-    port_kept false false e port full here there = port_leaves port full there
+    port_kept : (a b : Bool) → a ≡ b → is_word q ≡ false → StandKept (n + v.words) vs ws → StandKept (n + v.words) vs without → AreKept slots n more_values (span_of v ∷ ports_of vs) ws (more_meant b) (more_code a)
+    port_kept true true e port here there = port_stays here
+    port_kept true false e port here there = absurd (cc)
+    port_kept false true e port here there = absurd (cc)
+    port_kept false false e port here there = port_leaves port there
 
   -- what code tells of ports is what the meaning says of their variable
   abbrev pub Agrees : Variable → Type 0
   Agrees v = is_word v.kind ≡ false → code.is_kept fs (span_of v) ≡ mean.is_kept v
 
   one_more : (n : ℕ) (v : Variable) (vs : List Variable) (ws : List ℤ) → v.first ≡ n → AreLaidOut (n + v.words) vs → n + v.words + words_among vs ≤ length ws → Agrees v
-      → StandKept (n + v.words) vs ws → StandKept (n + v.words) vs (spliced ws v.first (nulls v.words)) → StandKept n (v ∷ vs) ws
+      → StandKept (n + v.words) vs ws → StandKept (n + v.words) vs (code.nulled ws (span_of v)) → StandKept n (v ∷ vs) ws
   one_more n v vs ws at laid within agree here there = go v.kind agree
     where
-      full : length (take v.words (drop v.first ws)) ≡ v.words
-      full = span_length ws v.first v.words (omega (arith, at, within))
-
       go : (q : Kind) → (is_word q ≡ false → code.is_kept fs (span_of v) ≡ mean.is_kept v)
           → AreKept slots n (λ zs. item_by slots q (take v.words (drop v.first zs)) ∷ values_in slots vs zs) (cond (is_word q) (ports_of vs) (span_of v ∷ ports_of vs)) ws
           (mean.kept (v ∷ vs) (item_by slots q (take v.words (drop v.first ws)) ∷ values_in slots vs ws)) (code.kept fs (cond (is_word q) (ports_of vs) (span_of v ∷ ports_of vs)) ws)
       go kind.Integer e = words_kept n v vs ws kind.Integer at laid within (mean.is_kept v) refl here
       go kind.Logical e = words_kept n v vs ws kind.Logical at laid within (mean.is_kept v) refl here
-      go (kind.In t) e = port_kept n v vs ws (kind.In t) at laid within (code.is_kept fs (span_of v)) (mean.is_kept v) (e refl) refl full here there
-      go (kind.Out t) e = port_kept n v vs ws (kind.Out t) at laid within (code.is_kept fs (span_of v)) (mean.is_kept v) (e refl) refl full here there
+      go (kind.In t) e = port_kept n v vs ws (kind.In t) at laid within (code.is_kept fs (span_of v)) (mean.is_kept v) (e refl) refl here there
+      go (kind.Out t) e = port_kept n v vs ws (kind.Out t) at laid within (code.is_kept fs (span_of v)) (mean.is_kept v) (e refl) refl here there
 
   stand_kept : (n : ℕ) (vs : List Variable) (ws : List ℤ) → AreLaidOut n vs → n + words_among vs ≤ length ws → AllIn Agrees vs → StandKept n vs ws
   stand_kept n [] ws laid within agree = record { stay = refl; drops = refl; count = refl; before = λ j m le. refl; parted = parted_none }
   stand_kept n (v ∷ vs) ws laid within agree =
       let inside : n + v.words + words_among vs ≤ length ws = omega (arith, within) in
-      let count : length (nulls v.words) ≡ v.words = length-replicate v.words (pos 0) in
+      let some : ℕ = length (words_at ws (span_of v)) in
+      let count : length (nulls some) ≡ v.words = length-replicate some (pos 0) ∙ span_length ws v.first v.words (omega (arith, laid.0, inside)) in
       one_more n v vs ws laid.0 laid.1 inside agree.0
       (stand_kept (n + v.words) vs ws laid.1 inside agree.1)
-      (stand_kept (n + v.words) vs (spliced ws v.first (nulls v.words)) laid.1 (omega (arith, inside, spliced_length ws v.first (nulls v.words) (omega (arith, laid.0, inside, count)))) agree.1)
+      (stand_kept (n + v.words) vs (code.nulled ws (span_of v)) laid.1 (omega (arith, inside, spliced_length ws v.first (nulls some) (omega (arith, laid.0, inside, count)))) agree.1)
 
 -- Which ports are kept.
 

@@ -7,7 +7,8 @@ use Rattle.fm_net.specs.Typed.{AllIn}
 use Rattle.fm_values.specs.Trips.{natural}
 use Rattle.fm_code.specs.Passing.{is_port}
 use Rattle.fm_proc_language.specs.Slots as slots
-use Rattle.fm_proc_language.specs.Slots.{no_port, in_slot, port_in, put_by, put, left, all_left, vacated}
+use Rattle.fm_proc_language.specs.Slots.{no_port, in_slot, port_in, put_by, put, left, drained, all_left, all_drained, vacated}
+use Rattle.fm_proc_language.proofs.Drained.{drained_ports, still_free}
 use Rattle.fm_proc_simulation.specs.SlotWords.{IsHeld, IsSlots, IsOther, AreOnce, NameTheSame}
 
 -- Lists.
@@ -177,6 +178,23 @@ all_left_others s (z ∷ zs) ws is held once =
     let one = left_all s z (zs ++ ws) held.0 once.0 held.1 in
     let rest = all_left_others (left s z) zs ws (left_slots s z is held.0) one.0 once.1 in
     (rest.0, rest.1, names_on ws s (left s z) (all_left (left s z) zs) (names_right zs ws s (left s z) one.1) rest.2)
+
+drained_slots : (s : slots.Slots) (zs : List ℤ) → IsSlots s → IsSlots (all_drained s zs)
+drained_slots s [] is = is
+drained_slots s (z ∷ zs) is = drained_slots (drained s z) zs (record { empty = still_free s.ports (slots.before z) s.free is.empty; once = is.once })
+
+-- and where slots are left to which no other port comes
+pub all_drained_others : (s : slots.Slots) (zs ws : List ℤ) → IsSlots s → AllIn (IsHeld s) (zs ++ ws) → AreOnce (zs ++ ws)
+    → IsSlots (all_drained s zs) × AllIn (IsHeld (all_drained s zs)) ws × NameTheSame ws s (all_drained s zs)
+all_drained_others s zs ws is held once =
+    let like = all_left_others s zs ws is held once in
+    let after = all_drained s zs in
+    let same = drained_ports zs s in (
+      drained_slots s zs is,
+      all_so (IsHeld (all_left s zs)) (IsHeld after) (λ w h. record { before = h.before; port = h.port; number = h.number; there = ap (λ (l : List (Option PortValue)). slice_get l h.before) same ∙ h.there }) ws like.1,
+      all_so (λ w. port_in (all_left s zs) w ≡ port_in s w) (λ w. port_in after w ≡ port_in s w)
+          (λ w e. ap (λ (l : List (Option PortValue)). unwrap_or (unwrap_or (slice_get l (slots.before w)) None) no_port) same ∙ e) ws like.2,
+    )
 
 -- the same ports in other slots that name the same
 pub maps_same : (zs : List ℤ) (s t : slots.Slots) → NameTheSame zs s t → map (port_in t) zs ≡ map (port_in s) zs

@@ -3,11 +3,12 @@ pub mod Backs
 pub mod Built
 pub mod Copied
 pub mod Exchanges
-pub mod Kept
 pub mod Moved
+pub mod Nulls
 pub mod Numbers
 pub mod Placements
 pub mod Reaches
+pub mod Rising
 pub mod RoomLaws
 pub mod Roomy
 pub mod Staged

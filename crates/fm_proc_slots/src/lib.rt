@@ -19,11 +19,11 @@ mod words;
 
 pub use building::ports_message;
 pub use joining::{Child, Gains, give_back, vacate_words};
-pub use keeping::{keep, keeps_few};
+pub use keeping::{is_kept, rise};
 pub use messages::{message_words, words_message};
 pub use moving::move_over;
 pub use open::OpenSlots;
 pub use placing::{place_all, port_words};
 pub use slots::Slots;
 pub use storing::store_all;
-pub use words::{set_word, span_words};
+pub use words::{null_span, set_word, span_words};

@@ -1,12 +1,13 @@
 //! Words of a frame.
 
 ghost use Rattle.std.specs.Prelude.{◌≡◌, ◌≤◌, ◌+◌, ◌++◌, IfOk, OnErr, OnOk, length, nat_le, slice_set, vec_len, vec_capacity};
-ghost use Rattle.fm_code.specs.Passing.{nulls, spliced};
+ghost use Rattle.fm_code.specs.Passing.{spliced};
+ghost use Rattle.fm_proc_language.specs.Frames.{nulled};
 ghost use Rattle.fm_proc_slots.specs.Operands.{grown, operand_grown, reach};
 ghost use Rattle.fm_proc_slots.specs.Rooms.{span_words};
 
 use fm_base::{NoMemory, Seq};
-use fm_code::{Operand, Span};
+use fm_code::{Operand, Span, words_of};
 use std::alloc::Global;
 
 /// Puts a word at a place, if there is such a place.
@@ -87,12 +88,14 @@ pub(crate) fn splice_within(words: &mut Vec<i64>, at: usize, items: &[i64])
     }
 }
 
-/// The words of a span become NULL.
-pub(crate) fn clear_span(alloc: Global, words: &mut Seq<i64>, span: Span) -> Result<(), NoMemory>
-    ensures { OnOk result (words.new ≡ spliced words.old span.first (nulls span.count)) }
+/// The words of a span become NULL, as far as they are there. Takes no memory.
+pub fn null_span(words: &mut Seq<i64>, span: Span)
+    ensures { words.new ≡ nulled words.old span }
 {
-    let nulls = vec![in alloc; 0i64; span.count as usize]?;
-    splice(alloc, words, span.first as usize, nulls.as_slice())
+    let count = words_of(words.as_slice(), span).len();
+    'words: for index in 0..count {
+        set_word(words, span.first as usize + index, 0);
+    }
 }
 
 /// How many words there are after words came to a span.

@@ -16,7 +16,7 @@ use Rattle.fm_proc_language.specs.Slots.{Slots, all_left, vacated}
 use Rattle.fm_proc_language.specs.Processes.{frame_words}
 use Rattle.fm_proc_slots.specs.Joins.{SamePorts}
 use Rattle.fm_proc_slots.proofs.Vacated.{same_vacated, vacated-append}
-use Rattle.fm_procs.specs.Rooms.{Sheds, frame_room, frames_room, words_by}
+use Rattle.fm_procs.specs.Rooms.{Sheds, frame_room, frames_room, starts_words, words_by}
 
 -- One after the other.
 
@@ -34,9 +34,6 @@ sheds_more all rest zs rest' s0 s s' d0 d d' on is step others =
 
 pub next_span : (ws : List ℤ) (s : Span) (ss rest : List Span) → rest ≡ s ∷ ss → ports_in rest ws ≡ live (span_of ws s) ++ ports_in ss ws
 next_span ws s ss rest is = ap (λ l. ports_in l ws) is ∙ filter-append is_port (span_of ws s) (flat_map (λ (x : Span). span_of ws x) ss)
-
-abbrev pub starts_words : Code → List Start → List ℤ
-starts_words code = flat_map (λ (s : Start). ports_in (ports_of (slice_get code.units s.unit)) s.words)
 
 pub next_start : (code : Code) (s : Start) (ss rest : List Start) → rest ≡ s ∷ ss → starts_words code rest ≡ ports_in (ports_of (slice_get code.units s.unit)) s.words ++ starts_words code ss
 next_start code s ss rest is = ap (starts_words code) is

@@ -1,11 +1,17 @@
 -- What came of a slice leads its process on.
-use Rattle.std.proofs.Common.{◌≡◌, ℕ, true, Option, Some, List, ◌++◌, refl, ap, ap₂, ◌∙◌}
+use Rattle.std.proofs.Common.{◌≡◌, ◌==◌, ℕ, true, Option, Some, List, [], ◌∷◌, ◌++◌, length, refl, ap, ap₂, ◌∙◌, arith}
+use Rattle.std.proofs.lemmas.Bool.{eqb-true}
 use Rattle.fm_code.specs.declared.body.Body.{Body}
+use Rattle.fm_code.specs.declared.body.Start.{Start}
 use Rattle.fm_code.specs.Statements.{run}
 use Rattle.fm_machine.specs.declared.done.Done.{Done}
 use Rattle.fm_proc_language.specs.Processes.{CodeProc, Phase, Running, Joining, Ended, Faulted}
 use Rattle.fm_proc_events.specs.Told.{is_running, runs_by}
 use Rattle.fm_procs.specs.Runs.{Runs}
+
+pub is_none : (l : List Start) → (length l == 0) ≡ true → l ≡ []
+is_none [] e = refl
+is_none (x ∷ xs) e = absurd (omega (arith, eqb-true (length (x ∷ xs)) 0 e))
 
 runs_on : (phase : Phase) (o : Option Body) → runs_by phase o ≡ true → phase ≡ Running
 runs_on Running o e = refl

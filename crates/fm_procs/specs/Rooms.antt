@@ -38,9 +38,13 @@ abbrev pub lefts_room : List (Option Body × Slots) → ℕ
 lefts_room [] = 0
 lefts_room (x ∷ xs) = left_room x.0 + lefts_room xs
 
--- the ports of a frame and of its starts, by the code
+-- the ports of starts, by the code
+abbrev pub starts_words : Code → List Start → List ℤ
+starts_words c = flat_map (λ (s : Start). ports_in (ports_of (slice_get c.units s.unit)) s.words)
+
+-- the ports of a frame and of its starts
 abbrev pub words_by : Code → Frame → List ℤ
-words_by c m = ports_in (ports_of (slice_get c.units m.unit)) m.words ++ flat_map (λ (s : Start). ports_in (ports_of (slice_get c.units s.unit)) s.words) m.starts
+words_by c m = ports_in (ports_of (slice_get c.units m.unit)) m.words ++ starts_words c m.starts
 
 -- the ports at these words are let go first: what others give then is what they gave behind these
 abbrev pub Sheds : (words : List ℤ) → (old : Slots) → (drops : List PortValue) → (new : Slots) → (after : List PortValue) → Type 0

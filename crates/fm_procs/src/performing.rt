@@ -1,6 +1,7 @@
 //! A process does its event.
 
-ghost use Rattle.std.specs.Prelude.{◌≡◌, [], map, true, IfOk, OnErr, OnOk};
+ghost use Rattle.std.specs.Prelude.{◌≡◌, ◌≢◌, [], map, true, IfOk, OnErr, OnOk};
+ghost use Rattle.fm_code.specs.declared.ask.Ask.TheVariants.{End};
 ghost use Rattle.fm_machine_calls.specs.declared.looking.Look.TheVariants.{Asks};
 ghost use Rattle.fm_chan.specs.Bodies.{chans_of};
 ghost use Rattle.fm_chan.specs.Woken.{WakesAll};
@@ -109,6 +110,7 @@ pub fn perform(
     ensures stays { OnErr result (proc_of process.new ≡ proc_of process.old) }
     ensures channels { OnErr result (chans_of channels.new ≡ chans_of channels.old) }
     ensures waking { OnOk result (WakesAll channels.old channels.new) }
+    ensures ends { OnErr result (ask ≢ End) }
 {
     match ask {
         Ask::Fail { line, fault } => {
@@ -144,7 +146,7 @@ pub fn perform(
         Ask::Begin { next } => begin(alloc, path, process, next),
         Ask::Join { next: _ } => unreachable!(),
         Ask::End => {
-            end(alloc, path, process, channels)?;
+            end(path, process, channels);
             Ok(alone(alloc, 1))
         }
     }

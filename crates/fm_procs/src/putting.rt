@@ -34,7 +34,7 @@ fn put_items<T: Copy + Drop>(alloc: Global, list: &mut Seq<T>, items: &[T]) -> R
 }
 
 // Whether a body has no frame but the innermost one, which has no start.
-#[tactic(auto, using(crate::proofs::Endings::is_none))]
+#[tactic(auto, using(crate::proofs::PutEnd::is_none))]
 fn has_one_frame(body: &Body) -> bool
     ensures below { result ≡ true → body.now.below ≡ [] }
     ensures starts { result ≡ true → body.now.frame.starts ≡ [] }

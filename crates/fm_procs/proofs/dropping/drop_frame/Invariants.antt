@@ -1,8 +1,7 @@
 use Rattle.std.proofs.Common.{◌≡◌, ◌+◌, ◌≤◌, ◌++◌, ℤ, List, drop}
 use Rattle.std.specs.Prelude.{vec_len, vec_capacity}
 use Rattle.fm_proc_language.specs.Slots.{vacated}
-use Rattle.fm_procs.specs.Rooms.{frame_room, starts_room, words_by}
-use Rattle.fm_procs.proofs.Droppings.{starts_words}
+use Rattle.fm_procs.specs.Rooms.{frame_room, starts_room, starts_words, words_by}
 use Rattle.fm_procs.proofs.dropping.drop_frame.Given as goal
 
 abbrev pub invariant-starts : goal.invariant-starts

@@ -1,28 +1,21 @@
-use Rattle.std.proofs.Common.{ℤ, List, [], ◌++◌, ap, ◌∙◌}
-use Rattle.fm_base.specs.declared.port.PortValue.{PortValue}
-use Rattle.fm_proc_language.specs.Slots.{Slots, all_left, vacated}
-use Rattle.fm_proc_language.specs.Processes.{ended_frame}
-use Rattle.fm_proc_slots.specs.Rooms.{slots_in}
-use Rattle.fm_proc_events.specs.Phases.{proc_of}
+use Rattle.std.proofs.Common.{ap, ◌∙◌}
 use Rattle.fm_chan.specs.Bodies.{chans_of}
-use Rattle.fm_procs.proofs.Endings.{ended_so, ended_whole}
+use Rattle.fm_chan.proofs.Waking.{wakes_all_then}
+use Rattle.fm_proc_events.specs.Discards.{all_discarded}
+use Rattle.fm_proc_events.specs.Phases.{proc_of}
+use Rattle.fm_procs.proofs.Endings.{body_left, ended_so, frame_gone}
 use Rattle.fm_procs.proofs.ending.end.Goals as goal
 
 pub returns-clause-performs : goal.returns-clause-performs
 returns-clause-performs c =
     let b = c.in-Some.body in
-    let slots = c.args.process.now.slots in
-    let words = c.as_slice.result.now in
-    let opened = c.in_ok-slots.ensures.opened.0 in
-    ended_so _ (proc_of c.args.process.now) _ _ b c.end_body.new.body c.from_open.result c.in_ok-words.field-0.ports c.vacate.new.ports.items c.requires.look c.requires.running c.in-Some.is
-    (c.end_body.ensures ∙ ap (λ (l : List ℤ). record b { frame = record (ended_frame b b.frame b.below).0 { words = l }; below = [] }) c.in_ok-words.ensures.words) c.in_ok-words.ensures.ports
-    (c.from_open.ensures ∙ c.vacate.ensures.slots ∙ ap (λ (s : Slots). all_left s words) opened ∙ ap (all_left slots) c.as_slice.ensures)
-    (c.vacate.ensures.ports ∙ ap (λ (l : List PortValue). l ++ vacated (slots_in c.in_ok-slots.slots) words) c.in_ok-drops.ensures.items ∙ ap (λ (s : Slots). vacated s words) opened ∙ ap (vacated slots) c.as_slice.ensures)
-    c.shed.ensures.channels
+    let calls = c.end_calls in
+    let ended = c.end_frame in
+    let slots = calls.new.slots in
+    let cs = chans_of calls.new.channels in
+    ended_so _ (proc_of c.args.process.now) (chans_of c.args.channels.now) (chans_of ended.new.channels) b ended.new.body ended.new.slots c.requires.look c.requires.running c.in-Some.is
+    (ended.ensures.body ∙ body_left b calls.new.body calls.ensures.body calls.ensures.frame)
+    (ended.ensures.gone ∙ (ap (all_discarded slots cs) (frame_gone b calls.new.body calls.ensures.body) ∙ calls.ensures.gone))
 
-pub returns-then-ends_whole-clause-performs : goal.returns-then-ends_whole-clause-performs
-returns-then-ends_whole-clause-performs c =
-    let b = c.in-Some.body in
-    let whole = c.ends_whole.ensures in
-    ended_whole c.args.path.now (proc_of c.args.process.now) (chans_of c.args.channels.now) b c.end_whole.new.body c.requires.look c.requires.running c.in-Some.is
-    (whole.alone c.if-ends_whole.true) (whole.whole c.if-ends_whole.true) c.end_whole.ensures
+pub returns-clause-waking : goal.returns-clause-waking
+returns-clause-waking c = wakes_all_then c.args.channels.now c.end_calls.new.channels c.end_frame.new.channels c.end_calls.ensures.waking c.end_frame.ensures.waking
