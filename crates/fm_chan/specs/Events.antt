@@ -1,6 +1,6 @@
 -- What a process does to the channels by a port.
 -- Source: the Fortran M report (SEND, RECEIVE, ENDCHANNEL), with this profile's rules on discarding.
-use Rattle.std.specs.Prelude.{ℕ, Bool, true, false, cond, Option, Some, None, List, [], ◌∷◌, map as map_list}
+use Rattle.std.specs.Prelude.{ℕ, Bool, true, false, cond, Option, Some, None, List, [], ◌∷◌, length, map as map_list}
 use Rattle.std.specs.FinMap as map
 use Rattle.fm_base.specs.declared.path.ChanName.{ChanName}
 use Rattle.fm_base.specs.declared.port.PortValue.{PortValue}
@@ -28,6 +28,11 @@ writer_number (Reader c) = None
 -- the port's channel, if it is there
 abbrev pub chan_at : PortValue → Chans → Option Chan
 chan_at x m = map.get m (channel_of x)
+
+-- how many writers are open there, if it is there
+abbrev pub open_writers_at : Option Chan → ℕ
+open_writers_at None = 0
+open_writers_at (Some ch) = length ch.writers
 
 -- the channels after an event at the port's channel, before what it discards goes
 abbrev pub after_op : PortValue → ChannelOp → Chans → Chans

@@ -1,6 +1,6 @@
 //! What stands behind a channel's name.
 
-ghost use Rattle.std.specs.Prelude.{◌≡◌, ◌+◌, [], ◌++◌, Some, None, true, false, IfOk, IfSome, OnOk, OnErr, IfErr, IsOk};
+ghost use Rattle.std.specs.Prelude.{◌≡◌, ◌+◌, [], ◌++◌, Some, None, true, false, length, IfOk, IfSome, OnOk, OnErr, IfErr, IsOk};
 ghost use Rattle.std.specs.Option.{option_copied};
 ghost use Rattle.fm_base.specs.Channels.{numbers_from, fresh, Push, Pop, changed, gives, exceeds, spills, can_pop, without, discarded, freed, queue_ports};
 ghost use Rattle.fm_chan.specs.Kept.{chan_of};
@@ -147,6 +147,13 @@ impl Body {
             Some(inport) => !inport.queue.is_empty(),
         };
         waits || self.writers.len() == 0
+    }
+
+    /// How many writers are open.
+    pub fn open_writers(&self) -> usize
+        ensures { result ≡ length (chan_of self.now).writers }
+    {
+        self.writers.len()
     }
 
     /// The oldest message, or none.

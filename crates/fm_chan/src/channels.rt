@@ -78,7 +78,7 @@ impl Channels {
     ghost use Rattle.fm_base.specs.Channels.{fresh, channel_of, Push, Pop, freed, shut, message_ports, all_shed};
     ghost use Rattle.fm_chan.specs.Bodies.{chans_of};
     ghost use Rattle.fm_chan.specs.Rooms.{HasRoom, KeepsRoom, KeepsOthersRoom};
-    ghost use Rattle.fm_chan.specs.Events.{is_outport, writer_number, chan_at, after_op, after_send, after_send_to, put_first};
+    ghost use Rattle.fm_chan.specs.Events.{is_outport, writer_number, chan_at, open_writers_at, after_op, after_send, after_send_to, put_first};
     ghost use Rattle.fm_finmap.specs.Changes.{adjust};
     ghost use Rattle.fm_chan.specs.Received.{got_at, brings, first_at, pops_at, waits_at};
     ghost use Rattle.fm_chan.specs.Rest.{left_ports};
@@ -121,6 +121,16 @@ impl Channels {
         match self.bodies.get(port.channel()) {
             Some(body) => !body.is_ready(),
             None => true,
+        }
+    }
+
+    /// How many writers of the port's channel are open; none where it isn't here. Takes no memory.
+    pub fn open_writers(&self, port: &Port) -> usize
+        ensures { result ≡ open_writers_at (chan_at port.now (chans_of self.now)) }
+    {
+        match self.bodies.get(port.channel()) {
+            Some(body) => body.open_writers(),
+            None => 0,
         }
     }
 
