@@ -38,6 +38,8 @@ mod pools;
 #[cfg(test)]
 mod programs;
 #[cfg(test)]
+mod rounds;
+#[cfg(test)]
 mod rules;
 #[cfg(test)]
 mod schedules;

@@ -1,10 +1,9 @@
-//! Programs on hosts: what `nodes` writes, in which order the steps come, and that whatever happens there is one
-//! outcome.
+//! Programs on hosts: what `nodes` writes, and that whatever happens there is one outcome.
 
 use crate::answers::answer;
 use crate::plain::{MERGER, PORT, WORDS};
 use crate::{examples, language, programs};
-use fm_base::{ChanName, NoMemory, Path, Plan, Turn};
+use fm_base::{ChanName, NoMemory, Path, Plan};
 use fm_front::front;
 use fm_nodes::Nodes;
 use fm_nodes_rounds::NodeEvent;
@@ -69,18 +68,7 @@ const LONG: &[u8] = b"      PROGRAM LONG
 ";
 
 /// The numbers of networks.
-const NUMBERS: [&str; 6] = ["0", "1", "2", "3", "4", "5"];
-
-/// Of the generated program 7, over the network of each of these numbers, the sum of the steps in the order that
-/// another program found by these rounds.
-const SUMS: [u64; 6] = [
-    128_640_413_045_702_282,
-    11_300_907_806_423_026_480,
-    1_313_167_592_438_388_054,
-    128_640_413_045_702_282,
-    11_300_907_806_423_026_480,
-    1_313_167_592_438_388_054,
-];
+pub(crate) const NUMBERS: [&str; 6] = ["0", "1", "2", "3", "4", "5"];
 
 /// How many lists of events are tried of a program.
 const LISTS: u64 = 3_400;
@@ -95,7 +83,6 @@ fn nodes_write_reports(rt: HostRuntime) -> Result<(), Fail> {
     assert_eq!(rt; text.as_slice(), b" got 1\n got 2\n got 3\n".as_slice());
     assert_eq!(rt; ran.exit, Exit::Done);
     assert_eq!(rt; ran.history.len(), 31);
-    assert_eq!(rt; sum_of(&ran.history), 6_547_984_799_114_717_922);
     for source in [PORT, MERGER] {
         let (ran, text) = answer(alloc, &["nodes", "5"], source)?;
         assert_eq!(rt; text.as_slice(), b"not for nodes: line 4\n".as_slice());
@@ -106,6 +93,9 @@ fn nodes_write_reports(rt: HostRuntime) -> Result<(), Fail> {
     let (ran, text) = answer(alloc, &["nodes", "0", "--turns=3"], WORDS)?;
     assert_eq!(rt; text.as_slice(), b"spent 3\n".as_slice());
     assert_eq!(rt; ran.exit, Exit::Spent);
+    let (_, source) = answer(alloc, &["make", "7"], b"")?;
+    let (_, text) = answer(alloc, &["nodes", "5"], &source)?;
+    assert_eq!(rt; text.as_slice(), b" 51360\n".as_slice());
     Ok(())
 }
 
@@ -148,33 +138,8 @@ fn hosts_tell_what_runs_tell(rt: HostRuntime) -> Result<(), Fail> {
     Ok(())
 }
 
-/// A sum of the entries of a history that another order of them changes.
-fn sum_of(history: &[Turn]) -> u64 {
-    let mut sum: u64 = 0;
-    for turn in history {
-        sum = sum
-            .wrapping_mul(1_000_003)
-            .wrapping_add(u64::from(turn.number))
-            .wrapping_add(u64::from(turn.steps));
-    }
-    sum
-}
-
-#[test]
-fn steps_go_by_rounds_over_links(rt: HostRuntime) -> Result<(), Fail> {
-    let alloc = rt.alloc();
-    let (_, source) = answer(alloc, &["make", "7"], b"")?;
-    for (number, sum) in NUMBERS.iter().zip(&SUMS) {
-        let (ran, text) = answer(alloc, &["nodes", *number], &source)?;
-        assert_eq!(rt; text.as_slice(), b" 51360\n".as_slice());
-        assert_eq!(rt; ran.history.len(), 9515, "nodes {number}");
-        assert_eq!(rt; sum_of(&ran.history), *sum, "nodes {number}");
-    }
-    Ok(())
-}
-
 /// The checked program of a source.
-fn program_of(alloc: Global, source: &[u8]) -> Result<Arc<Program>, NoMemory> {
+pub(crate) fn program_of(alloc: Global, source: &[u8]) -> Result<Arc<Program>, NoMemory> {
     if source.len() > 1_000_000 {
         return Err(NoMemory);
     }
@@ -225,7 +190,7 @@ fn some_event(alloc: Global, nodes: &Nodes, word: u32) -> Result<NodeEvent, NoMe
 }
 
 /// What happens, and whether it could.
-fn act(nodes: &mut Nodes, event: NodeEvent) -> Result<bool, NoMemory> {
+pub(crate) fn act(nodes: &mut Nodes, event: NodeEvent) -> Result<bool, NoMemory> {
     if nodes.used() > 1_000_000_000 {
         return Ok(false);
     }
