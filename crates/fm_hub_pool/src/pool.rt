@@ -1,7 +1,9 @@
 //! The pool.
 
-ghost use Rattle.std.specs.Prelude.{◌≡◌, All, IfOk, IfSome};
-ghost use Rattle.fm_hub.specs.Hubs.{IsSeatOf};
+ghost use Rattle.std.specs.Prelude.{◌≡◌, All, map, IfOk, IfSome};
+ghost use Rattle.std.specs.List.{range_with_len};
+ghost use mathlib.Core.List.{IsPrefix};
+ghost use Rattle.fm_hub.specs.Hubs.{IsSeatOf, view_of};
 
 use crate::turns::{Worker, work};
 use fm_base::NoMemory;
@@ -27,11 +29,12 @@ pub struct HubPool<G, R: Threads + Wait + Sync> {
 
 impl<G, R: Threads + Wait + Sync> HubPool<G, R> {
     /// Plays the table with so many workers, until it has ended or no worker goes on, and gives it back. None comes
-    /// where a seat still has the turn.
+    /// where a seat still has the turn. What was played before stays.
     pub fn play<T: SharedTable + Send + Drop>(&self, table: T, count: u32) -> Option<T>
     where
         G: Gate<T>,
         ensures idle { count ≡ 0 → IfSome result (λ t. t ≡ table) }
+        ensures grown { IfSome result (λ t. IsPrefix (T.history_of table) (T.history_of t)) }
     {
         if count == 0 {
             return Some(table);
@@ -58,8 +61,9 @@ fn seated<T: SharedTable + Drop>(
     count: u32,
 ) -> Result<Vec<Worker<T>>, NoMemory>
     requires { IsSeatOf hub.now seat.old }
-    ensures seat { IsSeatOf hub.now seat.new }
+    ensures seat { IsSeatOf hub.now seat.new × (view_of seat.new ≡ view_of seat.old) }
     ensures seats { IfOk result (λ v. All (λ w. IsSeatOf hub.now w.seat) v.items) }
+    ensures numbers { IfOk result (λ v. map (λ w. w.number) v.items ≡ range_with_len 0 count) }
 {
     let mut workers = Vec::with_capacity(alloc, count as usize)?;
     'workers: for number in 0..count {

@@ -1,6 +1,10 @@
 //! What a worker does: turns at the table, and pieces between them.
 
-ghost use Rattle.fm_hub.specs.Hubs.{IsAt, IsSeatOf};
+ghost use Rattle.std.specs.Prelude.{◌≡◌, ◌++◌, ⊤};
+ghost use mathlib.Core.List.{IsPrefix};
+ghost use Rattle.fm_hub.specs.Histories.{start_in};
+ghost use Rattle.fm_hub.specs.Hubs.{IsAt, IsSeatOf, made_at, view_at, view_of};
+ghost use Rattle.fm_pool.specs.Desks.{IsNext, IsServed};
 
 use crate::desk::{given, taken};
 use fm_hub::{Held, Hub, HubSeat};
@@ -26,7 +30,11 @@ pub struct Worker<T> {
 // Takes the turn as soon as a try finds it free.
 fn turn<T: KeepsHistory + Drop, R: Wait>(rt: &R, hub: &Hub<T>, mut seat: HubSeat<T>) -> Held<T>
     requires { IsSeatOf hub.now seat }
-    ensures { IsAt hub.now result.place }
+    ensures at { IsAt hub.now result.place }
+    ensures held { T.history_of result.table ≡ start_in (view_at result.place).held }
+    ensures begun { IsPrefix (view_of seat).seen (T.history_of result.table) }
+    ensures seen { (view_at result.place).seen ≡ (view_of seat).seen }
+    ensures mine { (view_at result.place).mine ≡ (view_of seat).mine }
 {
     'tries: for _ in rt.forever() {
         match hub.hold(seat) {
@@ -40,10 +48,14 @@ fn turn<T: KeepsHistory + Drop, R: Wait>(rt: &R, hub: &Hub<T>, mut seat: HubSeat
     unreachable!()
 }
 
-// Lets others have the turn, and takes it again.
+// Lets others have the turn, and takes it again: the seat has seen what it left, and what it made there is its own.
 fn next_turn<T: KeepsHistory + Drop, R: Wait>(rt: &R, hub: &Hub<T>, held: Held<T>) -> Held<T>
     requires { IsAt hub.now held.place }
-    ensures { IsAt hub.now result.place }
+    ensures at { IsAt hub.now result.place }
+    ensures begun { IsPrefix (T.history_of held.table) (T.history_of result.table) }
+    ensures seen { (view_at result.place).seen ≡ T.history_of held.table }
+    ensures mine { (view_at result.place).mine
+        ≡ (view_at held.place).mine ++ made_at held.place (T.history_of held.table) }
 {
     let seat = hub.release(held);
     thread::yield_now();
@@ -62,7 +74,8 @@ fn next_piece<T: SharedTable + Drop, R: Wait>(
     light: bool,
 ) -> (HubSeat<T>, Option<T::Piece>)
     requires { IsAt hub.now held.place }
-    ensures { IsSeatOf hub.now result.0 }
+    ensures seat { IsSeatOf hub.now result.0 }
+    ensures served { IsServed (IsNext T.take_does T.turn_does T.recall_does ⊤ light worker T.phase_tells) result.1 }
 {
     let mut made = 0u32;
     'turns: for _ in rt.forever() {

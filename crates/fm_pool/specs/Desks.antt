@@ -71,3 +71,25 @@ module _ {T D : Type 0} (gives : D → T → Result Given (D × NoMemory) → T 
   IsBrought done goes_on a c =
       MatchBool goes_on ((given : Given) × gives done a (Ok given) c)
       ((b : T) × (e : D × NoMemory) × gives done a (Err e) b × leaves b c)
+
+-- ---- what a worker gets at desks, as others change the desk whenever the lock is free
+
+-- it computes a piece, or it stops
+abbrev pub last_of : {P : Type 0} → Option P → Next P
+last_of None = Stops
+last_of (Some piece) = Runs piece
+
+module _ {D P : Type 0} (step : Next P → D → D → Type 0) where
+  -- a desk said this last
+  abbrev pub IsServed : Option P → Type 0
+  IsServed handed = (a : D) × (c : D) × step (last_of handed) a c
+
+module _ {T D : Type 0} (gives : D → T → Result Given (D × NoMemory) → T → Type 0) where
+  -- what a piece came to was brought to a table, where nothing is done for want of memory
+  abbrev pub HasBrought : D → (goes_on : Bool) → Type 0
+  HasBrought done goes_on = (a : T) × (c : T) × IsBrought gives IsSame done goes_on a c
+
+module _ {T D P : Type 0} (gives : D → T → Result Given (D × NoMemory) → T → Type 0) (step : Next P → Desk T → Desk T → Type 0) where
+  -- it was brought, and a desk served the worker; or memory lacked, and the worker stops
+  abbrev pub IsExchanged : D → Option P → Type 0
+  IsExchanged done handed = (HasBrought gives done true × IsServed step handed) ⊎ (HasBrought gives done false × (handed ≡ None))

@@ -1,6 +1,7 @@
 //! The pool.
 
-ghost use Rattle.std.specs.Prelude.{◌≡◌, ◌<◌};
+ghost use Rattle.std.specs.Prelude.{◌≡◌, ◌<◌, IfOk};
+ghost use Rattle.std.specs.List.{range_with_len};
 
 use crate::room::Room;
 use fm_base::NoMemory;
@@ -50,7 +51,9 @@ impl<G, R: Threads + Wait + Sync> Pool<G, R> {
 }
 
 // The numbers of the workers.
-fn numbers(alloc: Global, count: u32) -> Result<Vec<u32>, NoMemory> {
+fn numbers(alloc: Global, count: u32) -> Result<Vec<u32>, NoMemory>
+    ensures { IfOk result (λ v. v.items ≡ range_with_len 0 count) }
+{
     let mut numbers = Vec::with_capacity(alloc, count as usize)?;
     'workers: for number in 0..count {
         numbers.push(number)?;

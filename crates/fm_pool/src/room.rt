@@ -1,5 +1,8 @@
 //! A desk under a lock, and what tells workers that something has changed.
 
+ghost use Rattle.std.specs.Prelude.{◌≡◌, false, None, MatchResult};
+ghost use Rattle.fm_pool.specs.Desks.{HasBrought, IsExchanged, IsNextAt, IsServed};
+
 use crate::desk::{Desk, Next};
 use fm_base::NoMemory;
 use fm_workers::SharedTable;
@@ -35,13 +38,9 @@ impl<T: SharedTable> Room<T> {
 
     /// The next piece, when there is one. None where the worker is to stop. Where `light` says so, the table makes
     /// those pieces by itself that aren't worth giving out.
-    pub fn next<R: Wait>(
-        &self,
-        rt: &R,
-        alloc: Global,
-        worker: u32,
-        light: bool,
-    ) -> Option<T::Piece> {
+    pub fn next<R: Wait>(&self, rt: &R, alloc: Global, worker: u32, light: bool) -> Option<T::Piece>
+        ensures { IsServed (IsNextAt T.take_does T.turn_does T.phase_tells light worker) result }
+    {
         let desk = self.come_in(rt);
         self.next_at(rt, alloc, worker, light, desk)
     }
@@ -55,7 +54,11 @@ impl<T: SharedTable> Room<T> {
         worker: u32,
         light: bool,
         done: Result<T::Done, NoMemory>,
-    ) -> Option<T::Piece> {
+    ) -> Option<T::Piece>
+        ensures { MatchResult done
+            (λ d. IsExchanged T.give_does (IsNextAt T.take_does T.turn_does T.phase_tells light worker) d result)
+            (λ _. result ≡ None) }
+    {
         let mut desk = self.come_in(rt);
         if desk.bring(alloc, done) {
             return self.next_at(rt, alloc, worker, light, desk);
@@ -83,7 +86,9 @@ impl<T: SharedTable> Room<T> {
         worker: u32,
         light: bool,
         held: MutexGuard<'b, Desk<T>>,
-    ) -> Option<T::Piece> {
+    ) -> Option<T::Piece>
+        ensures { IsServed (IsNextAt T.take_does T.turn_does T.phase_tells light worker) result }
+    {
         let mut desk = held;
         'turns: for _ in rt.forever() {
             match desk.next(alloc, worker, light) {
@@ -152,7 +157,9 @@ impl<T: SharedTable> Room<T> {
 
     /// Gives what a piece came to, or leaves the piece where there was no memory to compute it. False where the worker
     /// is to stop, which wakes all others; else it wakes one that waits.
-    pub fn bring<R: Wait>(&self, rt: &R, alloc: Global, done: Result<T::Done, NoMemory>) -> bool {
+    pub fn bring<R: Wait>(&self, rt: &R, alloc: Global, done: Result<T::Done, NoMemory>) -> bool
+        ensures { MatchResult done (λ d. HasBrought T.give_does d result) (λ _. result ≡ false) }
+    {
         let mut desk = self.come_in(rt);
         let given = desk.bring(alloc, done);
         drop(desk);

@@ -4,6 +4,7 @@
 use Rattle.std.specs.Prelude.{◌≡◌, ◌<◌, ℕ, List, [], ◌∷◌, ◌++◌, length, All}
 use Rattle.crossbeam_deque.specs.Handles.{view, worker_view, worker_deque, worker_port, worker_flavor, stealer_deque}
 use Rattle.crossbeam_deque.specs.declared.handles.Worker.{Worker}
+use Rattle.fm_steal.specs.Deals.{WasEmpty}
 use Rattle.fm_steal.specs.declared.handles.Lane.{Lane}
 use Rattle.fm_steal.specs.declared.handles.Thief.{Thief}
 
@@ -27,6 +28,10 @@ module _ {T : Type 0} where
   -- what a thief took, each item with its ticket
   abbrev pub loot_list : Thief T → List (ℕ × T)
   loot_list thief = (view thief.pass).got
+
+  -- the lane was empty at a moment when the thief had taken no more than this
+  abbrev pub FoundEmpty : Thief T → Type 0
+  FoundEmpty thief = WasEmpty (view thief.pass)
 
   -- what thieves took, one after the other
   abbrev pub all_loot_list : List (Thief T) → List (ℕ × T)

@@ -3,7 +3,7 @@
 ghost use Rattle.std.specs.Prelude.{◌≡◌, ◌-◌, ◌+◌, ◌<◌, ◌≤◌, [], ◌∷◌, ◌++◌, length, All, IfOk, IfErr, MatchResult, MatchOption, IsPermutation, vec_capacity};
 ghost use Rattle.crossbeam_deque.specs.Handles.{view, worker_deque, worker_port, worker_flavor, worker_view, worker_capacity, worker_index, stealer_deque, stealer_flavor, IsPassOf};
 ghost use Rattle.fm_steal.specs.Deals.{hand, AreAll, AreTaken, HasTaken, HasTicket, IsFirst, Rises, WasEmpty};
-ghost use Rattle.fm_steal.specs.Lanes.{put_list, got_list, loot_list, all_loot_list, AreThievesOf, IsNewLane, AreNewThieves, IsPut, IsRefused, SameLane, SameThief, IsOwner};
+ghost use Rattle.fm_steal.specs.Lanes.{put_list, got_list, loot_list, all_loot_list, AreThievesOf, FoundEmpty, IsNewLane, AreNewThieves, IsPut, IsRefused, SameLane, SameThief, IsOwner};
 
 use crate::hand::{Cut, Left, Owner, Popped, Put, Reach, Token, Took};
 use crate::handles::{Lane, Thief};
@@ -160,7 +160,7 @@ impl<T> Thief<T> {
     /// middle of taking it tries again, and so may wait for that thread.
     pub fn steal<R: Wait>(&mut self, rt: &R) -> Option<(u64, T)>
         ensures taken { MatchOption result
-            ((loot_list self.new ≡ loot_list self.old) × WasEmpty (view self.old.pass))
+            ((loot_list self.new ≡ loot_list self.old) × FoundEmpty self.old)
             (λ p. (loot_list self.new ≡ loot_list self.old ++ p ∷ []) × IsFirst (loot_list self.old) p) }
         ensures same { SameThief self.old self.new }
     {

@@ -1,7 +1,7 @@
 //! The workers, each with a lane and with ways into the lanes of the others.
 
-ghost use Rattle.std.specs.Prelude.{◌≡◌, ◌≤◌, ◌<◌, length};
-ghost use Rattle.fm_steal_pool.specs.Workers.{HandsOn, HasPutNothing};
+ghost use Rattle.std.specs.Prelude.{◌≡◌, ◌≤◌, ◌<◌, length, IfNone};
+ghost use Rattle.fm_steal_pool.specs.Workers.{HandsOn, HasPutNothing, IsBare, SameElsewhere, WasEmptyAt, WereEmpty};
 
 use fm_base::NoMemory;
 use fm_steal::{Lane, Thief, lane};
@@ -25,10 +25,12 @@ pub struct Worker<P> {
 }
 
 impl<P> Worker<P> {
-    /// The first piece of its own lane, if it has one.
+    /// The first piece of its own lane. None comes only where all that had been put there had been taken.
     pub fn first(&mut self) -> Option<P>
         ensures hands { HandsOn self.old self.new result }
         ensures same { HasPutNothing self.old self.new }
+        ensures others { self.new.others ≡ self.old.others }
+        ensures bare { IfNone result (IsBare self.old) }
     {
         match self.lane.pop() {
             Some((_, piece)) => Some(piece),
@@ -36,10 +38,12 @@ impl<P> Worker<P> {
         }
     }
 
-    /// The first piece of its own lane, or else of another worker's.
+    /// The first piece of its own lane, or else of another worker's. None comes only where all of these were empty.
     pub fn reach<R: Wait>(&mut self, rt: &R) -> Option<P>
         ensures hands { HandsOn self.old self.new result }
         ensures same { HasPutNothing self.old self.new }
+        ensures bare { IfNone result (IsBare self.old) }
+        ensures empty { IfNone result (WereEmpty self.old.others.items) }
     {
         match self.first() {
             Some(piece) => Some(piece),
@@ -47,10 +51,11 @@ impl<P> Worker<P> {
         }
     }
 
-    /// The first piece of another worker's lane, if one has a piece. It tries each.
+    /// The first piece of another worker's lane. It tries each: none comes only where each of these was empty.
     pub fn steal<R: Wait>(&mut self, rt: &R) -> Option<P>
         ensures hands { HandsOn self.old self.new result }
         ensures same { HasPutNothing self.old self.new }
+        ensures empty { IfNone result (WereEmpty self.old.others.items) }
     {
         'others: for place in 0..self.others.len() {
             match self.steal_at(rt, place) {
@@ -66,6 +71,8 @@ impl<P> Worker<P> {
         requires { place < length self.old.others.items }
         ensures hands { HandsOn self.old self.new result }
         ensures same { HasPutNothing self.old self.new }
+        ensures others { SameElsewhere place self.old.others.items self.new.others.items }
+        ensures empty { IfNone result (WasEmptyAt place self.old.others.items) }
     {
         match self.others[place].steal(rt) {
             Some((_, piece)) => Some(piece),

@@ -2,7 +2,7 @@
 
 ghost use Rattle.std.specs.Prelude.{None};
 ghost use Rattle.fm_pool.specs.Desks.{IsNextAt};
-ghost use Rattle.fm_steal_pool.specs.Workers.{Hands, HandsOn, IsFilled, IsSameWorker, hand_of};
+ghost use Rattle.fm_steal_pool.specs.Workers.{Hands, HandsOn, IsFilled, IsNextPiece, IsSameWorker, IsServed, IsTurn, hand_of};
 
 use crate::crew::Worker;
 use fm_pool::{Desk, Next, Room};
@@ -26,7 +26,7 @@ fn fill<T: SharedTable>(
     ensures hands { HandsOn worker.old worker.new None }
     ensures same { IsSameWorker worker.old worker.new }
 {
-    'pieces: for _ in 0..MOST_AT_ONCE {
+    'pieces: for _taken in 0..MOST_AT_ONCE {
         match desk.next(alloc, worker.number, light) {
             Next::Runs(piece) => match worker.lane.put(piece) {
                 Ok(_) => {}
@@ -49,6 +49,8 @@ fn found<T: SharedTable, R: Wait>(
     desk: &mut Desk<T>,
     light: bool,
 ) -> Next<T::Piece>
+    ensures turn { IsTurn (IsNextAt T.take_does T.turn_does T.phase_tells light)
+        worker.old worker.new result desk.old desk.new }
     ensures hands { Hands worker.old worker.new (hand_of result) }
     ensures same { IsSameWorker worker.old worker.new }
 {
@@ -78,7 +80,9 @@ fn next<T: SharedTable, R: Wait>(
     worker: &mut Worker<T::Piece>,
     light: bool,
 ) -> Option<T::Piece>
-    ensures { Hands worker.old worker.new result }
+    ensures next { IsNextPiece (IsNextAt T.take_does T.turn_does T.phase_tells light)
+        worker.old worker.new result }
+    ensures hands { Hands worker.old worker.new result }
 {
     match worker.reach(rt) {
         Some(piece) => Some(piece),
@@ -95,7 +99,9 @@ fn next_at<'b, T: SharedTable, R: Wait>(
     worker: &mut Worker<T::Piece>,
     light: bool,
 ) -> Option<T::Piece>
-    ensures { Hands worker.old worker.new result }
+    ensures served { IsServed (IsNextAt T.take_does T.turn_does T.phase_tells light)
+        worker.old worker.new result }
+    ensures hands { Hands worker.old worker.new result }
 {
     let mut desk = room.come_in(rt);
     'turns: for _ in rt.forever() {

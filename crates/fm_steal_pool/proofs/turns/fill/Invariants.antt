@@ -1,8 +1,8 @@
-use Rattle.std.proofs.Common.{◌≡◌, ◌++◌, List, None}
+use Rattle.std.proofs.Common.{◌≡◌, ◌++◌, List, None, length}
 use Rattle.fm_pool.specs.Desks.{IsNextAt}
 use Rattle.fm_pool.specs.declared.desk.Next.{Next}
 use Rattle.fm_steal.specs.Lanes.{put_list}
-use Rattle.fm_steal_pool.specs.Workers.{AreAnswers, HandsOn, IsSameWorker, given_out}
+use Rattle.fm_steal_pool.specs.Workers.{AreAnswers, ArePieces, HandsOn, IsSameWorker, given_out}
 use Rattle.fm_steal_pool.proofs.turns.fill.Given as goal
 
 abbrev pub invariant-pieces : goal.invariant-pieces
@@ -12,3 +12,5 @@ invariant-pieces g l =
     × (put_list l.worker.lane ≡ put_list l.fn.worker.lane ++ given_out answers)
     × HandsOn l.fn.worker l.worker None
     × IsSameWorker l.fn.worker l.worker
+    × ArePieces answers
+    × (length answers ≡ l._taken)

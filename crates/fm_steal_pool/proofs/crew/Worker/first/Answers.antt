@@ -13,3 +13,6 @@ pub returns-in-None-clause-hands : goal.returns-in-None-clause-hands
 returns-in-None-clause-hands g c = λ h.
     let same : weight h (got_list c.pop.new.self) ≡ weight h (got_list c.args.self.now.lane) = ap (weight h) c.in-None.ensures.taken.0 in
     omega (arith, same)
+
+pub returns-in-None-clause-bare : goal.returns-in-None-clause-bare
+returns-in-None-clause-bare g c = c.in-None.ensures.taken.1
